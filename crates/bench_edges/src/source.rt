@@ -1,0 +1,164 @@
+//! Where bytes come from.
+ghost use Rattle.std.specs.Prelude.{◌≡◌, ◌+◌, ◌<◌, ◌≤◌, ◌++◌, ◌↔◌, ℕ, List, Option, length, take, IfErr, IfOk, IfSome, IsErrOf, OnOk, OnErr, Some};
+ghost use Rattle.std.specs.Io.KnownBytes.{Consumes, IsAtEnd, Keeps};
+ghost use Rattle.bench_edges.specs.Faults.{CountsFaults};
+ghost use Rattle.bench_edges.specs.KnownBytes.{ConsumesAtMost, ConsumesJust};
+ghost use Rattle.bench_edges.specs.Reading.{IsRefusedFor, IsStopped};
+
+use std::alloc::{AllocError, Global};
+use thiserror::Error;
+
+/// The source failed, and counted a fault.
+#[derive(Clone, Copy, Debug, PartialEq, Eq, Error)]
+#[error("the source failed")]
+pub struct SourceFault;
+
+/// Gives bytes, in order, each once.
+pub trait Source {
+    /// The bytes still to come, where the source tells them. One that told them goes on telling.
+    ghost left: { Self → Option (List ℕ) };
+
+    /// How often the source has failed, up to the last value of a `u64`. The count never falls.
+    ghost faults: { Self → ℕ };
+
+    /// Moves the first bytes that are left into the front of `into`, and answers how many: at least
+    /// one, unless none is left. What stands in `into` behind them is not said. Answers `SourceFault`
+    /// where the source failed; then it has what it had.
+    fn read(&mut self, into: &mut [u8]) -> Result<usize, SourceFault>
+        requires { 0 < length into.old }
+        ensures bound { IfOk result (λ count. count ≤ length into.old) }
+        ensures moved { IfOk result (λ count.
+            Consumes (left self.old) (left self.new) (take count into.new)) }
+        // None moved only where none is left. The converse follows by `moved`.
+        ensures end { IfOk result (λ count. count ≡ 0 → IsAtEnd (left self.new)) }
+        ensures kept { OnErr result (Keeps (left self.old) (left self.new)) }
+        ensures faults { CountsFaults (faults self.old) (faults self.new) result };
+}
+
+/// Why a source was not read to its end.
+#[derive(Debug, Drop, Error)]
+pub enum ReadRefusal {
+    #[error("the source is longer than its limit")]
+    TooLong,
+    #[error(transparent)]
+    Fault(#[from] SourceFault),
+    #[error(transparent)]
+    Memory(#[from] AllocError),
+}
+
+// How many bytes are asked of a source at once, at most.
+const CHUNK: usize = 4096;
+
+// Reads once, at most so many bytes, and puts what came behind `bytes`. Answers how many came.
+fn read_more<S: Source>(
+    source: &mut S,
+    bytes: &mut Vec<u8>,
+    most: usize,
+) -> Result<usize, ReadRefusal>
+    requires { 0 < most }
+    ensures bound { IfOk result (λ count. count ≤ most) }
+    ensures len { IfOk result (λ count. length bytes.new.items ≡ length bytes.old.items + count) }
+    ensures end { IfOk result (λ count. count ≡ 0 → IsAtEnd (S.left source.new)) }
+    ensures moved { OnOk result ((front : List ℕ) × (bytes.new.items ≡ bytes.old.items ++ front)
+        × Consumes (S.left source.old) (S.left source.new) front) }
+    ensures ok { OnOk result (S.faults source.new ≡ S.faults source.old) }
+    ensures lost { OnErr result (ConsumesAtMost most (S.left source.old) (S.left source.new)) }
+    ensures cause { IfErr result (IsStopped (S.faults source.old) (S.faults source.new)) }
+    ensures later { S.faults source.old ≤ S.faults source.new }
+{
+    let mut chunk = [0; CHUNK];
+    let asked = most.min(CHUNK);
+    let count = source
+        .read(&mut chunk[..asked])
+        .map_err(ReadRefusal::Fault)?;
+    bytes
+        .extend_from_slice(&chunk[..count])
+        .map_err(ReadRefusal::Memory)?;
+    Ok(count)
+}
+
+/// Reads all that is left, unless that is more than `limit` bytes. Answers `TooLong` there, with one
+/// byte more than the limit read; `Fault` where the source failed; `Memory` where none was left.
+/// After a refusal the bytes that were read are gone from the source.
+pub fn read_to_limit<S: Source>(
+    alloc: Global,
+    source: &mut S,
+    limit: usize,
+) -> Result<Vec<u8>, ReadRefusal>
+    ensures bytes { IfOk result (λ bytes. IfSome (S.left source.old) (λ left. bytes.items ≡ left)) }
+    ensures end { OnOk result (IsAtEnd (S.left source.new)) }
+    ensures fits { IfOk result (λ bytes. length bytes.items ≤ limit) }
+    ensures ok { OnOk result (S.faults source.new ≡ S.faults source.old) }
+
+    // What was read: at most one byte past the limit, and just that byte where the source is too long.
+    ensures past { IsErrOf result ReadRefusal.TooLong → ConsumesJust (limit + 1) (S.left source.old) (S.left source.new) }
+    ensures front { OnErr result (ConsumesAtMost (limit + 1) (S.left source.old) (S.left source.new)) }
+    ensures cause { IfErr result
+        (IsRefusedFor limit (S.left source.old) (S.faults source.old) (S.faults source.new)) }
+    ensures later { S.faults source.old ≤ S.faults source.new }
+{
+    let mut bytes = Vec::new(alloc);
+    while bytes.len() <= limit {
+        let most = (limit - bytes.len()).min(CHUNK - 1) + 1;
+        if read_more(source, &mut bytes, most)? == 0 {
+            return Ok(bytes);
+        }
+    }
+    Err(ReadRefusal::TooLong)
+}
+
+#[cfg(test)]
+mod tests {
+    use super::*;
+    use crate::MemorySource;
+    use std::test::Fail;
+
+    fn sevens(alloc: Global, count: usize) -> Result<Vec<u8>, AllocError> {
+        vec![in alloc; 7; count]
+    }
+
+    #[test]
+    fn reads_to_the_end(rt: HostRuntime) -> Result<(), Fail> {
+        let bytes = sevens(rt.alloc(), 10_000)?;
+        for most in [1000, CHUNK, 20_000] {
+            let mut source = MemorySource::new(rt.alloc(), bytes.clone()?).at_most(most);
+            let read = read_to_limit(rt.alloc(), &mut source, 10_000)?;
+            assert_eq!(rt; read.as_slice(), bytes.as_slice(), "{most} a read");
+            assert_eq!(rt; source.left().len(), 0);
+            assert_eq!(rt; source.faults(), 0);
+        }
+        Ok(())
+    }
+
+    #[test]
+    fn stops_one_byte_past_the_limit(rt: HostRuntime) -> Result<(), Fail> {
+        let bytes = b"abcdef".to_vec(rt.alloc())?;
+        for limit in 0..6 {
+            let mut source = MemorySource::new(rt.alloc(), bytes.clone()?);
+            let read = read_to_limit(rt.alloc(), &mut source, limit);
+            assert!(rt; matches!(&read, Err(ReadRefusal::TooLong)), "{limit}");
+            assert_eq!(rt; source.left(), &bytes[limit + 1..]);
+        }
+        Ok(())
+    }
+
+    #[test]
+    fn a_fault_in_mid_stream_is_answered(rt: HostRuntime) -> Result<(), Fail> {
+        let bytes = b"abcdef".to_vec(rt.alloc())?;
+        let failing = [2].to_vec(rt.alloc())?;
+        let mut source = MemorySource::new(rt.alloc(), bytes)
+            .at_most(2)
+            .failing_at(failing);
+        let read = read_to_limit(rt.alloc(), &mut source, 6);
+        assert!(rt; matches!(&read, Err(ReadRefusal::Fault(_))));
+        assert_eq!(rt; source.left(), b"ef".as_slice());
+        assert_eq!(rt; source.faults(), 1);
+
+        // The source goes on where it stood.
+        let rest = read_to_limit(rt.alloc(), &mut source, 2)?;
+        assert_eq!(rt; rest.as_slice(), b"ef".as_slice());
+        assert_eq!(rt; source.faults(), 1);
+        assert_eq!(rt; source.calls(), 5);
+        Ok(())
+    }
+}

@@ -1,0 +1,58 @@
+//! How a run ends.
+ghost use Rattle.std.specs.Prelude.{◌≡◌};
+ghost use Rattle.bench_edges.specs.Status.{number_of};
+
+/// How a run ends.
+#[derive(Clone, Copy, Debug, PartialEq, Eq, PartialOrd, Ord, Hash)]
+pub enum Status {
+    /// All that was asked is written.
+    Done,
+    /// All is written, and a root has no value yet.
+    Unsolved,
+    /// The words are not in the grammar.
+    Words,
+    /// The input is not what the command reads.
+    Input,
+    /// The disk failed.
+    Disk,
+    /// The journal is none, of other tables, or damaged.
+    Journal,
+    /// Memory ran out.
+    Memory,
+    /// The source failed.
+    Read,
+    /// The sink failed while the output was written.
+    Write,
+}
+
+impl Status {
+    /// The exit status of the program: 0 to 8, in the order of the variants.
+    pub fn number(self) -> u8
+        ensures { result ≡ number_of self }
+    {
+        self as u8
+    }
+}
+
+#[cfg(test)]
+mod tests {
+    use super::*;
+
+    #[test]
+    fn numbers_are_the_exit_statuses(rt: HostRuntime) {
+        let statuses = [
+            (Status::Done, 0),
+            (Status::Unsolved, 1),
+            (Status::Words, 2),
+            (Status::Input, 3),
+            (Status::Disk, 4),
+            (Status::Journal, 5),
+            (Status::Memory, 6),
+            (Status::Read, 7),
+            (Status::Write, 8),
+        ];
+        for (status, number) in statuses {
+            assert_eq!(rt; status.number(), number, "{status:?}");
+        }
+    }
+}

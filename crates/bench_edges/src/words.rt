@@ -1,0 +1,153 @@
+//! The words that the program is called with.
+ghost use Rattle.std.specs.Prelude.{◌≡◌, ◌≢◌, ◌<◌, ◌≤◌, ◌+◌, ◌^◌, [], ◌∷◌, List, ℕ, IfNone, IfOk, IfErr, IfSome, Ok, Err, OnOk, OnErr, length, take, slice_index_or, decimal, codes};
+ghost use Rattle.bench_edges.specs.Words.{IsRefusedAt, Says, texts};
+
+use thiserror::Error;
+
+/// What the program is to do.
+#[derive(Clone, Copy, Debug, PartialEq, Eq)]
+pub enum Command {
+    /// Solve the openings of the source.
+    Solve(Options),
+}
+
+/// The options of `solve`.
+#[derive(Clone, Copy, Debug, PartialEq, Eq)]
+pub struct Options {
+    /// How many plies a search looks ahead, 0 to 12.
+    pub depth: u8,
+}
+
+/// The words are not in the grammar.
+#[derive(Clone, Copy, Debug, PartialEq, Eq, Error)]
+#[error("the words are refused at {at}")]
+pub struct WordsRefusal {
+    /// The place, from 0, of the first word that cannot stand there, or the number of words where one
+    /// is missing.
+    pub at: usize,
+}
+
+const DEFAULT_DEPTH: u8 = 4;
+
+const MAX_DEPTH: u32 = 12;
+
+// The number that a word is in decimal digits, without sign and without leading zeros.
+fn number(word: &str) -> Option<u32>
+    ensures digits { IfSome result (λ n. word.now ≡ decimal n) }
+    ensures other { IfNone result ((n : ℕ) → n < 2 ^ 32 → word.now ≢ decimal n) }
+{
+    let bytes = word.as_bytes();
+    if bytes.is_empty() || bytes[0] == b'+' {
+        return None;
+    }
+    if bytes[0] == b'0' && bytes.len() > 1 {
+        return None;
+    }
+    word.parse().ok()
+}
+
+// The number at a place, which is at most `most`.
+fn number_at(words: &[&str], at: usize, most: u32) -> Result<u32, WordsRefusal>
+    ensures within { OnOk result (at < length words.now) }
+    ensures most { IfOk result (λ n. n ≤ most) }
+    ensures word { IfOk result (λ n. slice_index_or (texts words.now) at [] ≡ decimal n) }
+    ensures place { IfErr result (λ refusal. refusal.at ≡ at) }
+    ensures other { OnErr result (at < length words.now → (n : ℕ) → n ≤ most →
+        slice_index_or (texts words.now) at [] ≢ decimal n) }
+{
+    if at >= words.len() {
+        return Err(WordsRefusal { at });
+    }
+    match number(words[at]) {
+        Some(n) if n <= most => Ok(n),
+        _ => Err(WordsRefusal { at }),
+    }
+}
+
+// Reads the options of `solve`, which stand behind the first two words.
+fn read_solve(words: &[&str]) -> Result<Command, WordsRefusal>
+    requires { (path : List ℕ) × (path ≢ [])
+        × (take 2 (texts words.now) ≡ path ∷ codes "solve" ∷ []) }
+    ensures command { IfOk result (λ command. Says (texts words.now) command) }
+    ensures refused { IfErr result (λ refusal. IsRefusedAt (texts words.now) refusal.at) }
+{
+    let mut depth = None;
+    let mut at = 2;
+    while at < words.len() {
+        if words[at] != "--depth" || depth.is_some() {
+            return Err(WordsRefusal { at });
+        }
+        depth = Some(number_at(words, at + 1, MAX_DEPTH)? as u8);
+        at += 2;
+    }
+    Ok(Command::Solve(Options {
+        depth: depth.unwrap_or(DEFAULT_DEPTH),
+    }))
+}
+
+/// Reads the words, without the program's name: a path, `solve`, and its options in any order, each at
+/// most once, with its number in the next word. `--depth` takes 0 to 12, and is 4 where it is not given.
+///
+/// Refuses words that are not in this grammar at the first that cannot stand where it stands (places
+/// count from 0), or at their number where one is missing.
+pub fn read_words(words: &[&str]) -> Result<Command, WordsRefusal>
+    ensures command { IfOk result (λ command. Says (texts words.now) command) }
+    ensures each_command { (command : Command) → Says (texts words.now) command →
+        result ≡ Ok command }
+    ensures refused { IfErr result (λ refusal. IsRefusedAt (texts words.now) refusal.at) }
+    ensures each_refusal { (at : ℕ) → IsRefusedAt (texts words.now) at →
+        result ≡ Err (record { at = at }) }
+{
+    if words.is_empty() || words[0].is_empty() {
+        return Err(WordsRefusal { at: 0 });
+    }
+    if words.len() == 1 || words[1] != "solve" {
+        return Err(WordsRefusal { at: 1 });
+    }
+    read_solve(words)
+}
+
+#[cfg(test)]
+mod tests {
+    use super::*;
+    use std::process::Abort;
+
+    fn expect_depth(rt: &impl Abort, words: &[&str], depth: u8) {
+        let solve = Command::Solve(Options { depth });
+        assert_eq!(rt; read_words(words), Ok(solve), "{words:?}");
+    }
+
+    fn expect_refused(rt: &impl Abort, words: &[&str], at: usize) {
+        assert_eq!(rt; read_words(words), Err(WordsRefusal { at }), "{words:?}");
+    }
+
+    #[test]
+    fn reads_solve(rt: HostRuntime) {
+        expect_depth(&rt, &["-", "solve"], 4);
+        expect_depth(&rt, &["-", "solve", "--depth", "0"], 0);
+        expect_depth(&rt, &["a journal", "solve", "--depth", "12"], 12);
+        expect_depth(&rt, &["--depth", "solve", "--depth", "1"], 1);
+    }
+
+    #[test]
+    fn refuses_the_first_word_that_cannot_stand(rt: HostRuntime) {
+        expect_refused(&rt, &["", "solve"], 0);
+        expect_refused(&rt, &["-", "Solve"], 1);
+        expect_refused(&rt, &["-", "report"], 1);
+        expect_refused(&rt, &["-", "solve", "depth", "1"], 2);
+        expect_refused(&rt, &["-", "solve", "--depth=1"], 2);
+        expect_refused(&rt, &["-", "solve", "--depth", "13"], 3);
+        for number in ["", "-1", "+1", "01", "00", "1 ", "0x1", "１", "4294967297"] {
+            expect_refused(&rt, &["-", "solve", "--depth", number], 3);
+        }
+        expect_refused(&rt, &["-", "solve", "--depth", "1", "2"], 4);
+        expect_refused(&rt, &["-", "solve", "--depth", "1", "--depth", "1"], 4);
+    }
+
+    #[test]
+    fn names_the_number_of_words_where_one_is_missing(rt: HostRuntime) {
+        expect_refused(&rt, &[], 0);
+        expect_refused(&rt, &["-"], 1);
+        expect_refused(&rt, &["-", "solve", "--depth"], 3);
+    }
+}

@@ -1,0 +1,13 @@
+pub mod Allowed
+pub mod Turned
+pub mod Members
+pub mod PathLemmas
+pub mod Growth
+pub mod Legal
+pub mod After
+pub mod Successors
+pub mod Truth
+pub mod TurnedGeometry
+pub mod TurnedMoves
+pub mod TurnedWins
+pub mod Decided

@@ -1,0 +1,10 @@
+pub mod Geometry
+pub mod Board
+pub mod Path
+pub mod Same
+pub mod Rules
+pub mod Play
+pub mod Game
+pub mod Draughts
+pub mod Laws
+pub mod Examples

@@ -1,0 +1,22 @@
+//! The board of English draughts: squares, pieces, positions and moves; and, in `specs/`, the rules of play and
+//! who wins, which every other crate is proved against.
+//!
+//! A contract sees a square as its number from 1 to 32, a position as its 32 cells and the side to move
+//! (a `Board`), and a move as its path, a list of squares. Each position keeps the rule on pieces: at most 12
+//! a side, and no man on its farthest row.
+#![tactic(auto)]
+
+mod cells;
+pub mod examples;
+pub mod laws;
+mod paths;
+mod pieces;
+mod positions;
+mod squares;
+#[cfg(test)]
+mod tests;
+
+pub use paths::Move;
+pub use pieces::{Cell, Side, Value};
+pub use positions::{PlaceRefusal, Position};
+pub use squares::Square;

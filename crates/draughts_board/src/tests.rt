@@ -1,0 +1,105 @@
+//! Each public call once, with values read off a board of English draughts.
+use crate::{Cell, Move, PlaceRefusal, Position, Side, Square};
+use std::test::Fail;
+
+#[test]
+fn squares_lie_where_the_board_has_them(rt: HostRuntime) -> Result<(), Fail> {
+    assert!(rt; Square::new(0).is_none());
+    assert!(rt; Square::new(33).is_none());
+    // number, row, column
+    for (number, row, column) in [
+        (1, 0, 1),
+        (4, 0, 7),
+        (5, 1, 0),
+        (18, 4, 3),
+        (29, 7, 0),
+        (32, 7, 6),
+    ] {
+        let Some(square) = Square::new(number) else {
+            assert!(rt; false, "square {number}");
+            return Ok(());
+        };
+        assert_eq!(rt; square.number(), number);
+        assert_eq!(rt; square.row(), row, "row of {number}");
+        assert_eq!(rt; square.column(), column, "column of {number}");
+    }
+    let fifteen = Square::new(15).unwrap();
+    let eighteen = Square::new(18).unwrap();
+    let twenty_two = Square::new(22).unwrap();
+    assert!(rt; fifteen.is_near(eighteen));
+    assert!(rt; !fifteen.is_near(twenty_two));
+    assert!(rt; fifteen.is_jump_apart(twenty_two));
+    assert_eq!(rt; fifteen.between(twenty_two), eighteen);
+    assert_eq!(rt; Square::all()[31].number(), 32);
+    Ok(())
+}
+
+#[test]
+fn pieces_have_an_owner(rt: HostRuntime) -> Result<(), Fail> {
+    assert_eq!(rt; Side::Black.other(), Side::White);
+    assert!(rt; Cell::Empty.is_empty());
+    assert!(rt; !Cell::King(Side::White).is_empty());
+    assert!(rt; Cell::Man(Side::Black).belongs_to(Side::Black));
+    assert!(rt; !Cell::King(Side::White).belongs_to(Side::Black));
+    assert_eq!(rt; Cell::Man(Side::White).turned(), Cell::Man(Side::Black));
+    Ok(())
+}
+
+#[test]
+fn a_game_starts_with_twelve_men_a_side(rt: HostRuntime) -> Result<(), Fail> {
+    let start = Position::start();
+    assert_eq!(rt; start.to_move(), Side::Black);
+    assert_eq!(rt; start.count(Side::Black), 12);
+    assert_eq!(rt; start.count(Side::White), 12);
+    for square in &Square::all() {
+        let wanted = match square.number() {
+            1..=12 => Cell::Man(Side::Black),
+            21..=32 => Cell::Man(Side::White),
+            _ => Cell::Empty,
+        };
+        assert_eq!(rt; start.at(*square), wanted);
+    }
+    // Turned it is the start with White to move; turned again, the start.
+    assert_eq!(rt; start.turned().to_move(), Side::White);
+    assert_eq!(rt;
+        start.turned().at(Square::new(12).unwrap()),
+        Cell::Man(Side::Black)
+    );
+    assert!(rt; start.turned() != start);
+    assert!(rt; start.turned().turned() == start);
+    Ok(())
+}
+
+#[test]
+fn thirteen_pieces_and_misplaced_men_are_refused(rt: HostRuntime) -> Result<(), Fail> {
+    let mut cells = [Cell::Empty; 32];
+    cells[0] = Cell::King(Side::White);
+    assert!(rt; Position::place(cells, Side::White).is_ok());
+    // A Black man on 29 stands on its farthest row, and so does a White one on 4, which is the lesser square.
+    cells[28] = Cell::Man(Side::Black);
+    let on_29 = PlaceRefusal::ManOnLastRow(Square::new(29).unwrap());
+    assert!(rt; Position::place(cells, Side::Black) == Err(on_29));
+    cells[3] = Cell::Man(Side::White);
+    let on_4 = PlaceRefusal::ManOnLastRow(Square::new(4).unwrap());
+    assert!(rt; Position::place(cells, Side::Black) == Err(on_4));
+    let crowded = [Cell::King(Side::White); 32];
+    assert!(rt; Position::place(crowded, Side::Black) == Err(PlaceRefusal::TooMany(Side::White)));
+    Ok(())
+}
+
+#[test]
+fn moves_keep_their_path(rt: HostRuntime) -> Result<(), Fail> {
+    let eleven = Square::new(11).unwrap();
+    let fifteen = Square::new(15).unwrap();
+    let sixteen = Square::new(16).unwrap();
+    assert!(rt; Move::of(&[eleven]).is_none());
+    assert!(rt; Move::of(&[eleven; 14]).is_none());
+    assert!(rt; Move::of(&[eleven; 13]).is_some());
+    let left = Move::of(&[eleven, fifteen]).unwrap();
+    let right = Move::of(&[eleven, sixteen]).unwrap();
+    assert_eq!(rt; left.path().len(), 2);
+    assert_eq!(rt; left.path()[1], fifteen);
+    assert!(rt; left < right);
+    assert!(rt; left == Move::of(&[eleven, fifteen]).unwrap());
+    Ok(())
+}

@@ -1,0 +1,9 @@
+pub mod Negations
+pub mod Turns
+pub mod FirstPlaces
+pub mod Filters
+pub mod TableRules
+pub mod OwnSquares
+pub mod NoCapture
+pub mod LegalTests
+pub mod Written

@@ -1,0 +1,7 @@
+use Rattle.std.proofs.Common.{◌<◌, length, sym, subst, List, ℕ}
+use Rattle.draughts_rules.proofs.OwnSquares.{own-room}
+use Rattle.draughts_rules.proofs.pieces.own_squares.Goals as goal
+
+pub push-requires : goal.push-requires
+push-requires c =
+    subst (λ (l : List ℕ). length l < 13) (sym c.loop-square.invariant) (own-room c.args.p.now c.all-all.result c.loop-square.square-index c.requires c.all-all.ensures)

@@ -1,0 +1,64 @@
+//! Whose piece it is, and how it goes.
+ghost use Rattle.std.specs.Prelude.{◌≡◌, filter};
+ghost use Rattle.draughts_board.specs.Geometry.{squares};
+ghost use Rattle.draughts_board.specs.Board.{IsLawful};
+ghost use Rattle.draughts_board.specs.Rules.{is_own, may_go, is_crowned_on, at_rest};
+
+use crate::square_list::SquareList;
+use draughts_board::{Cell, Position, Side, Square};
+
+/// A piece of the side to move stands on the square.
+pub(crate) fn is_own(p: &Position, square: Square) -> bool
+    ensures { result ≡ is_own p.now square }
+{
+    let _number = square.number();
+    p.at(square).belongs_to(p.to_move())
+}
+
+/// The squares of the side to move, in rising order.
+pub(crate) fn own_squares(p: &Position) -> SquareList
+    requires { IsLawful p.now }
+    ensures { result ≡ filter (is_own p.now) squares }
+{
+    let all = Square::all();
+    let mut own = SquareList::empty(all[0]);
+    for square in &all {
+        if is_own(p, *square) {
+            own.push(*square);
+        }
+    }
+    own
+}
+
+/// The piece may go from one square towards the other: a man forward only, a king either way.
+pub(crate) fn may_go(piece: Cell, from: Square, to: Square) -> bool
+    ensures { result ≡ may_go piece from to }
+{
+    match piece {
+        Cell::Empty => false,
+        Cell::Man(Side::Black) => from.row() < to.row(),
+        Cell::Man(Side::White) => to.row() < from.row(),
+        Cell::King(_) => true,
+    }
+}
+
+/// The piece is a man, and the square lies in its farthest row.
+pub(crate) fn is_crowned_on(piece: Cell, square: Square) -> bool
+    ensures { result ≡ is_crowned_on piece square }
+{
+    match piece {
+        Cell::Man(Side::Black) => square.row() == 7,
+        Cell::Man(Side::White) => square.row() == 0,
+        _ => false,
+    }
+}
+
+/// What the piece is once its move has ended on the square: a man on its farthest row is a king.
+pub(crate) fn at_rest(piece: Cell, square: Square) -> Cell
+    ensures { result ≡ at_rest piece square }
+{
+    match piece {
+        Cell::Man(side) if is_crowned_on(piece, square) => Cell::King(side),
+        _ => piece,
+    }
+}

@@ -1,0 +1,68 @@
+//! Steps.
+ghost use Rattle.std.specs.Prelude.{◌≡◌, ◌++◌, ◌∷◌, [], filter, OnOk, IfOk, if◌then◌else◌};
+ghost use Rattle.draughts_board.specs.Geometry.{squares};
+ghost use Rattle.draughts_board.specs.Rules.{is_own, is_step};
+ghost use Rattle.draughts_board.specs.Play.{steps, steps_from};
+ghost use Rattle.draughts_rules.specs.Tests.{is_open_step};
+
+use crate::pieces::may_go;
+use crate::tables::neighbours;
+use draughts_board::{Move, Position, Square};
+use std::alloc::{AllocError, Global};
+
+/// The piece on the one square may step to that of the number, which is near it; never where the number is that of no
+/// square.
+fn is_open_step(p: &Position, from: Square, number: u8) -> bool
+    ensures { result ≡ is_open_step p.now from number }
+{
+    let Some(to) = Square::new(number) else {
+        return false;
+    };
+    p.at(to).is_empty() && may_go(p.at(from), from, to)
+}
+
+/// The piece on the one square may step to the other.
+pub(crate) fn is_step(p: &Position, from: Square, to: Square) -> bool
+    ensures { result ≡ is_step p.now from to }
+{
+    from.is_near(to) && is_open_step(p, from, to.number())
+}
+
+/// Adds the step to the square of the number, which is near the first, if the piece may make it.
+fn add_step(p: &Position, from: Square, number: u8, found: &mut Vec<Move>) -> Result<(), AllocError>
+    ensures { OnOk result
+        (found.new.items
+        ≡ found.old.items ++ (if is_open_step p.now from number then (from ∷ number ∷ []) ∷ [] else [])) }
+{
+    if let Some(to) = Square::new(number)
+        && is_open_step(p, from, number)
+    {
+        let step = Move::of(&[from, to]).unwrap();
+        found.push(step)?;
+    }
+    Ok(())
+}
+
+/// Adds the steps of the piece on the square, in rising order.
+fn add_steps(p: &Position, from: Square, found: &mut Vec<Move>) -> Result<(), AllocError>
+    ensures { OnOk result (found.new.items ≡ found.old.items ++ steps_from p.now from) }
+{
+    let near = neighbours(from);
+    for number in &near {
+        add_step(p, from, *number, found)?;
+    }
+    Ok(())
+}
+
+/// The steps, in rising order, of the pieces on these squares, which are the mover's; whether or not a jump forbids
+/// them.
+pub(crate) fn steps(alloc: Global, p: &Position, own: &[Square]) -> Result<Vec<Move>, AllocError>
+    requires { own.now ≡ filter (is_own p.now) squares }
+    ensures { IfOk result (λ v. v.items ≡ steps p.now) }
+{
+    let mut found = Vec::new(alloc);
+    for from in own {
+        add_steps(p, *from, &mut found)?;
+    }
+    Ok(found)
+}

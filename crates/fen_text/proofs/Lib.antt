@@ -1,0 +1,13 @@
+pub mod Naming
+pub mod Items
+pub mod Lists
+pub mod Parts
+pub mod Again
+pub mod Wrong
+pub mod Read
+pub mod ReadList
+pub mod ReadForm
+pub mod Verdict
+pub mod RoundTrip
+pub mod Answers
+pub mod Plain

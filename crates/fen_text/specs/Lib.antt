@@ -1,0 +1,9 @@
+pub mod Grammar
+pub mod Spelled
+pub mod Printed
+pub mod Faults
+pub mod Laws
+pub mod Reading
+pub mod Setup
+pub mod Seen
+pub mod Refusal

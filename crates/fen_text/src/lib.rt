@@ -1,0 +1,27 @@
+//! FEN, the text of a position: read whole, and printed in one spelling.
+//!
+//! `B:W16,19:B12` is Black to move, with White men on 16 and 19 and a Black man on 12; `K` before a square stands
+//! for a king. The grammar stands in `specs/Grammar.antt`. Reading accepts every spelling in it of a position that
+//! keeps the rule on pieces, and refuses everything else with the first fault and its place; printing gives one
+//! spelling, and what was printed is read back as the same position.
+#![tactic(auto)]
+
+mod fault;
+mod group;
+mod laws;
+mod printing;
+
+mod reading;
+mod refusal;
+mod setup;
+
+
+
+pub use laws::{printed_is_plain, printed_is_spelled, printed_tells_apart, spelled_tells_apart};
+pub use printing::print_fen;
+pub use reading::read_fen;
+pub use refusal::FenRefusal;
+
+#[cfg(test)]
+mod tests;
+

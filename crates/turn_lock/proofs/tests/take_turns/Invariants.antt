@@ -1,0 +1,5 @@
+use Rattle.turn_lock.specs.Seen.{IsOutside}
+use Rattle.turn_lock.proofs.tests.take_turns.Given as goal
+
+abbrev pub invariant-loop-number : goal.invariant-loop-number
+invariant-loop-number g l = IsOutside l.lock l.pass
