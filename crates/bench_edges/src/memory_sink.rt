@@ -1,5 +1,5 @@
 //! A sink in memory.
-ghost use Rattle.std.specs.Prelude.{◌≡◌, ◌+◌, ◌-◌, ◌^◌, ◌<◌, ◌≤◌, ◌++◌, [], ℕ, Contains, IfOk, IsErr, OnErr, Some, length, min, take};
+ghost use Rattle.std.specs.Prelude.{◌≡◌, ◌<◌, ◌≤◌, ◌++◌, [], Contains, IfOk, IsErr, OnErr, Some, length, min, take};
 ghost use Rattle.std.specs.Io.KnownBytes.{Appends, Keeps};
 ghost use Rattle.bench_edges.specs.Faults.{CountsFaults, one_more};
 ghost use Rattle.bench_edges.specs.MemorySink.{Store};

@@ -1,5 +1,5 @@
 //! Where bytes come from.
-ghost use Rattle.std.specs.Prelude.{◌≡◌, ◌+◌, ◌<◌, ◌≤◌, ◌++◌, ◌↔◌, ℕ, List, Option, length, take, IfErr, IfOk, IfSome, IsErrOf, OnOk, OnErr, Some};
+ghost use Rattle.std.specs.Prelude.{◌≡◌, ◌+◌, ◌<◌, ◌≤◌, ◌++◌, ℕ, List, Option, length, take, IfErr, IfOk, IfSome, IsErrOf, OnOk, OnErr};
 ghost use Rattle.std.specs.Io.KnownBytes.{Consumes, IsAtEnd, Keeps};
 ghost use Rattle.bench_edges.specs.Faults.{CountsFaults};
 ghost use Rattle.bench_edges.specs.KnownBytes.{ConsumesAtMost, ConsumesJust};
@@ -41,9 +41,9 @@ pub enum ReadRefusal {
     #[error("the source is longer than its limit")]
     TooLong,
     #[error(transparent)]
-    Fault(#[from] SourceFault),
+    Fault(SourceFault),
     #[error(transparent)]
-    Memory(#[from] AllocError),
+    Memory(AllocError),
 }
 
 // How many bytes are asked of a source at once, at most.

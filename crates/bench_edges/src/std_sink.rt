@@ -1,5 +1,5 @@
 //! A sink over a writer of std.
-ghost use Rattle.std.specs.Prelude.{◌≡◌, ◌^◌, ◌<◌, ◌≤◌};
+ghost use Rattle.std.specs.Prelude.{◌≡◌};
 ghost use Rattle.bench_edges.specs.Counted.{Counted};
 
 use crate::sink::{Sink, SinkFault};

@@ -1,5 +1,5 @@
 //! A source over a reader of std.
-ghost use Rattle.std.specs.Prelude.{◌≡◌, ◌^◌, ◌<◌, ◌≤◌};
+ghost use Rattle.std.specs.Prelude.{◌≡◌};
 ghost use Rattle.bench_edges.specs.Counted.{Counted};
 
 use crate::source::{Source, SourceFault};

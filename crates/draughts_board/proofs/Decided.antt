@@ -1,5 +1,5 @@
 -- Where a game has finitely many positions, each of them has a value; and draughts has.
-use Rattle.std.proofs.Common.{◌≡◌, ℕ, zero, suc, ◌+◌, ◌≤◌, ◌<◌, ◌⊎◌, inl, inr, Bool, true, false, cond, ◌&&◌, ◌||◌, List, [], ◌∷◌, ◌++◌, length, map, refl, sym, ◌∙◌, ap, subst, arith}
+use Rattle.std.proofs.Common.{◌≡◌, ℕ, zero, suc, ◌+◌, ◌≤◌, ◌⊎◌, inl, inr, Bool, true, false, cond, ◌&&◌, ◌||◌, List, [], ◌∷◌, ◌++◌, length, map, refl, sym, ◌∙◌, ap, subst, arith}
 use Rattle.std.specs.Prelude.{Contains, flat_map}
 use Rattle.std.specs.List.{list_any, list_all}
 use Rattle.std.specs.Cmp.{first_so, second_so}
@@ -12,10 +12,10 @@ use Rattle.draughts_board.specs.declared.pieces.Cell.{Cell}
 use Rattle.draughts_board.specs.declared.pieces.Cell.TheVariants.{Empty, Man, King}
 use Rattle.draughts_board.specs.declared.pieces.Value.{Value}
 use Rattle.draughts_board.specs.declared.pieces.Value.TheVariants.{BlackWins, WhiteWins, Draw}
-use Rattle.draughts_board.specs.Board.{Board, IsLawful, is_lawful, other, same_side}
+use Rattle.draughts_board.specs.Board.{Board, other, same_side}
 use Rattle.draughts_board.specs.Same.{same_side-Decides}
 use Rattle.draughts_board.specs.Play.{is_nil}
-use Rattle.draughts_board.specs.Game.{Game, CanForce, by_move, by_every_reply, WinsIn, Wins, Holds, HasValue}
+use Rattle.draughts_board.specs.Game.{Game, CanForce, by_move, by_every_reply, WinsIn, Wins, HasValue}
 use Rattle.draughts_board.specs.Draughts.{draughts}
 use Rattle.draughts_board.specs.Laws.{PositionsHaveOneValue}
 use Rattle.draughts_board.proofs.Members.{Contains-nil, Contains-cons_cases, Contains-head, Contains-tail, Contains-map, Contains-flat_map, any_true, true_any}

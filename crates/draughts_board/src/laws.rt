@@ -18,8 +18,8 @@ pub fn moves_keep_positions()
     ensures turns { DraughtsTakesTurns }
 {}
 
-/// Who wins, in any game of two players: no position is won for both, each has one value, and what looking ahead
-/// shows is true.
+/// Who wins, in any game of two players: no position is won for both, two values never hold of one position, and
+/// what looking ahead shows is true.
 pub fn winning_in_any_game<P>()
     ensures { (game : Game P) → LawsOfWinning game }
 {}

@@ -3,11 +3,11 @@ use Rattle.std.proofs.Common.{◌≡◌, ℕ, ◌+◌, ◌<◌, Bool, true, fals
 use Rattle.std.proofs.lemmas.List.{take_more, map-append}
 use Rattle.std.specs.Prelude.{filter, map}
 use Rattle.std.specs.List.{list_any}
+use Rattle.std.proofs.lemmas.Bool.{cases_Bool}
 use Rattle.std.proofs.lemmas.List.Elements.{filter-append}
 use Rattle.draughts_board.specs.Board.{Board, same_board}
 use Rattle.draughts_board.specs.Same.{same_board-Decides}
 use Rattle.draughts_board.specs.Rules.{first_places}
-use Rattle.draughts_board.proofs.Members.{bool_cases}
 
 -- the boards that are not p
 others : Board → List Board → List Board
@@ -17,7 +17,7 @@ others p ps = filter (λ q. not (same_board p q)) ps
 any-others : (p q : Board) (ps : List Board) → same_board p q ≡ false → list_any (λ y. same_board y q) (others p ps) ≡ list_any (λ y. same_board y q) ps
 unfolding others
 any-others p q [] h = refl
-any-others p q (y ∷ ps) h = elim (bool_cases (same_board p y)) [
+any-others p q (y ∷ ps) h = elim (cases_Bool (same_board p y)) [
   | inl e ↦
       let same : p ≡ y = (same_board-Decides p y).0 e in
       let off : same_board y q ≡ false = ap (λ b. same_board b q) (sym same) ∙ h in
@@ -31,15 +31,15 @@ any-others p q (y ∷ ps) h = elim (bool_cases (same_board p y)) [
 
 others-one : (p q : Board) (b : Bool) → others p (cond b [] (q ∷ [])) ≡ cond (same_board p q || b) [] (q ∷ [])
 unfolding others
-others-one p q true = elim (bool_cases (same_board p q)) [ inl e ↦ ap (λ b. cond (b || true) [] (q ∷ [])) (sym e) | inr e ↦ ap (λ b. cond (b || true) [] (q ∷ [])) (sym e) ]
-others-one p q false = elim (bool_cases (same_board p q)) [
+others-one p q true = elim (cases_Bool (same_board p q)) [ inl e ↦ ap (λ b. cond (b || true) [] (q ∷ [])) (sym e) | inr e ↦ ap (λ b. cond (b || true) [] (q ∷ [])) (sym e) ]
+others-one p q false = elim (cases_Bool (same_board p q)) [
   | inl e ↦ ap (λ b. cond (not b) (q ∷ []) []) e ∙ ap (λ b. cond (b || false) [] (q ∷ [])) (sym e)
   | inr e ↦ ap (λ b. cond (not b) (q ∷ []) []) e ∙ ap (λ b. cond (b || false) [] (q ∷ [])) (sym e)
 ]
 
 -- whether the board stands there already is not changed by taking out another
 seen : (p q : Board) (ps : List Board) → (same_board p q || list_any (λ y. same_board y q) ps) ≡ (same_board p q || list_any (λ y. same_board y q) (others p ps))
-seen p q ps = elim (bool_cases (same_board p q)) [
+seen p q ps = elim (cases_Bool (same_board p q)) [
   | inl e ↦ ap (λ b. b || list_any (λ y. same_board y q) ps) e ∙ ap (λ b. b || list_any (λ y. same_board y q) (others p ps)) (sym e)
   | inr e ↦ ap (λ b. same_board p q || b) (sym (any-others p q ps e))
 ]

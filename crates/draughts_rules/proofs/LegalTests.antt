@@ -1,13 +1,12 @@
 -- The tests of legality say what the rules say.
-use Rattle.std.proofs.Common.{◌≡◌, ℕ, ◌≤◌, ◌<◌, Bool, true, false, ◌||◌, List, [], ◌∷◌, length, refl, ap, arith, ◌⊎◌, inl, inr}
+use Rattle.std.proofs.Common.{◌≡◌, ℕ, ◌≤◌, ◌<◌, Bool, true, List, [], ◌∷◌, length, refl, ap, arith, ◌⊎◌, inl, inr}
 use Rattle.std.specs.Cmp.{first_so, second_so}
 use Rattle.std.specs.Cmp.Derive.{both_true}
-use Rattle.std.proofs.lemmas.Bool.{eqb-true, eq-eqb}
+use Rattle.std.proofs.lemmas.Bool.{eqb-true, eq-eqb, not-true, not_from_false, or_cases, or_left, or_right}
 use Rattle.draughts_board.specs.Board.{Board, cell_at}
 use Rattle.draughts_board.specs.Rules.{first_square, last_square, all_following, all_but_last, jumped, are_distinct, is_crowned_on, further_jumps, has_jump, IsCapture, IsStep}
 use Rattle.draughts_board.specs.Play.{is_nil, is_done}
-use Rattle.draughts_rules.proofs.Negations.{not_true, true_not}
-use Rattle.draughts_rules.specs.Tests.{is_capture, is_lone_step}
+use Rattle.draughts_rules.specs.Conditions.{is_capture, is_lone_step}
 use Rattle.draughts_rules.proofs.NoCapture.{nil_is}
 
 -- ---- paths of less than two squares
@@ -28,18 +27,6 @@ but_last-short test (x ∷ []) h = refl
 but_last-short test (x ∷ z ∷ rest) h = absurd (omega arith)
 
 -- ---- captures
-
-or_cases : (a b : Bool) → (a || b) ≡ true → (a ≡ true) ⊎ (b ≡ true)
-or_cases true b h = inl refl
-or_cases false b h = inr h
-
-or_left : (a b : Bool) → a ≡ true → (a || b) ≡ true
-or_left true b h = refl
-or_left false b h = absurd (let e : false ≡ true = h in cc)
-
-or_right : (a b : Bool) → b ≡ true → (a || b) ≡ true
-or_right true b h = refl
-or_right false b h = h
 
 done-complete : (p : Board) (path : List ℕ) → is_done p path ≡ true → (is_crowned_on (cell_at p (first_square path)) (last_square path) ≡ true) ⊎ (further_jumps p path ≡ [])
 done-complete p path h =
@@ -68,8 +55,8 @@ step-from_test p path h = record {
   two = eqb-true (length path) 2 (first_so _ _ (first_so _ _ (first_so _ _ h)));
   own = second_so _ _ (first_so _ _ (first_so _ _ h));
   step = second_so _ _ (first_so _ _ h);
-  no_jump = not_true (has_jump p) (second_so _ _ h);
+  no_jump = not-true (has_jump p) (second_so _ _ h);
 }
 
 pub test-from_step : (p : Board) (path : List ℕ) → IsStep p path → is_lone_step p path ≡ true
-test-from_step p path s = both_true (both_true (both_true (eq-eqb (length path) 2 s.two) s.own) s.step) (true_not (has_jump p) s.no_jump)
+test-from_step p path s = both_true (both_true (both_true (eq-eqb (length path) 2 s.two) s.own) s.step) (not_from_false (has_jump p) s.no_jump)

@@ -1,4 +1,3 @@
-pub mod Negations
 pub mod Turns
 pub mod FirstPlaces
 pub mod Filters

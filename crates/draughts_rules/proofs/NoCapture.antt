@@ -3,7 +3,8 @@ use Rattle.std.proofs.Common.{◌≡◌, ◌≢◌, ℕ, zero, suc, ◌+◌, ◌
 use Rattle.std.specs.Prelude.{filter, flat_map}
 use Rattle.std.specs.List.{list_any}
 use Rattle.std.specs.Cmp.{first_so, second_so}
-use Rattle.std.proofs.lemmas.Bool.{leb-true}
+use Rattle.std.proofs.Math.Bool.{not-not}
+use Rattle.std.proofs.lemmas.Bool.{leb-true, not-true}
 use Rattle.draughts_board.specs.declared.pieces.Cell.{Cell}
 use Rattle.draughts_board.specs.declared.pieces.Cell.TheVariants.{Empty, Man, King}
 use Rattle.draughts_board.specs.Geometry.{squares}
@@ -12,7 +13,6 @@ use Rattle.draughts_board.specs.Rules.{is_own, is_jump, is_crowned_on, goes_on, 
 use Rattle.draughts_board.specs.Play.{is_nil, is_done, grown, starts, captures, steps, legal_paths}
 use Rattle.draughts_board.proofs.Allowed.{allowed_at}
 use Rattle.draughts_board.proofs.PathLemmas.{or_second}
-use Rattle.draughts_rules.proofs.Negations.{not_true}
 use Rattle.draughts_rules.proofs.Filters.{any-same, filter-filter, filter-same}
 
 -- ---- whether a list is empty
@@ -62,7 +62,7 @@ grown-some (suc n) p path = by (is_done p path) refl (λ z. grown-some n p (path
 
 uncrowned : (c : Cell) (n : ℕ) → is_allowed n c ≡ true → is_crowned_on c n ≡ false
 uncrowned Empty n h = refl
-uncrowned (Man s) n h = not_true _ h
+uncrowned (Man s) n h = not-true _ h
 uncrowned (King s) n h = refl
 
 -- a piece does not stand where it would be crowned
@@ -85,15 +85,11 @@ done-at_start p x lawful own =
     ∙ nil-filter (goes_on p (x ∷ [])) squares
     ∙ ap not (any-same (goes_on p (x ∷ [])) (is_jump p x x) squares (λ z. and_true (is_jump p x x z)))
 
-not_not : (b : Bool) → not (not b) ≡ b
-not_not true = refl
-not_not false = refl
-
 pub starts-by_jump : (p : Board) (x : ℕ) → IsLawful p → starts p x ≡ (is_own p x && list_any (is_jump p x x) squares)
 starts-by_jump p x lawful = by (is_own p x) refl
   where
     by : (b : Bool) → is_own p x ≡ b → (b && not (is_done p (x ∷ []))) ≡ (b && list_any (is_jump p x x) squares)
-    by true e = ap not (done-at_start p x lawful e) ∙ not_not _
+    by true e = ap not (done-at_start p x lawful e) ∙ not-not _
     by false e = refl
 
 -- ---- the captures
@@ -109,13 +105,13 @@ nil-captures p lawful =
 pub legal-without_capture : (p : Board) → IsLawful p → is_nil (captures p) ≡ true → legal_paths p ≡ steps p
 unfolding legal_paths
 legal-without_capture p lawful none =
-    let jump : has_jump p ≡ false = sym (not_not (has_jump p)) ∙ ap not (sym (nil-captures p lawful) ∙ none) in
+    let jump : has_jump p ≡ false = sym (not-not (has_jump p)) ∙ ap not (sym (nil-captures p lawful) ∙ none) in
     ap (λ b. cond b (captures p) (steps p)) jump
 
 pub legal-with_capture : (p : Board) → IsLawful p → is_nil (captures p) ≡ false → legal_paths p ≡ captures p
 unfolding legal_paths
 legal-with_capture p lawful some =
-    let jump : has_jump p ≡ true = sym (not_not (has_jump p)) ∙ ap not (sym (nil-captures p lawful) ∙ some) in
+    let jump : has_jump p ≡ true = sym (not-not (has_jump p)) ∙ ap not (sym (nil-captures p lawful) ∙ some) in
     ap (λ b. cond b (captures p) (steps p)) jump
 
 and_twice : (a b : Bool) → (a && (a && b)) ≡ (a && b)

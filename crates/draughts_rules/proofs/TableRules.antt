@@ -7,7 +7,7 @@ use Rattle.draughts_board.specs.Geometry.{squares, IsSquare, is_square, are_near
 use Rattle.draughts_board.specs.Board.{Board, cell_at, belongs, other, is_empty}
 use Rattle.draughts_board.specs.Rules.{may_go, is_step, is_jump, goes_on, further_jumps, first_square, last_square, contains, jumped}
 use Rattle.draughts_rules.specs.Tables.{neighbour_row, jump_row}
-use Rattle.draughts_rules.specs.Tests.{is_open_step, is_open_jump, is_open_further}
+use Rattle.draughts_rules.specs.Conditions.{is_open_step, is_open_jump, is_open_further}
 use Rattle.draughts_rules.proofs.Filters.{filter-same, any-same, filter-by_row, any-by_row}
 
 -- what a row names is what the rule names: the whole table at once

@@ -1,8 +1,8 @@
 -- One turn of a loop that adds what each element gives, if it passes a test.
-use Rattle.std.proofs.Common.{◌≡◌, ℕ, ◌+◌, ◌<◌, ◌≤◌, Bool, true, false, cond, List, [], ◌∷◌, ◌++◌, length, get_or, take, refl, sym, ◌∙◌, ap, append_assoc}
+use Rattle.std.proofs.Common.{◌≡◌, ℕ, ◌+◌, ◌<◌, Bool, true, false, cond, List, [], ◌∷◌, ◌++◌, length, get_or, take, refl, sym, ◌∙◌, ap, append_assoc}
 use Rattle.std.specs.Prelude.{filter, flat_map, IfOk, Result}
 use Rattle.std.specs.Prelude.{Ok, Err}
-use Rattle.std.proofs.lemmas.List.{append-nil, take_all}
+use Rattle.std.proofs.lemmas.List.{append-nil}
 use Rattle.std.proofs.lemmas.List.Concat.{flat_map-append}
 use Rattle.std.proofs.lemmas.List.Elements.{filter_more}
 use Rattle.std.proofs.lemmas.List.FromFn.{get_or-range_with_len}
@@ -21,14 +21,6 @@ filter_turn {X} f test before now xs i d l h =
     (ap (λ n. flat_map f (filter test (take i xs)) ++ n) (sym (if_one f (test x) x))
     ∙ sym (flat_map-append f (filter test (take i xs)) (cond (test x) (x ∷ []) []))
     ∙ ap (flat_map f) (sym (filter_more test xs i d l)))
-
-pub length-squares : length squares ≡ 32
-unfolding squares
-length-squares = refl
-
-pub take-squares : (xs : List ℕ) (i : ℕ) → xs ≡ squares → 32 ≤ i → take i xs ≡ squares
-unfolding squares
-take-squares xs i e h = ap (take i) e ∙ take_all i squares h
 
 pub if_ok_map : {A E : Type 0} (P Q : A → Type 0) (r : Result A E) → ((a : A) → P a → Q a) → IfOk r P → IfOk r Q
 if_ok_map P Q (Ok a) f h = f a h

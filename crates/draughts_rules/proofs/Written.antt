@@ -2,11 +2,11 @@
 use Rattle.std.proofs.Common.{◌≡◌, ℕ, zero, suc, ◌-◌, ◌<◌, ◌≤◌, ◌==◌, Bool, true, false, cond, ◌&&◌, ◌||◌, List, [], ◌∷◌, ◌++◌, length, get_or, take, drop, refl, sym, ◌∙◌, ap, subst, arith, inl, inr}
 use Rattle.std.specs.Prelude.{filter, Option, Some, None, Result, Ok, Err, MatchResult, IfOk, Contains}
 use Rattle.std.specs.Cmp.Lexicographic.{pointwise}
-use Rattle.std.proofs.lemmas.Bool.{eqb-true}
+use Rattle.std.proofs.lemmas.Bool.{cases_Bool, eqb-true}
 use Rattle.std.proofs.lemmas.List.{take_all}
 use Rattle.draughts_board.specs.Board.{Board}
 use Rattle.draughts_board.specs.Rules.{first_square, last_square, after}
-use Rattle.draughts_board.proofs.Members.{bool_cases, Contains-head}
+use Rattle.draughts_board.proofs.Members.{Contains-head}
 use Rattle.draughts_rules.specs.declared.resolution.ResolveRefusal.{ResolveRefusal}
 use Rattle.draughts_rules.specs.declared.resolution.ResolveRefusal.TheVariants.{Illegal, Ambiguous, Memory}
 use Rattle.draughts_rules.specs.Resolution.{is_written, lies_between, elsewhere, first_of, meaning, meaning_beside, UnlessMemory}
@@ -40,7 +40,7 @@ then-end x (y ∷ rest) (m ∷ middle) e =
     ap (λ b. (x == m) && b) (then-end y rest middle e) ∙ and_across (x == m) (last_square (y ∷ rest) == e) (pointwise ◌==◌ (take (length rest) (y ∷ rest)) middle)
 
 some_length : (m : ℕ) (middle : List ℕ) → (length (m ∷ middle) == 0) ≡ false
-some_length m middle = elim (bool_cases (length (m ∷ middle) == 0)) [ inl e ↦ absurd (let z = eqb-true (length (m ∷ middle)) 0 e in omega arith) | inr e ↦ e ]
+some_length m middle = elim (cases_Bool (length (m ∷ middle) == 0)) [ inl e ↦ absurd (let z = eqb-true (length (m ∷ middle)) 0 e in omega arith) | inr e ↦ e ]
 
 -- the test says which paths are written so
 pub written-test : (start : ℕ) (middle : List ℕ) (end : ℕ) (path : List ℕ) → 2 ≤ length path → (first_square path == start && last_square path == end && lies_between path middle) ≡ is_written start middle end path

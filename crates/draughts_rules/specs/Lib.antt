@@ -1,3 +1,3 @@
 pub mod Tables
-pub mod Tests
+pub mod Conditions
 pub mod Resolution

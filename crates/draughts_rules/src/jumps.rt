@@ -4,7 +4,7 @@ ghost use Rattle.std.specs.List.{list_any};
 ghost use Rattle.draughts_board.specs.Geometry.{squares};
 ghost use Rattle.draughts_board.specs.Board.{IsLawful};
 ghost use Rattle.draughts_board.specs.Rules.{contains, jumped, first_square, last_square, is_jump, further_jumps, has_jump};
-ghost use Rattle.draughts_rules.specs.Tests.{is_open_jump, is_open_further};
+ghost use Rattle.draughts_rules.specs.Conditions.{is_open_jump, is_open_further};
 
 use crate::pieces::{may_go, own_squares};
 use crate::square_list::SquareList;
@@ -13,6 +13,7 @@ use draughts_board::{Position, Square};
 
 /// The piece that starts on `start` may jump from one square to that of the number, which is a jump away; never
 /// where the number is that of no square.
+#[inline]
 fn is_open_jump(p: &Position, start: Square, from: Square, number: u8) -> bool
     ensures { result ≡ is_open_jump p.now start from number }
 {
@@ -33,6 +34,7 @@ pub(crate) fn is_jump(p: &Position, start: Square, from: Square, to: Square) -> 
 }
 
 /// The piece on the square may jump to one of these numbers' squares, which are a jump away.
+#[inline]
 fn can_jump_to(p: &Position, from: Square, targets: &[u8]) -> bool
     ensures { result ≡ list_any (is_open_jump p.now from from) targets.now }
 {
@@ -42,6 +44,7 @@ fn can_jump_to(p: &Position, from: Square, targets: &[u8]) -> bool
 }
 
 /// The piece on the square has a jump.
+#[inline]
 pub(crate) fn can_jump(p: &Position, from: Square) -> bool
     ensures { result ≡ list_any (is_jump p.now from from) squares }
 {
@@ -98,11 +101,9 @@ fn add_further(p: &Position, path: &[Square], number: u8, jumps: &mut SquareList
     ensures { jumps.new ≡ jumps.old ++ (if is_open_further p.now path.now number then number ∷ [] else []) }
 {
     let here = last(path);
-    if let Some(to) = Square::new(number)
-        && is_open_jump(p, first(path), here, number)
-        && !has_jumped(path, here.between(to))
-    {
-        jumps.push(to);
+    if let Some(to) = Square::new(number) {
+        let is_open = is_open_jump(p, first(path), here, number);
+        jumps.push_if(to, is_open && !has_jumped(path, here.between(to)));
     }
 }
 

@@ -2,7 +2,7 @@
 ghost use Rattle.std.specs.Prelude.{◌≡◌, ◌≤◌, ◌↔◌, not, length, IsTrue};
 ghost use Rattle.draughts_board.specs.Board.{IsLawful, cell_at};
 ghost use Rattle.draughts_board.specs.Rules.{first_square, all_following, all_but_last, jumped, are_distinct, is_jump, is_crowned_on, IsLegal};
-ghost use Rattle.draughts_rules.specs.Tests.{is_capture_so_far, is_capture, is_lone_step};
+ghost use Rattle.draughts_rules.specs.Conditions.{is_capture_so_far, is_capture, is_lone_step};
 
 use crate::captures::is_done;
 use crate::jumps::{first, further_jumps, has_jump, has_jumped, is_jump, last};

@@ -16,6 +16,8 @@ mod resolution;
 mod square_list;
 mod steps;
 mod tables;
+#[cfg(test)]
+mod tests;
 
 pub use legal::legal_moves;
 pub use legality::is_legal;

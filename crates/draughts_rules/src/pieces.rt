@@ -8,6 +8,7 @@ use crate::square_list::SquareList;
 use draughts_board::{Cell, Position, Side, Square};
 
 /// A piece of the side to move stands on the square.
+#[inline]
 pub(crate) fn is_own(p: &Position, square: Square) -> bool
     ensures { result ≡ is_own p.now square }
 {
@@ -23,14 +24,13 @@ pub(crate) fn own_squares(p: &Position) -> SquareList
     let all = Square::all();
     let mut own = SquareList::empty(all[0]);
     for square in &all {
-        if is_own(p, *square) {
-            own.push(*square);
-        }
+        own.push_if(*square, is_own(p, *square));
     }
     own
 }
 
 /// The piece may go from one square towards the other: a man forward only, a king either way.
+#[inline]
 pub(crate) fn may_go(piece: Cell, from: Square, to: Square) -> bool
     ensures { result ≡ may_go piece from to }
 {
@@ -43,6 +43,7 @@ pub(crate) fn may_go(piece: Cell, from: Square, to: Square) -> bool
 }
 
 /// The piece is a man, and the square lies in its farthest row.
+#[inline]
 pub(crate) fn is_crowned_on(piece: Cell, square: Square) -> bool
     ensures { result ≡ is_crowned_on piece square }
 {

@@ -20,7 +20,7 @@ impl Model for SquareList {
 }
 
 impl SquareList {
-    ghost use Rattle.std.specs.Prelude.{◌≡◌, ◌<◌, ◌≤◌, ◌++◌, ◌∷◌, [], length};
+    ghost use Rattle.std.specs.Prelude.{◌≡◌, ◌<◌, ◌≤◌, ◌++◌, ◌∷◌, [], length, if◌then◌else◌};
 
     /// No square. The other one only fills the unused places.
     pub(crate) fn empty(filler: Square) -> SquareList
@@ -63,12 +63,13 @@ impl SquareList {
         }
     }
 
-    /// Adds a square at the end.
-    pub(crate) fn push(&mut self, square: Square)
+    /// Adds a square at the end, if it is to be kept. It is written in any case, so that nothing branches.
+    #[inline]
+    pub(crate) fn push_if(&mut self, square: Square, keep: bool)
         requires { length self.old < 13 }
-        ensures { self.new ≡ self.old ++ square ∷ [] }
+        ensures { self.new ≡ self.old ++ (if keep then square ∷ [] else []) }
     {
         self.squares[self.len as usize] = square;
-        self.len += 1;
+        self.len += u8::from(keep);
     }
 }

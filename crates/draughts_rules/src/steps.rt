@@ -3,7 +3,7 @@ ghost use Rattle.std.specs.Prelude.{◌≡◌, ◌++◌, ◌∷◌, [], filter, 
 ghost use Rattle.draughts_board.specs.Geometry.{squares};
 ghost use Rattle.draughts_board.specs.Rules.{is_own, is_step};
 ghost use Rattle.draughts_board.specs.Play.{steps, steps_from};
-ghost use Rattle.draughts_rules.specs.Tests.{is_open_step};
+ghost use Rattle.draughts_rules.specs.Conditions.{is_open_step};
 
 use crate::pieces::may_go;
 use crate::tables::neighbours;
@@ -12,6 +12,7 @@ use std::alloc::{AllocError, Global};
 
 /// The piece on the one square may step to that of the number, which is near it; never where the number is that of no
 /// square.
+#[inline]
 fn is_open_step(p: &Position, from: Square, number: u8) -> bool
     ensures { result ≡ is_open_step p.now from number }
 {
@@ -29,6 +30,7 @@ pub(crate) fn is_step(p: &Position, from: Square, to: Square) -> bool
 }
 
 /// Adds the step to the square of the number, which is near the first, if the piece may make it.
+#[inline]
 fn add_step(p: &Position, from: Square, number: u8, found: &mut Vec<Move>) -> Result<(), AllocError>
     ensures { OnOk result
         (found.new.items

@@ -79,6 +79,7 @@ static JUMP_TARGETS: [[u8; 4]; 32] = [
 ];
 
 /// The numbers of the squares near this one, in rising order, and then zeros.
+#[inline]
 pub(crate) fn neighbours(from: Square) -> [u8; 4]
     ensures row { result ≡ neighbour_row from }
     ensures square { IsSquare from }
@@ -87,6 +88,7 @@ pub(crate) fn neighbours(from: Square) -> [u8; 4]
 }
 
 /// The numbers of the squares a jump away from this one, in rising order, and then zeros.
+#[inline]
 pub(crate) fn jump_targets(from: Square) -> [u8; 4]
     ensures row { result ≡ jump_row from }
     ensures square { IsSquare from }

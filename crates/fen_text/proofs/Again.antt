@@ -1,18 +1,18 @@
 -- What is spelled by the grammar is read again: squares, items, lists and whole texts.
-use Rattle.std.proofs.Common.{◌≡◌, ◌≢◌, ℕ, zero, suc, ◌+◌, ◌-◌, ◌*◌, ◌<◌, ◌≤◌, Bool, true, false, cond, not, ◌&&◌, ◌||◌, ◌==◌, leb, List, [], ◌∷◌, ◌++◌, length, map, Option, Some, None, Result, Ok, Err, refl, sym, ◌∙◌, ap, subst, arith, append_assoc, append-nil, ◌⊎◌, inl, inr}
+use Rattle.std.proofs.Common.{◌≡◌, ℕ, ◌-◌, Bool, true, false, cond, ◌&&◌, ◌==◌, leb, List, [], ◌∷◌, ◌++◌, length, map, Option, Some, None, Result, Ok, Err, refl, sym, ◌∙◌, ap, subst, arith, append_assoc, append-nil}
 use Rattle.std.specs.Prelude.{IfSome}
 use Rattle.std.specs.Option.{option_map_or}
 use Rattle.std.proofs.lemmas.List.{map-append}
-use Rattle.std.proofs.lemmas.Bool.{leb-true, le-leb, eqb-true, and_parts, not-true}
+use Rattle.std.proofs.lemmas.Bool.{le-leb, and_parts, not-true}
 use Rattle.draughts_board.specs.Board.{other}
 use Rattle.draughts_board.specs.declared.pieces.Side.{Side}
 use Rattle.draughts_board.specs.declared.pieces.Side.TheVariants.{Black, White}
 use Rattle.fen_text.specs.declared.fault.Fault.{Fault}
-use Rattle.fen_text.specs.declared.fault.Fault.TheVariants.{Letter, Number, End}
-use Rattle.fen_text.specs.Grammar.{letter_of, is_digit, Numeral, one, two, numeral_text, are_digits, value, IsSquareFrom, Item, mark, range_text, item_text, IsItem, comma, further_text, list_text, AreItems, Draft, stop_text, opening_text, turn_text, text_of, HasForm}
+use Rattle.fen_text.specs.declared.fault.Fault.TheVariants.{Number}
+use Rattle.fen_text.specs.Grammar.{letter_of, is_digit, Numeral, one, two, numeral_text, are_digits, value, IsSquareFrom, Item, mark, range_text, item_text, IsItem, comma, list_text, AreItems, Draft, stop_text, opening_text, turn_text, text_of, HasForm}
 use Rattle.fen_text.specs.Spelled.{Group, last_of, group_of, groups_of}
-use Rattle.fen_text.specs.Faults.{ends_before, lead_text, Opening, first_list, second_list, opening_front, IsOpening}
-use Rattle.fen_text.specs.Reading.{◌>>=◌, byte_at, side_at, second_digit, square_at, king_at, last_at, item_at, without_blanks, after_comma, items_at, begins_item, list_at, without_stop, end_at, form_at}
+use Rattle.fen_text.specs.Faults.{ends_before, lead_text, second_list, opening_front}
+use Rattle.fen_text.specs.Reading.{◌>>=◌, byte_at, side_at, second_digit, square_at, king_at, last_at, item_at, items_at, begins_item, list_at, without_stop, end_at, form_at}
 use Rattle.fen_text.proofs.Items.{then_items, items_at-step, with_front, with_no_front}
 use Rattle.fen_text.proofs.Parts.{begins, digit_above, stops, stops_at_comma, closes, stops_where_closed, no_comma_where_closed, no_item_where_closed, ends_at_range, comma_again, no_comma, item_begins, list_text-last, list_text-cons, last_item}
 
@@ -115,7 +115,7 @@ pub items_again : (side : Side) (items : List Item) (item : Item) (rest : List �
     → items_at side (list_text (items ++ item ∷ []) ++ rest) ≡ Ok (map (group_of side) (items ++ item ∷ []), rest)
 items_again side items item rest all is ends none =
     let alone : items_at side (item_text item ++ rest) ≡ Ok (group_of side item ∷ [], rest) = items_at-step side (item_text item ++ rest) ∙ ap (λ r. r >>= then_items (items_at side)) (item_again side item rest is ends)
-        ∙ ap (λ o. option_map_or {U = Result (List Group × List ℕ) Fault} (λ next. items_at side next >>= λ more. Ok (group_of side item ∷ more.0, more.1)) o (Ok (group_of side item ∷ [], rest))) (no_comma rest none) in
+    ∙ ap (λ o. option_map_or {U = Result (List Group × List ℕ) Fault} (λ next. items_at side next >>= λ more. Ok (group_of side item ∷ more.0, more.1)) o (Ok (group_of side item ∷ [], rest))) (no_comma rest none) in
     ap (λ t. items_at side (t ++ rest)) (list_text-last items item) ∙ ap (items_at side) (append_assoc (lead_text items item.blanks) (item_text item) rest)
     ∙ items_before side items item.blanks (item_text item ++ rest) all (item_begins item rest is.0.digits).1
     ∙ ap (with_front (map (group_of side) items)) alone
@@ -167,7 +167,7 @@ pub form_at-second : (mover colour : Side) (items : List Item) (rest : List ℕ)
     → form_at (opening_front (second_list mover colour items) ++ rest) ≡ (list_at (other colour) rest >>= after_second mover (map (group_of colour) items))
 form_at-second mover colour items rest all =
     let parted : opening_front (second_list mover colour items) ++ rest ≡ opening_text mover colour ++ (list_text items ++ (turn_text colour ++ rest)) =
-        append_assoc (opening_text mover colour) (list_text items ++ turn_text colour) rest ∙ ap (λ t. opening_text mover colour ++ t) (append_assoc (list_text items) (turn_text colour) rest) in
+    append_assoc (opening_text mover colour) (list_text items ++ turn_text colour) rest ∙ ap (λ t. opening_text mover colour ++ t) (append_assoc (list_text items) (turn_text colour) rest) in
     ap form_at parted ∙ form_at-first mover colour (list_text items ++ (turn_text colour ++ rest))
     ∙ ap (λ r. r >>= after_first mover colour) (list_again colour items (turn_text colour ++ rest) all refl)
     ∙ turned mover colour (map (group_of colour) items) rest
@@ -183,7 +183,7 @@ stopped mover groups more false = refl
 pub form_again : (d : Draft) → AreItems d.first → AreItems d.second → form_at (text_of d) ≡ Ok (d.to_move, groups_of d)
 form_again d first second =
     let parted : text_of d ≡ opening_front (second_list d.to_move d.colour d.first) ++ (list_text d.second ++ stop_text d.stop) =
-        sym (append_assoc (opening_text d.to_move d.colour) (list_text d.first ++ turn_text d.colour) _ ∙ ap (λ t. opening_text d.to_move d.colour ++ t) (append_assoc (list_text d.first) (turn_text d.colour) _)) in
+    sym (append_assoc (opening_text d.to_move d.colour) (list_text d.first ++ turn_text d.colour) _ ∙ ap (λ t. opening_text d.to_move d.colour ++ t) (append_assoc (list_text d.first) (turn_text d.colour) _)) in
     ap form_at parted ∙ form_at-second d.to_move d.colour d.first (list_text d.second ++ stop_text d.stop) first
     ∙ ap (λ r. r >>= after_second d.to_move (map (group_of d.colour) d.first)) (list_again (other d.colour) d.second (stop_text d.stop) second (stop_closes d.stop))
     ∙ stopped d.to_move (map (group_of d.colour) d.first) (map (group_of (other d.colour)) d.second) d.stop

@@ -1,7 +1,6 @@
 -- Each clause of the reader, from what was read.
-use Rattle.std.proofs.Common.{◌≡◌, ℕ, ◌-◌, ◌≤◌, ◌<◌, ◌↔◌, List, length, get_or, Option, Some, None, Result, Ok, Err, refl, sym, ◌∙◌, ap, subst}
+use Rattle.std.proofs.Common.{◌≡◌, ℕ, ◌≤◌, ◌<◌, ◌↔◌, List, length, Option, Some, None, Result, Ok, Err, refl, sym, subst}
 use Rattle.std.specs.Prelude.{MatchOption}
-use Rattle.draughts_board.specs.Geometry.{IsSquare}
 use Rattle.draughts_board.specs.Board.{Board, IsLawful, IsLeastMisplaced, pieces}
 use Rattle.draughts_board.specs.declared.pieces.Side.{Side}
 use Rattle.draughts_board.specs.declared.pieces.Side.TheVariants.{Black, White}
@@ -92,10 +91,10 @@ module _ (text : List ℕ) (mover : Side) (cells : List Cell) (twice : Option �
     held_ok p is lawful = subst (λ q. Answers text (Ok q)) (sym is) (ok_answers text mover groups read cells once named lawful)
 
     pub held_refusal : (r : Result Board PlaceRefusal) (e : PlaceRefusal) → r ≡ Err e
-      → (r ≡ Err (places.TooMany Black)) ↔ (12 < pieces Black cells)
-      → (r ≡ Err (places.TooMany White)) ↔ ((pieces Black cells ≤ 12) × (12 < pieces White cells))
-      → ((n : ℕ) → (r ≡ Err (places.ManOnLastRow n)) ↔ ((pieces Black cells ≤ 12) × (pieces White cells ≤ 12) × IsLeastMisplaced cells n))
-      → Answers text (Err (of_place e))
+        → (r ≡ Err (places.TooMany Black)) ↔ (12 < pieces Black cells)
+        → (r ≡ Err (places.TooMany White)) ↔ ((pieces Black cells ≤ 12) × (12 < pieces White cells))
+        → ((n : ℕ) → (r ≡ Err (places.ManOnLastRow n)) ↔ ((pieces Black cells ≤ 12) × (pieces White cells ≤ 12) × IsLeastMisplaced cells n))
+        → Answers text (Err (of_place e))
     held_refusal r (places.TooMany Black) is black white man = too_many_answers text mover groups read cells once named Black (black.0 is)
     held_refusal r (places.TooMany White) is black white man = too_many_answers text mover groups read cells once named White (white.0 is)
     held_refusal r (places.ManOnLastRow n) is black white man = (let m = (man n).0 is in man_answers text mover groups read cells once named n m.0 m.1 m.2)

@@ -1,17 +1,16 @@
 -- A side's printed list, item by item.
-use Rattle.std.proofs.Common.{◌≡◌, ◌≢◌, ℕ, zero, suc, ◌+◌, ◌-◌, ◌*◌, ◌<◌, ◌≤◌, Bool, true, false, cond, not, List, [], ◌∷◌, ◌++◌, length, get_or, take, drop, refl, sym, ◌∙◌, ap, subst, arith, inl, inr, append_assoc, append-nil, length-append, length-take, add-zero, eqb}
-use Rattle.std.specs.Prelude.{count_by}
+use Rattle.std.proofs.Common.{◌≡◌, ℕ, suc, ◌+◌, ◌-◌, ◌*◌, ◌<◌, ◌≤◌, Bool, true, false, cond, List, [], ◌∷◌, ◌++◌, length, get_or, take, drop, refl, sym, ◌∙◌, ap, arith, inl, inr, append_assoc, append-nil, length-append, length-take, add-zero, eqb}
 use Rattle.std.specs.List.{flat_map}
 use Rattle.std.proofs.lemmas.Bool.{cases_Bool, eqb-true, agree_below_at}
 use Rattle.std.proofs.lemmas.List.{get_or_default, take_more, take-append-drop}
 use Rattle.std.proofs.lemmas.List.Sums.{sum_by-append}
 use Rattle.std.proofs.lemmas.List.Concat.{flat_map-append}
-use Rattle.draughts_board.specs.Geometry.{IsSquare, squares}
+use Rattle.draughts_board.specs.Geometry.{squares}
 use Rattle.draughts_board.specs.Board.{Board, IsLawful, pieces, belongs}
 use Rattle.draughts_board.specs.declared.pieces.Side.{Side}
 use Rattle.draughts_board.specs.declared.pieces.Side.TheVariants.{Black, White}
 use Rattle.draughts_board.specs.declared.pieces.Cell.{Cell}
-use Rattle.draughts_board.specs.declared.pieces.Cell.TheVariants.{Empty, Man, King}
+use Rattle.draughts_board.specs.declared.pieces.Cell.TheVariants.{Empty}
 use Rattle.fen_text.specs.Grammar.{Item, item_text, further_text, list_text}
 use Rattle.fen_text.specs.Printed.{printed_item, next_text, printed_items}
 
@@ -24,15 +23,15 @@ new_item side n c = cond (belongs side c) (printed_item n c ∷ []) []
 
 printed_items-push : (side : Side) (n : ℕ) (cells : List Cell) (c : Cell) → printed_items side n (cells ++ c ∷ []) ≡ printed_items side n cells ++ new_item side (n + length cells) c
 printed_items-push side n [] c = rw add-zero (elim (cases_Bool (belongs side c)) [
-    inl on ↦ rw on refl
+  | inl on ↦ rw on refl
   | inr off ↦ rw off refl
-  ])
+])
 printed_items-push side n (b ∷ cells) c =
     let rest = printed_items-push side (n + 1) cells c in
     let e : n + 1 + length cells ≡ n + suc (length cells) = omega arith in
     elim (cases_Bool (belongs side b)) [
-      inl on ↦ rw (on, rest, e) refl
-    | inr off ↦ rw (off, rest, e) refl
+      | inl on ↦ rw (on, rest, e) refl
+      | inr off ↦ rw (off, rest, e) refl
     ]
 
 list_text-push : (items : List Item) (n : ℕ) (c : Cell) → list_text (items ++ printed_item n c ∷ []) ≡ list_text items ++ next_text (is_none items) (printed_item n c)
@@ -47,8 +46,8 @@ length-printed_items side n (c ∷ cells) =
     let rest = length-printed_items side (n + 1) cells in
     let e = sum_by-append (λ (x : Cell). cond {A = ℕ} (belongs side x) 1 0) (c ∷ []) cells in
     elim (cases_Bool (belongs side c)) [
-      inl on ↦ (let one : cond {A = ℕ} (belongs side c) 1 0 ≡ 1 = rw on refl in let l : length (printed_items side n (c ∷ cells)) ≡ suc (length (printed_items side (n + 1) cells)) = rw on refl in omega (arith, rest, e, one, l))
-    | inr off ↦ (let none : cond {A = ℕ} (belongs side c) 1 0 ≡ 0 = rw off refl in let l : length (printed_items side n (c ∷ cells)) ≡ length (printed_items side (n + 1) cells) = rw off refl in omega (arith, rest, e, none, l))
+      | inl on ↦ (let one : cond {A = ℕ} (belongs side c) 1 0 ≡ 1 = rw on refl in let l : length (printed_items side n (c ∷ cells)) ≡ suc (length (printed_items side (n + 1) cells)) = rw on refl in omega (arith, rest, e, one, l))
+      | inr off ↦ (let none : cond {A = ℕ} (belongs side c) 1 0 ≡ 0 = rw off refl in let l : length (printed_items side n (c ∷ cells)) ≡ length (printed_items side (n + 1) cells) = rw off refl in omega (arith, rest, e, none, l))
     ]
 
 pieces-take : (side : Side) (i : ℕ) (cells : List Cell) → pieces side (take i cells) ≤ pieces side cells
@@ -123,7 +122,7 @@ so_far-push old text new is_first items n c held e room = record {
 }
   where
     room_more : (xs : List Item) (b : Bool) → b ≡ is_none xs → length new ≤ length text + cond {A = ℕ} b 3 4 → length text ≤ length old + (4 * length xs - 1) → length (xs ++ printed_item n c ∷ []) ≡ length xs + 1
-      → length new ≤ length old + (4 * length (xs ++ printed_item n c ∷ []) - 1)
+        → length new ≤ length old + (4 * length (xs ++ printed_item n c ∷ []) - 1)
     room_more [] true e grown r l = omega (arith, grown, r, l)
     room_more [] false e grown r l = absurd cc
     room_more (x ∷ xs) true e grown r l = absurd cc

@@ -1,7 +1,7 @@
 -- What a setup holds once one more square is named.
-use Rattle.std.proofs.Common.{◌≡◌, ◌≢◌, ℕ, zero, suc, ◌+◌, ◌-◌, ◌<◌, ◌≤◌, Bool, true, false, cond, ◌&&◌, List, [], ◌∷◌, ◌++◌, length, get_or, set, Option, Some, None, refl, sym, ◌∙◌, ap, subst, arith, ◌⊎◌, inl, inr, length-set, get_or-set_same, get_or-set_other, leb}
-use Rattle.std.specs.Prelude.{count_by, MatchOption, nat_lt, replicate}
-use Rattle.std.proofs.lemmas.Bool.{cases_eq, cases_lt, cases_Bool, lt-ltb, le-ltb, cond-true, cond-false, and_right, leb-true, le-leb, lt-leb, leb-false, ltb-true, ltb-false, and_parts, and_cases, false≢true}
+use Rattle.std.proofs.Common.{◌≡◌, ◌≢◌, ℕ, ◌+◌, ◌-◌, ◌<◌, ◌≤◌, Bool, true, false, cond, List, [], ◌∷◌, ◌++◌, length, get_or, set, Option, Some, None, refl, sym, ◌∙◌, ap, subst, arith, inl, inr, length-set, get_or-set_same, get_or-set_other, leb}
+use Rattle.std.specs.Prelude.{MatchOption, nat_lt, replicate}
+use Rattle.std.proofs.lemmas.Bool.{cases_eq, cases_lt, cases_Bool, lt-ltb, le-ltb, cond-true, cond-false, and_right, le-leb, lt-leb, false≢true}
 use Rattle.std.proofs.lemmas.List.{get_or-replicate}
 use Rattle.std.proofs.lemmas.List.Sums.{sum_by-append}
 use Rattle.draughts_board.specs.Geometry.{IsSquare}
@@ -39,21 +39,21 @@ none_if_empty : (m : ℕ) (groups : List Group) → is_empty (cell_named m group
 none_if_empty m [] h = refl
 none_if_empty m (g ∷ groups) h =
     elim (cases_Bool (covers m g)) [
-      inl e ↦ absurd (false≢true (sym (piece-is_no_gap g.side g.king) ∙ sym (ap (λ b. is_empty (cond b (piece_of g.side g.king) (cell_named m groups))) e) ∙ h))
-    | inr e ↦ (
-        let rest : is_empty (cell_named m groups) ≡ true = sym (ap (λ b. is_empty (cond b (piece_of g.side g.king) (cell_named m groups))) e) ∙ h in
-        let none = none_if_empty m groups rest in
-        let off = not_counted (covers m g) e in let c = times_named-cons m g groups in omega (arith, none, off, c))
+      | inl e ↦ absurd (false≢true (sym (piece-is_no_gap g.side g.king) ∙ sym (ap (λ b. is_empty (cond b (piece_of g.side g.king) (cell_named m groups))) e) ∙ h))
+      | inr e ↦ (
+          let rest : is_empty (cell_named m groups) ≡ true = sym (ap (λ b. is_empty (cond b (piece_of g.side g.king) (cell_named m groups))) e) ∙ h in
+          let none = none_if_empty m groups rest in
+          let off = not_counted (covers m g) e in let c = times_named-cons m g groups in omega (arith, none, off, c))
     ]
 
 some_if_not_empty : (m : ℕ) (groups : List Group) → is_empty (cell_named m groups) ≡ false → 1 ≤ times_named m groups
 some_if_not_empty m [] h = absurd (false≢true (sym h))
 some_if_not_empty m (g ∷ groups) h =
     elim (cases_Bool (covers m g)) [
-      inl e ↦ (let on = counted (covers m g) e in let c = times_named-cons m g groups in omega (arith, on, c))
-    | inr e ↦ (
-        let rest : is_empty (cell_named m groups) ≡ false = sym (ap (λ b. is_empty (cond b (piece_of g.side g.king) (cell_named m groups))) e) ∙ h in
-        let some = some_if_not_empty m groups rest in let c = times_named-cons m g groups in omega (arith, some, c))
+      | inl e ↦ (let on = counted (covers m g) e in let c = times_named-cons m g groups in omega (arith, on, c))
+      | inr e ↦ (
+          let rest : is_empty (cell_named m groups) ≡ false = sym (ap (λ b. is_empty (cond b (piece_of g.side g.king) (cell_named m groups))) e) ∙ h in
+          let some = some_if_not_empty m groups rest in let c = times_named-cons m g groups in omega (arith, some, c))
     ]
 
 -- what is named first stays
@@ -61,8 +61,8 @@ cell_named-push : (m : ℕ) (groups : List Group) (g : Group) → cell_named m (
 cell_named-push m [] g = refl
 cell_named-push m (f ∷ groups) g =
     elim (cases_Bool (covers m f)) [
-      inl e ↦ rw (e, piece-is_no_gap f.side f.king) refl
-    | inr e ↦ rw e (cell_named-push m groups g)
+      | inl e ↦ rw (e, piece-is_no_gap f.side f.king) refl
+      | inr e ↦ rw e (cell_named-push m groups g)
     ]
 
 -- ---- one more square of a group
@@ -73,7 +73,6 @@ record NamesOneMore (old new : List Group) (n : ℕ) (piece : Cell) : Type 0 whe
   other_cells : (m : ℕ) → m ≢ n → cell_named m new ≡ cell_named m old
   here : times_named n new ≡ times_named n old + 1
   cell_here : cell_named n new ≡ cond (is_empty (cell_named n old)) piece (cell_named n old)
-  a_piece : is_empty piece ≡ false
 
 module _ (cells : List Cell) (twice : Option ℕ) (old new : List Group) (n : ℕ) (piece : Cell) (square : IsSquare n) (more : NamesOneMore old new n piece) (held : Holds cells twice old) where
   place_below : n - 1 < length cells
@@ -87,27 +86,27 @@ module _ (cells : List Cell) (twice : Option ℕ) (old new : List Group) (n : �
       record {
         full = length-set cells (n - 1) piece ∙ held.full;
         cells = λ m sq. elim (cases_eq m n) [
-          inl same ↦ subst (λ k. get_or (set cells (n - 1) piece) (k - 1) Empty ≡ cell_named k new) (sym same)
-            (get_or-set_same cells (n - 1) piece Empty place_below ∙ sym (more.cell_here ∙ ap (λ b. cond b piece (cell_named n old)) named))
-        | inr other ↦ (let apart : m - 1 ≢ n - 1 = λ h. other (omega (arith, h, sq.0, square.0)) in
-            get_or-set_other cells (n - 1) (m - 1) piece Empty apart ∙ held.cells m sq ∙ sym (more.other_cells m other))
+          | inl same ↦ subst (λ k. get_or (set cells (n - 1) piece) (k - 1) Empty ≡ cell_named k new) (sym same)
+              (get_or-set_same cells (n - 1) piece Empty place_below ∙ sym (more.cell_here ∙ ap (λ b. cond b piece (cell_named n old)) named))
+          | inr other ↦ (let apart : m - 1 ≢ n - 1 = λ h. other (omega (arith, h, sq.0, square.0)) in
+              get_or-set_other cells (n - 1) (m - 1) piece Empty apart ∙ held.cells m sq ∙ sym (more.other_cells m other))
         ];
         twice = still twice held.twice none once;
       }
     where
       still : (again : Option ℕ) → MatchOption again (NoneTwice old) (IsLeastTwice old) → times_named n old ≡ 0 → times_named n new ≡ times_named n old + 1 → MatchOption again (NoneTwice new) (IsLeastTwice new)
       still None h none once = λ m sq. elim (cases_eq m n) [
-          inl same ↦ subst (λ k. times_named k new ≤ 1) (sym same) (omega (arith, none, once))
+        | inl same ↦ subst (λ k. times_named k new ≤ 1) (sym same) (omega (arith, none, once))
         | inr other ↦ (let e = more.others m other in let b = h m sq in omega (arith, e, b))
-        ]
+      ]
       still (Some s) h none once =
           let apart : s ≢ n = λ same. (let t = subst (λ k. 2 ≤ times_named k old) same h.twice in omega (arith, t, none)) in
           record {
             square = h.square;
             twice = (let e = more.others s apart in let t = h.twice in omega (arith, e, t));
             least = λ m sq lt. elim (cases_eq m n) [
-              inl same ↦ subst (λ k. times_named k new ≤ 1) (sym same) (omega (arith, none, once))
-            | inr other ↦ (let e = more.others m other in let b = h.least m sq lt in omega (arith, e, b))
+              | inl same ↦ subst (λ k. times_named k new ≤ 1) (sym same) (omega (arith, none, once))
+              | inr other ↦ (let e = more.others m other in let b = h.least m sq lt in omega (arith, e, b))
             ];
           }
 
@@ -120,9 +119,9 @@ module _ (cells : List Cell) (twice : Option ℕ) (old new : List Group) (n : �
       record {
         full = held.full;
         cells = λ m sq. elim (cases_eq m n) [
-          inl same ↦ subst (λ k. get_or cells (k - 1) Empty ≡ cell_named k new) (sym same)
-            (held.cells n square ∙ sym (more.cell_here ∙ ap (λ b. cond b piece (cell_named n old)) named))
-        | inr other ↦ held.cells m sq ∙ sym (more.other_cells m other)
+          | inl same ↦ subst (λ k. get_or cells (k - 1) Empty ≡ cell_named k new) (sym same)
+              (held.cells n square ∙ sym (more.cell_here ∙ ap (λ b. cond b piece (cell_named n old)) named))
+          | inr other ↦ held.cells m sq ∙ sym (more.other_cells m other)
         ];
         twice = least twice held.twice two;
       }
@@ -135,12 +134,12 @@ module _ (cells : List Cell) (twice : Option ℕ) (old new : List Group) (n : �
       }
       least (Some s) h two =
           elim (cases_lt s n) [
-            inl lt ↦ subst (IsLeastTwice new) (sym (cond-true (nat_lt s n) s n (lt-ltb s n lt))) (record {
+            | inl lt ↦ subst (IsLeastTwice new) (sym (cond-true (nat_lt s n) s n (lt-ltb s n lt))) (record {
               square = h.square;
               twice = (let e = more.others s (omega arith) in let t = h.twice in omega (arith, e, t));
               least = λ m sq below. (let e = more.others m (omega arith) in let b = h.least m sq below in omega (arith, e, b));
             })
-          | inr le ↦ subst (IsLeastTwice new) (sym (cond-false (nat_lt s n) s n (le-ltb s n le))) (record {
+            | inr le ↦ subst (IsLeastTwice new) (sym (cond-false (nat_lt s n) s n (le-ltb s n le))) (record {
               square = square;
               twice = two;
               least = λ m sq below. (let e = more.others m (omega arith) in let b = h.least m sq (omega arith) in omega (arith, e, b));
@@ -150,8 +149,8 @@ module _ (cells : List Cell) (twice : Option ℕ) (old new : List Group) (n : �
   holds_more : Holds (cells_with cells n piece) (twice_with cells twice n) new
   holds_more =
       elim (cases_Bool (is_empty (get_or cells (n - 1) Empty))) [
-        inl e ↦ rw e (on_empty e)
-      | inr e ↦ rw e (on_piece e)
+        | inl e ↦ rw e (on_empty e)
+        | inr e ↦ rw e (on_piece e)
       ]
 
 -- ---- a group, square by square
@@ -172,8 +171,8 @@ covers-next : (side : Side) (king : Bool) (a n m : ℕ) → 1 ≤ n → m ≢ n 
 unfolding part
 covers-next side king a n m least other =
     elim (cases_lt n m) [
-      inl lt ↦ rw (lt-leb m n lt, lt-leb m (n - 1) (omega arith)) refl
-    | inr le ↦ (let below : m ≤ n - 1 = omega arith in rw (le-leb m n le, le-leb m (n - 1) below) refl)
+      | inl lt ↦ rw (lt-leb m n lt, lt-leb m (n - 1) (omega arith)) refl
+      | inr le ↦ (let below : m ≤ n - 1 = omega arith in rw (le-leb m n le, le-leb m (n - 1) below) refl)
     ]
 
 one_more : (groups : List Group) (side : Side) (king : Bool) (a n : ℕ) → 1 ≤ n → a ≤ n
@@ -193,7 +192,6 @@ one_more groups side king a n least from =
       other_cells = λ m other. (same_names groups side king a n a (n - 1) m (covers-next side king a n m least other)).1;
       here = omega (arith, t0, t1, o0, o1);
       cell_here = here_cell (cell_named n groups) (cell_named-push n groups before ∙ ap (λ t. cond (is_empty (cell_named n groups)) (cond t (piece_of side king) Empty) (cell_named n groups)) off) (cell_named-push n groups now ∙ ap (λ t. cond (is_empty (cell_named n groups)) (cond t (piece_of side king) Empty) (cell_named n groups)) on);
-      a_piece = piece-is_no_gap side king;
     }
   where
     here_cell : (c : Cell) {x y : Cell} → x ≡ cond (is_empty c) Empty c → y ≡ cond (is_empty c) (piece_of side king) c → y ≡ cond (is_empty x) (piece_of side king) x
@@ -208,9 +206,9 @@ unfolding part
 group_begins cells twice groups side king a least held =
     let g : Group = part side king a (a - 1) in
     let off : (m : ℕ) → covers m g ≡ false = λ m. elim (cases_lt m a) [
-        inl lt ↦ rw (lt-leb a m lt) refl
+      | inl lt ↦ rw (lt-leb a m lt) refl
       | inr le ↦ rw (lt-leb m (a - 1) (omega arith)) (and_right (leb a m) false refl)
-      ] in
+    ] in
     let times : (m : ℕ) → times_named m (groups ++ g ∷ []) ≡ times_named m groups = λ m. (let p = times_named-push m groups g in let o = not_counted (covers m g) (off m) in omega (arith, p, o)) in
     record {
       full = held.full;
@@ -222,6 +220,7 @@ group_begins cells twice groups side king a least held =
     same_cell_named Empty b e = ap (λ t. cond t (piece_of side king) Empty) e
     same_cell_named (Man s) b e = refl
     same_cell_named (King s) b e = refl
+
     same_twice : (again : Option ℕ) (old new : List Group) → MatchOption again (NoneTwice old) (IsLeastTwice old) → ((m : ℕ) → times_named m new ≡ times_named m old) → MatchOption again (NoneTwice new) (IsLeastTwice new)
     same_twice None old new h e = λ m sq. (let x = e m in let b = h m sq in omega (arith, x, b))
     same_twice (Some s) old new h e = record {

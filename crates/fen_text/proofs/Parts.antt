@@ -1,10 +1,10 @@
 -- Small facts on the parts of a text: where a number, an item and the blanks behind a comma end.
-use Rattle.std.proofs.Common.{◌≡◌, ◌≢◌, ℕ, zero, suc, ◌+◌, ◌-◌, ◌<◌, ◌≤◌, Bool, true, false, not, ◌&&◌, ◌||◌, ◌==◌, cond, leb, List, [], ◌∷◌, ◌++◌, length, Option, Some, None, Result, Ok, Err, refl, sym, ◌∙◌, ap, subst, arith, append_assoc, append-nil, ◌⊎◌, inl, inr}
+use Rattle.std.proofs.Common.{◌≡◌, ℕ, zero, suc, ◌<◌, ◌≤◌, Bool, true, false, not, ◌&&◌, ◌||◌, ◌==◌, cond, leb, List, [], ◌∷◌, ◌++◌, Option, Some, None, refl, sym, ◌∙◌, ap, subst, arith, append_assoc, append-nil, inl, inr}
 use Rattle.std.specs.Prelude.{replicate}
-use Rattle.std.specs.List.{flat_map, AllByRecursion}
-use Rattle.std.proofs.lemmas.Bool.{cases_Bool, leb-true, leb-false, ne_eqb, eqb-true, eqb-false, and_parts, and_from, not-true, false≢true}
+use Rattle.std.specs.List.{flat_map}
+use Rattle.std.proofs.lemmas.Bool.{cases_Bool, leb-true, ne_eqb, eqb-true, and_parts, false≢true}
 use Rattle.std.proofs.lemmas.List.Concat.{flat_map-append}
-use Rattle.fen_text.specs.Grammar.{is_digit, Numeral, one, two, numeral_text, are_digits, value, Item, mark, range_text, item_text, IsItem, comma, further_text, list_text, AreItems}
+use Rattle.fen_text.specs.Grammar.{is_digit, Numeral, one, two, numeral_text, are_digits, Item, mark, range_text, item_text, IsItem, comma, further_text, list_text, AreItems}
 use Rattle.fen_text.specs.Faults.{ends_before, lead_text}
 use Rattle.fen_text.specs.Reading.{without_blanks, after_comma, begins_item}
 
@@ -66,8 +66,8 @@ stops_at_end first (Some (two a b)) = refl
 pub closing_byte : (b : ℕ) (P : ℕ → Type 0) → (b == 58 || b == 46) ≡ true → P 58 → P 46 → P b
 closing_byte b P e p58 p46 =
     elim (cases_Bool (b == 58)) [
-      inl x ↦ subst P (sym (eqb-true b 58 x)) p58
-    | inr x ↦ subst P (sym (eqb-true b 46 (sym (ap (λ t. t || (b == 46)) x) ∙ e))) p46
+      | inl x ↦ subst P (sym (eqb-true b 58 x)) p58
+      | inr x ↦ subst P (sym (eqb-true b 46 (sym (ap (λ t. t || (b == 46)) x) ∙ e))) p46
     ]
 
 pub stops_where_closed : (first : Numeral) (last : Option Numeral) (rest : List ℕ) → closes rest ≡ true → stops first last rest ≡ true
@@ -106,11 +106,11 @@ pub blanks_read : (bytes : List ℕ) → (n : ℕ) × (bytes ≡ replicate n 32 
 blanks_read [] = (0, refl, refl)
 blanks_read (b ∷ behind) =
     elim (cases_Bool (b == 32)) [
-      inl e ↦ (
-        let more = blanks_read behind in
-        let same : b ∷ behind ≡ 32 ∷ (replicate more.0 32 ++ without_blanks behind) = ap (λ k. k ∷ behind) (eqb-true b 32 e) ∙ ap (λ t. 32 ∷ t) more.1 in
-        (suc more.0, rw e same, rw e more.2))
-    | inr e ↦ (0, rw e refl, rw e e)
+      | inl e ↦ (
+          let more = blanks_read behind in
+          let same : b ∷ behind ≡ 32 ∷ (replicate more.0 32 ++ without_blanks behind) = ap (λ k. k ∷ behind) (eqb-true b 32 e) ∙ ap (λ t. 32 ∷ t) more.1 in
+          (suc more.0, rw e same, rw e more.2))
+      | inr e ↦ (0, rw e refl, rw e e)
     ]
 
 -- what a comma was followed by
@@ -118,15 +118,16 @@ pub comma_read : (bytes next : List ℕ) → after_comma bytes ≡ Some next →
 comma_read [] next e = absurd cc
 comma_read (b ∷ behind) next e =
     elim (cases_Bool (b == 44)) [
-      inl x ↦ (
-        let is_next : without_blanks behind ≡ next = some_is (without_blanks behind) next (sym (ap (λ (t : Bool). cond t (Some (without_blanks behind)) None) x) ∙ e) in
-        let found = blanks_read behind in
-        (found.0, ap (λ k. k ∷ behind) (eqb-true b 44 x) ∙ ap (λ t. 44 ∷ t) (found.1 ∙ ap (λ t. replicate found.0 32 ++ t) is_next), subst (λ t. begins 32 t ≡ false) is_next found.2))
-    | inr x ↦ absurd (none_is_not_some next (sym (ap (λ (t : Bool). cond t (Some (without_blanks behind)) None) x) ∙ e))
+      | inl x ↦ (
+          let is_next : without_blanks behind ≡ next = some_is (without_blanks behind) next (sym (ap (λ (t : Bool). cond t (Some (without_blanks behind)) None) x) ∙ e) in
+          let found = blanks_read behind in
+          (found.0, ap (λ k. k ∷ behind) (eqb-true b 44 x) ∙ ap (λ t. 44 ∷ t) (found.1 ∙ ap (λ t. replicate found.0 32 ++ t) is_next), subst (λ t. begins 32 t ≡ false) is_next found.2))
+      | inr x ↦ absurd (none_is_not_some next (sym (ap (λ (t : Bool). cond t (Some (without_blanks behind)) None) x) ∙ e))
     ]
   where
     some_is : (x y : List ℕ) → Some x ≡ Some y → x ≡ y
     some_is x y h = cc
+
     none_is_not_some : (x : List ℕ) → None ≡ Some x → ⊥
     none_is_not_some x h = cc
 
@@ -134,8 +135,8 @@ pub no_comma_read : (bytes : List ℕ) → after_comma bytes ≡ None → begins
 no_comma_read [] e = refl
 no_comma_read (b ∷ behind) e =
     elim (cases_Bool (b == 44)) [
-      inl x ↦ absurd (some_is_not_none (without_blanks behind) (sym (ap (λ (t : Bool). cond t (Some (without_blanks behind)) None) x) ∙ e))
-    | inr x ↦ x
+      | inl x ↦ absurd (some_is_not_none (without_blanks behind) (sym (ap (λ (t : Bool). cond t (Some (without_blanks behind)) None) x) ∙ e))
+      | inr x ↦ x
     ]
   where
     some_is_not_none : (x : List ℕ) → Some x ≡ None → ⊥

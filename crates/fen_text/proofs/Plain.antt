@@ -1,16 +1,15 @@
 -- Which bytes a printed FEN has, and that it tells positions apart.
-use Rattle.std.proofs.Common.{◌≡◌, ℕ, ◌+◌, ◌≤◌, ◌<◌, Bool, true, false, cond, List, [], ◌∷◌, ◌++◌, length, Option, Some, None, Result, Ok, Err, All, refl, sym, ◌∙◌, ap, subst, arith, inl, inr}
+use Rattle.std.proofs.Common.{◌≡◌, ℕ, ◌+◌, ◌≤◌, Bool, true, false, cond, List, [], ◌∷◌, ◌++◌, length, All, refl, sym, subst, arith, inl, inr}
 use Rattle.std.specs.List.{flat_map, AllByRecursion}
-use Rattle.std.proofs.lemmas.Bool.{cases_Bool, and_parts, or_left, or_right}
+use Rattle.std.proofs.lemmas.Bool.{cases_Bool, and_parts}
 use Rattle.std.proofs.lemmas.List.Elements.{All-from_recursion}
 use Rattle.draughts_board.specs.Board.{Board, IsLawful, belongs}
 use Rattle.draughts_board.specs.declared.pieces.Side.{Side}
 use Rattle.draughts_board.specs.declared.pieces.Side.TheVariants.{Black, White}
 use Rattle.draughts_board.specs.declared.pieces.Cell.{Cell}
-use Rattle.fen_text.specs.declared.refusal.FenRefusal.{FenRefusal}
-use Rattle.fen_text.specs.Grammar.{letter_of, is_digit, Numeral, one, two, numeral_text, are_digits, Item, mark, range_text, item_text, comma, further_text, list_text, AreItems, IsItem}
+use Rattle.fen_text.specs.Grammar.{letter_of, is_digit, Numeral, one, two, numeral_text, are_digits, mark, item_text, further_text, list_text, AreItems, IsItem}
 use Rattle.fen_text.specs.Spelled.{Spells}
-use Rattle.fen_text.specs.Printed.{printed_item, printed_items, printed, fen_of}
+use Rattle.fen_text.specs.Printed.{printed_item, printed_items, fen_of}
 use Rattle.fen_text.specs.Laws.{is_printed_byte}
 use Rattle.fen_text.proofs.RoundTrip.{items_are, printed_spells}
 use Rattle.fen_text.proofs.Verdict.{one_position}
@@ -42,22 +41,22 @@ further_is_plain side n [] low high = tt
 further_is_plain side n (c ∷ cells) low high =
     let rest = further_is_plain side (n + 1) cells (omega arith) (omega arith) in
     elim (cases_Bool (belongs side c)) [
-      inl on ↦ (
-        let all : AreItems (printed_item n c ∷ printed_items side (n + 1) cells) = subst (λ b. AreItems (cond b (printed_item n c ∷ printed_items side (n + 1) cells) (printed_items side (n + 1) cells))) on (items_are side n (c ∷ cells) low high) in
-        subst (λ b. IsPlain (flat_map further_text (cond b (printed_item n c ∷ printed_items side (n + 1) cells) (printed_items side (n + 1) cells)))) (sym on)
+      | inl on ↦ (
+          let all : AreItems (printed_item n c ∷ printed_items side (n + 1) cells) = subst (λ b. AreItems (cond b (printed_item n c ∷ printed_items side (n + 1) cells) (printed_items side (n + 1) cells))) on (items_are side n (c ∷ cells) low high) in
+          subst (λ b. IsPlain (flat_map further_text (cond b (printed_item n c ∷ printed_items side (n + 1) cells) (printed_items side (n + 1) cells)))) (sym on)
           (plain_append (further_text (printed_item n c)) (flat_map further_text (printed_items side (n + 1) cells)) (refl, item_is_plain n c all.0) rest))
-    | inr off ↦ subst (λ b. IsPlain (flat_map further_text (cond b (printed_item n c ∷ printed_items side (n + 1) cells) (printed_items side (n + 1) cells)))) (sym off) rest
+      | inr off ↦ subst (λ b. IsPlain (flat_map further_text (cond b (printed_item n c ∷ printed_items side (n + 1) cells) (printed_items side (n + 1) cells)))) (sym off) rest
     ]
 
 list_is_plain : (side : Side) (n : ℕ) (cells : List Cell) → 1 ≤ n → n + length cells ≤ 33 → IsPlain (list_text (printed_items side n cells))
 list_is_plain side n [] low high = tt
 list_is_plain side n (c ∷ cells) low high =
     elim (cases_Bool (belongs side c)) [
-      inl on ↦ (
-        let all : AreItems (printed_item n c ∷ printed_items side (n + 1) cells) = subst (λ b. AreItems (cond b (printed_item n c ∷ printed_items side (n + 1) cells) (printed_items side (n + 1) cells))) on (items_are side n (c ∷ cells) low high) in
-        subst (λ b. IsPlain (list_text (cond b (printed_item n c ∷ printed_items side (n + 1) cells) (printed_items side (n + 1) cells)))) (sym on)
+      | inl on ↦ (
+          let all : AreItems (printed_item n c ∷ printed_items side (n + 1) cells) = subst (λ b. AreItems (cond b (printed_item n c ∷ printed_items side (n + 1) cells) (printed_items side (n + 1) cells))) on (items_are side n (c ∷ cells) low high) in
+          subst (λ b. IsPlain (list_text (cond b (printed_item n c ∷ printed_items side (n + 1) cells) (printed_items side (n + 1) cells)))) (sym on)
           (plain_append (item_text (printed_item n c)) (flat_map further_text (printed_items side (n + 1) cells)) (item_is_plain n c all.0) (further_is_plain side (n + 1) cells (omega arith) (omega arith))))
-    | inr off ↦ subst (λ b. IsPlain (list_text (cond b (printed_item n c ∷ printed_items side (n + 1) cells) (printed_items side (n + 1) cells)))) (sym off) (list_is_plain side (n + 1) cells (omega arith) (omega arith))
+      | inr off ↦ subst (λ b. IsPlain (list_text (cond b (printed_item n c ∷ printed_items side (n + 1) cells) (printed_items side (n + 1) cells)))) (sym off) (list_is_plain side (n + 1) cells (omega arith) (omega arith))
     ]
 
 letter_is_plain : (side : Side) → is_printed_byte (letter_of side) ≡ true

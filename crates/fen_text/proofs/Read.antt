@@ -1,19 +1,15 @@
 -- What is read keeps to the grammar, and where reading fails the text cannot go on: squares, items and lists.
-use Rattle.std.proofs.Common.{◌≡◌, ◌≢◌, ℕ, zero, suc, ◌+◌, ◌-◌, ◌*◌, ◌<◌, ◌≤◌, Bool, true, false, cond, not, ◌&&◌, ◌||◌, ◌==◌, leb, List, [], ◌∷◌, ◌++◌, length, map, Option, Some, None, Result, Ok, Err, refl, sym, ◌∙◌, ap, subst, arith, append_assoc, append-nil, ◌⊎◌, inl, inr}
-use Rattle.std.specs.Prelude.{IfSome, IfOk}
-use Rattle.std.specs.List.{flat_map}
-use Rattle.std.specs.Option.{option_map_or}
-use Rattle.std.proofs.lemmas.Bool.{cases_Bool, leb-true, leb-false, le-leb, lt-leb, eqb-true, and_parts, and_cases, and_from, or_from, not-true, not_from_false}
-use Rattle.draughts_board.specs.Board.{other}
+use Rattle.std.proofs.Common.{◌≡◌, ℕ, suc, ◌+◌, ◌-◌, ◌*◌, ◌<◌, ◌≤◌, Bool, true, false, cond, ◌&&◌, ◌==◌, leb, List, [], ◌∷◌, ◌++◌, length, Option, Some, None, Result, Ok, Err, refl, sym, ◌∙◌, ap, subst, arith, append_assoc, ◌⊎◌, inl, inr}
+use Rattle.std.specs.Prelude.{IfSome}
+use Rattle.std.proofs.lemmas.Bool.{cases_Bool, leb-true, leb-false, eqb-true, and_parts, and_cases, and_from, not_from_false}
 use Rattle.draughts_board.specs.declared.pieces.Side.{Side}
 use Rattle.fen_text.specs.declared.fault.Fault.{Fault}
-use Rattle.fen_text.specs.declared.fault.Fault.TheVariants.{Letter, Number, End}
-use Rattle.fen_text.specs.Grammar.{is_digit, Numeral, one, two, numeral_text, are_digits, value, IsSquareFrom, Item, mark, range_text, item_text, IsItem, comma, further_text, list_text, AreItems}
-use Rattle.fen_text.specs.Spelled.{Group, last_of, group_of}
-use Rattle.fen_text.specs.Faults.{ends_before, lead_text, Started, nothing, king_mark, range_sign, started_text, may_begin, least_started, NumberWrong}
-use Rattle.fen_text.specs.Reading.{◌>>=◌, second_digit, square_at, king_at, last_at, item_at, after_comma, items_within, items_at}
-use Rattle.fen_text.proofs.Items.{item-shorter, then_items}
-use Rattle.fen_text.proofs.Parts.{begins, stops, ends_at_range, comma_read, no_comma_read, list_text-cons}
+use Rattle.fen_text.specs.declared.fault.Fault.TheVariants.{Number, End}
+use Rattle.fen_text.specs.Grammar.{is_digit, Numeral, one, two, numeral_text, are_digits, value, IsSquareFrom, mark, range_text}
+use Rattle.fen_text.specs.Spelled.{Group, last_of}
+use Rattle.fen_text.specs.Faults.{ends_before, Started, nothing, king_mark, range_sign, started_text, least_started, NumberWrong}
+use Rattle.fen_text.specs.Reading.{◌>>=◌, second_digit, square_at, king_at, last_at, item_at}
+use Rattle.fen_text.proofs.Parts.{begins, stops}
 
 -- ---- squares
 
@@ -29,10 +25,10 @@ number_read : (a : ℕ) (behind : List ℕ) → is_digit a ≡ true → NumberRe
 number_read a [] digit = record { number = one a; digits = digit; value_is = refl; parts = refl; whole = refl }
 number_read a (b ∷ behind) digit =
     elim (cases_Bool (is_digit b)) [
-      inl e ↦ subst (λ (n : ℕ × List ℕ). NumberRead a (b ∷ behind) n.0 n.1) (sym (ap (λ t. cond t (10 * (a - 48) + (b - 48), behind) (a - 48, b ∷ behind)) e))
-        (record { number = two a b; digits = and_from _ _ digit e; value_is = refl; parts = refl; whole = refl })
-    | inr e ↦ subst (λ (n : ℕ × List ℕ). NumberRead a (b ∷ behind) n.0 n.1) (sym (ap (λ t. cond t (10 * (a - 48) + (b - 48), behind) (a - 48, b ∷ behind)) e))
-        (record { number = one a; digits = digit; value_is = refl; parts = refl; whole = not_from_false (is_digit b) e })
+      | inl e ↦ subst (λ (n : ℕ × List ℕ). NumberRead a (b ∷ behind) n.0 n.1) (sym (ap (λ t. cond t (10 * (a - 48) + (b - 48), behind) (a - 48, b ∷ behind)) e))
+          (record { number = two a b; digits = and_from _ _ digit e; value_is = refl; parts = refl; whole = refl })
+      | inr e ↦ subst (λ (n : ℕ × List ℕ). NumberRead a (b ∷ behind) n.0 n.1) (sym (ap (λ t. cond t (10 * (a - 48) + (b - 48), behind) (a - 48, b ∷ behind)) e))
+          (record { number = one a; digits = digit; value_is = refl; parts = refl; whole = not_from_false (is_digit b) e })
     ]
 
 -- a byte stands there that is no digit
@@ -64,27 +60,27 @@ square_read least (a ∷ behind) =
     let n : ℕ × List ℕ = second_digit (a - 48) behind in
     let test : Bool = leb least n.0 && leb n.0 32 in
     elim (cases_Bool (is_digit a)) [
-      inr e ↦ subst (λ b. SquareRead least (a ∷ behind) (cond (b && test) (Ok n) (Err (Number (suc (length behind)))))) (sym e) (no_digit e)
-    | inl e ↦ (
-        let read : NumberRead a behind n.0 n.1 = number_read a behind e in
-        elim (cases_Bool test) [
-          inl t ↦ (
-            let bounds = and_parts _ _ t in
-            let low : least ≤ n.0 = leb-true _ _ bounds.0 in
-            let high : n.0 ≤ 32 = leb-true _ _ bounds.1 in
-            let is = read.value_is in
-            let square : IsSquareFrom least read.number = record { digits = read.digits; low = omega (arith, is, low); high = omega (arith, is, high) } in
-            let found : SquareFound least (a ∷ behind) n.0 n.1 = record { number = read.number; square = square; value_is = is; parts = read.parts; whole = read.whole } in
-            subst (λ b. SquareRead least (a ∷ behind) (cond b (Ok n) (Err (Number (suc (length behind)))))) (sym (and_from _ _ e t)) found)
-        | inr t ↦ (
-            let is = read.value_is in
-            let out : (value read.number < least) ⊎ (32 < value read.number) = elim (and_cases _ _ t) [
-                inl x ↦ (let lt : n.0 < least = leb-false _ _ x in inl (omega (arith, is, lt)))
-              | inr x ↦ (let lt : 32 < n.0 = leb-false _ _ x in inr (omega (arith, is, lt)))
-              ] in
-            let wrong : NumberWrong least (a ∷ behind) = record { number = read.number; behind = n.1; stands = read.parts; digits = read.digits; whole = read.whole; wrong = out } in
-            subst (λ b. SquareRead least (a ∷ behind) (cond b (Ok n) (Err (Number (suc (length behind)))))) (sym (ap (λ b. b && test) e ∙ t)) (wrong_number wrong))
-        ])
+      | inr e ↦ subst (λ b. SquareRead least (a ∷ behind) (cond (b && test) (Ok n) (Err (Number (suc (length behind)))))) (sym e) (no_digit e)
+      | inl e ↦ (
+          let read : NumberRead a behind n.0 n.1 = number_read a behind e in
+          elim (cases_Bool test) [
+            | inl t ↦ (
+                let bounds = and_parts _ _ t in
+                let low : least ≤ n.0 = leb-true _ _ bounds.0 in
+                let high : n.0 ≤ 32 = leb-true _ _ bounds.1 in
+                let is = read.value_is in
+                let square : IsSquareFrom least read.number = record { digits = read.digits; low = omega (arith, is, low); high = omega (arith, is, high) } in
+                let found : SquareFound least (a ∷ behind) n.0 n.1 = record { number = read.number; square = square; value_is = is; parts = read.parts; whole = read.whole } in
+                subst (λ b. SquareRead least (a ∷ behind) (cond b (Ok n) (Err (Number (suc (length behind)))))) (sym (and_from _ _ e t)) found)
+            | inr t ↦ (
+                let is = read.value_is in
+                let out : (value read.number < least) ⊎ (32 < value read.number) = elim (and_cases _ _ t) [
+                  | inl x ↦ (let lt : n.0 < least = leb-false _ _ x in inl (omega (arith, is, lt)))
+                  | inr x ↦ (let lt : 32 < n.0 = leb-false _ _ x in inr (omega (arith, is, lt)))
+                ] in
+                let wrong : NumberWrong least (a ∷ behind) = record { number = read.number; behind = n.1; stands = read.parts; digits = read.digits; whole = read.whole; wrong = out } in
+                subst (λ b. SquareRead least (a ∷ behind) (cond b (Ok n) (Err (Number (suc (length behind)))))) (sym (ap (λ b. b && test) e ∙ t)) (wrong_number wrong))
+          ])
     ]
 
 -- ---- items
@@ -97,8 +93,8 @@ king_read : (bytes : List ℕ) → KingRead bytes (king_at bytes).0 (king_at byt
 king_read [] = record { parts = refl; none = λ e. refl }
 king_read (b ∷ behind) =
     elim (cases_Bool (b == 75)) [
-      inl e ↦ subst (λ (x : Bool × List ℕ). KingRead (b ∷ behind) x.0 x.1) (sym (ap (λ t. cond t (true, behind) (false, b ∷ behind)) e)) (record { parts = ap (λ k. k ∷ behind) (eqb-true b 75 e); none = λ x. absurd cc })
-    | inr e ↦ subst (λ (x : Bool × List ℕ). KingRead (b ∷ behind) x.0 x.1) (sym (ap (λ t. cond t (true, behind) (false, b ∷ behind)) e)) (record { parts = refl; none = λ x. e })
+      | inl e ↦ subst (λ (x : Bool × List ℕ). KingRead (b ∷ behind) x.0 x.1) (sym (ap (λ t. cond t (true, behind) (false, b ∷ behind)) e)) (record { parts = ap (λ k. k ∷ behind) (eqb-true b 75 e); none = λ x. absurd cc })
+      | inr e ↦ subst (λ (x : Bool × List ℕ). KingRead (b ∷ behind) x.0 x.1) (sym (ap (λ t. cond t (true, behind) (false, b ∷ behind)) e)) (record { parts = refl; none = λ x. e })
     ]
 
 -- an item has come so far, and no square stands behind that may stand there
@@ -145,7 +141,7 @@ module _ (side : Side) (bytes : List ℕ) (king : Bool) (behind : List ℕ) (mar
   }
 
   range_read : (n : ℕ) (rest : List ℕ) (r : Result (ℕ × List ℕ) Fault) → SquareFound 1 behind n (45 ∷ rest) → SquareRead n rest r
-    → ItemRead side bytes (r >>= λ last. Ok (record { side = side; king = king; first = n; last = last.0 }, last.1))
+      → ItemRead side bytes (r >>= λ last. Ok (record { side = side; king = king; first = n; last = last.0 }, last.1))
   range_read n rest (Ok x) s l =
       let sq : IsSquareFrom (value s.number) l.number = subst (λ k. IsSquareFrom k l.number) (sym s.value_is) l.square in
       record {
@@ -172,9 +168,9 @@ module _ (side : Side) (bytes : List ℕ) (king : Bool) (behind : List ℕ) (mar
   last_read n [] s = one_square n [] s refl
   last_read n (b ∷ rest) s =
       elim (cases_Bool (b == 45)) [
-        inl e ↦ subst (λ t. ItemRead side bytes (cond t (square_at n rest) (Ok (n, b ∷ rest)) >>= λ last. Ok (record { side = side; king = king; first = n; last = last.0 }, last.1))) (sym e)
-          (range_read n rest (square_at n rest) (subst (λ k. SquareFound 1 behind n (k ∷ rest)) (eqb-true b 45 e) s) (square_read n rest))
-      | inr e ↦ subst (λ t. ItemRead side bytes (cond t (square_at n rest) (Ok (n, b ∷ rest)) >>= λ last. Ok (record { side = side; king = king; first = n; last = last.0 }, last.1))) (sym e) (one_square n (b ∷ rest) s e)
+        | inl e ↦ subst (λ t. ItemRead side bytes (cond t (square_at n rest) (Ok (n, b ∷ rest)) >>= λ last. Ok (record { side = side; king = king; first = n; last = last.0 }, last.1))) (sym e)
+            (range_read n rest (square_at n rest) (subst (λ k. SquareFound 1 behind n (k ∷ rest)) (eqb-true b 45 e) s) (square_read n rest))
+        | inr e ↦ subst (λ t. ItemRead side bytes (cond t (square_at n rest) (Ok (n, b ∷ rest)) >>= λ last. Ok (record { side = side; king = king; first = n; last = last.0 }, last.1))) (sym e) (one_square n (b ∷ rest) s e)
       ]
 
   first_fails : (f : Fault) → SquareFails 1 behind f → (k : Bool) → KingRead bytes k behind → ItemFails bytes f
@@ -182,7 +178,7 @@ module _ (side : Side) (bytes : List ℕ) (king : Bool) (behind : List ℕ) (mar
   first_fails f s false m = record { started = nothing; rest = behind; sound = tt; parts = m.parts; fails = s; no_king = λ e. subst (λ t. begins 75 t ≡ false) m.parts (m.none refl) }
 
   first_read : (r : Result (ℕ × List ℕ) Fault) → SquareRead 1 behind r
-    → ItemRead side bytes (r >>= λ first. last_at first.0 first.1 >>= λ last. Ok (record { side = side; king = king; first = first.0; last = last.0 }, last.1))
+      → ItemRead side bytes (r >>= λ first. last_at first.0 first.1 >>= λ last. Ok (record { side = side; king = king; first = first.0; last = last.0 }, last.1))
   first_read (Ok x) s = last_read x.0 x.1 s
   first_read (Err f) s = first_fails f s king mark_is
 

@@ -1,19 +1,18 @@
 -- What is read keeps to the grammar, and where reading fails the text cannot go on: whole texts.
-use Rattle.std.proofs.Common.{◌≡◌, ◌≢◌, ℕ, zero, suc, ◌+◌, ◌-◌, ◌<◌, ◌≤◌, Bool, true, false, cond, not, ◌&&◌, ◌||◌, ◌==◌, List, [], ◌∷◌, ◌++◌, length, map, Option, Some, None, Result, Ok, Err, refl, sym, ◌∙◌, ap, subst, arith, append_assoc, append-nil, ◌⊎◌, inl, inr, length-append}
-use Rattle.std.proofs.lemmas.Bool.{cases_Bool, eqb-true, eqb-false, ne_eqb, or_parts, or_from, and_parts, not-true}
+use Rattle.std.proofs.Common.{◌≡◌, ℕ, suc, Bool, true, false, cond, ◌||◌, ◌==◌, List, [], ◌∷◌, ◌++◌, length, map, Option, Some, None, Result, Ok, Err, refl, sym, ◌∙◌, ap, subst, append_assoc, ◌⊎◌, inl, inr}
+use Rattle.std.proofs.lemmas.Bool.{cases_Bool, eqb-true, or_parts, or_from, and_parts, not-true}
 use Rattle.draughts_board.specs.Board.{other}
 use Rattle.draughts_board.specs.declared.pieces.Side.{Side}
 use Rattle.draughts_board.specs.declared.pieces.Side.TheVariants.{Black, White}
 use Rattle.fen_text.specs.declared.fault.Fault.{Fault}
 use Rattle.fen_text.specs.declared.fault.Fault.TheVariants.{Letter, Number, End}
-use Rattle.fen_text.specs.Grammar.{letter_of, is_digit, Numeral, one, two, IsSquareFrom, Item, IsItem, list_text, AreItems, Draft, stop_text, opening_text, turn_text, text_of, HasForm}
+use Rattle.fen_text.specs.Grammar.{letter_of, is_digit, Numeral, one, two, Item, list_text, AreItems, Draft, stop_text, opening_text, turn_text, HasForm}
 use Rattle.fen_text.specs.Spelled.{Group, group_of, groups_of}
-use Rattle.fen_text.specs.Faults.{Opening, first_list, second_list, opening_front, IsOpening, Started, nothing, king_mark, range_sign, started_text, HasStarted, may_begin, least_started, Place, at_side, at_colon, at_colour, at_other_colour, at_list, in_item, behind_item, at_end, front, IsPlace, closing, carries_on, may_stand, may_end, ends_second, is_square_due, least_square, StandsWrong, NumberWrong, lead_text}
+use Rattle.fen_text.specs.Faults.{Opening, first_list, second_list, opening_front, IsOpening, Started, nothing, king_mark, range_sign, started_text, least_started, Place, at_side, at_colon, at_colour, at_other_colour, at_list, in_item, behind_item, at_end, front, IsPlace, closing, carries_on, may_stand, may_end, ends_second, is_square_due, least_square, StandsWrong, NumberWrong, lead_text}
 use Rattle.fen_text.specs.Reading.{◌>>=◌, byte_at, side_at, begins_item, list_at, without_stop, end_at, form_at}
 use Rattle.fen_text.proofs.Parts.{begins, stops, not_both}
 use Rattle.fen_text.proofs.Read.{SquareFails, too_short, no_digit, wrong_number, NoDigit, IsStarted}
-use Rattle.fen_text.proofs.ReadList.{ItemsFail, ListEnds, no_item, behind_last, ListFound, ListFails, ListRead, list_read}
-use Rattle.fen_text.proofs.Wrong.{colour_of}
+use Rattle.fen_text.proofs.ReadList.{ListEnds, no_item, behind_last, ListFails, ListRead, list_read}
 
 -- why a text cannot go on at a place, `rest` being what stands there
 abbrev pub PlaceFails : Place → List ℕ → Fault → Type 0
@@ -45,8 +44,8 @@ unfolding byte_at
 byte_read due [] = too_early refl
 byte_read due (b ∷ behind) =
     elim (cases_Bool (b == due)) [
-      inl e ↦ subst (λ t. ByteRead due (b ∷ behind) (cond t (Ok behind) (Err (Letter (suc (length behind)))))) (sym e) (ap (λ k. k ∷ behind) (eqb-true b due e))
-    | inr e ↦ subst (λ t. ByteRead due (b ∷ behind) (cond t (Ok behind) (Err (Letter (suc (length behind)))))) (sym e) (other_byte b behind refl e)
+      | inl e ↦ subst (λ t. ByteRead due (b ∷ behind) (cond t (Ok behind) (Err (Letter (suc (length behind)))))) (sym e) (ap (λ k. k ∷ behind) (eqb-true b due e))
+      | inr e ↦ subst (λ t. ByteRead due (b ∷ behind) (cond t (Ok behind) (Err (Letter (suc (length behind)))))) (sym e) (other_byte b behind refl e)
     ]
 
 abbrev pub SideRead : List ℕ → Result (Side × List ℕ) Fault → Type 0
@@ -59,12 +58,12 @@ side_read [] = too_early refl
 side_read (b ∷ behind) =
     let wrong : Result (Side × List ℕ) Fault = Err (Letter (suc (length behind))) in
     elim (cases_Bool (b == 66)) [
-      inl e ↦ subst (λ t. SideRead (b ∷ behind) (cond t (Ok (Black, behind)) (cond (b == 87) (Ok (White, behind)) wrong))) (sym e) (ap (λ k. k ∷ behind) (eqb-true b 66 e))
-    | inr e ↦ elim (cases_Bool (b == 87)) [
-        inl w ↦ subst (λ t. SideRead (b ∷ behind) (cond t (Ok (Black, behind)) (cond (b == 87) (Ok (White, behind)) wrong))) (sym e)
-          (subst (λ t. SideRead (b ∷ behind) (cond t (Ok (White, behind)) wrong)) (sym w) (ap (λ k. k ∷ behind) (eqb-true b 87 w)))
-      | inr w ↦ subst (λ t. SideRead (b ∷ behind) (cond t (Ok (Black, behind)) (cond (b == 87) (Ok (White, behind)) wrong))) (sym e)
-          (subst (λ t. SideRead (b ∷ behind) (cond t (Ok (White, behind)) wrong)) (sym w) (other_byte b behind refl (or_from _ _ e w)))
+      | inl e ↦ subst (λ t. SideRead (b ∷ behind) (cond t (Ok (Black, behind)) (cond (b == 87) (Ok (White, behind)) wrong))) (sym e) (ap (λ k. k ∷ behind) (eqb-true b 66 e))
+      | inr e ↦ elim (cases_Bool (b == 87)) [
+        | inl w ↦ subst (λ t. SideRead (b ∷ behind) (cond t (Ok (Black, behind)) (cond (b == 87) (Ok (White, behind)) wrong))) (sym e)
+            (subst (λ t. SideRead (b ∷ behind) (cond t (Ok (White, behind)) wrong)) (sym w) (ap (λ k. k ∷ behind) (eqb-true b 87 w)))
+        | inr w ↦ subst (λ t. SideRead (b ∷ behind) (cond t (Ok (Black, behind)) (cond (b == 87) (Ok (White, behind)) wrong))) (sym e)
+            (subst (λ t. SideRead (b ∷ behind) (cond t (Ok (White, behind)) wrong)) (sym w) (other_byte b behind refl (or_from _ _ e w)))
       ]
     ]
 
@@ -188,9 +187,9 @@ list_place text opening items rest is parts (behind_last before item e all last 
   ends = refl;
   no_square = refl;
   others = λ b behind stands wrong.
-    let carry = no_carry item.first item.last b behind (sym (ap (stops item.first item.last) stands) ∙ stop) in
-    let comma : (b == 44) ≡ false = sym (ap (begins 44) stands) ∙ none in
-    or_from _ _ (or_from _ _ carry comma) wrong;
+      let carry = no_carry item.first item.last b behind (sym (ap (stops item.first item.last) stands) ∙ stop) in
+      let comma : (b == 44) ≡ false = sym (ap (begins 44) stands) ∙ none in
+      or_from _ _ (or_from _ _ carry comma) wrong;
 }
 
 -- ---- the whole text
@@ -221,32 +220,32 @@ module _ (text : List ℕ) (mover colour : Side) (first : List Item) (all_first 
 
   -- something stands behind the full stop
   after_stop : (second : List Item) (rest : List ℕ) → AreItems second → bytes ≡ list_text second ++ (46 ∷ rest)
-    → FormRead text (end_at rest >>= λ over. Ok (mover, map (group_of colour) first ++ map (group_of (other colour)) second))
+      → FormRead text (end_at rest >>= λ over. Ok (mover, map (group_of colour) first ++ map (group_of (other colour)) second))
   after_stop second [] all bytes_are = whole second true all bytes_are
   after_stop second (b ∷ behind) all bytes_are = record {
     place = at_end mover colour first second;
     rest = b ∷ behind;
     sound = (all_first, all);
     parts = parts ∙ ap (λ t. opening_front (second_list mover colour first) ++ t) bytes_are
-      ∙ sym (append_assoc (opening_front (second_list mover colour first)) (list_text second ++ 46 ∷ []) (b ∷ behind) ∙ ap (λ t. opening_front (second_list mover colour first) ++ t) (append_assoc (list_text second) (46 ∷ []) (b ∷ behind)));
+        ∙ sym (append_assoc (opening_front (second_list mover colour first)) (list_text second ++ 46 ∷ []) (b ∷ behind) ∙ ap (λ t. opening_front (second_list mover colour first) ++ t) (append_assoc (list_text second) (46 ∷ []) (b ∷ behind)));
     fails = (refl, refl, refl);
   }
 
   behind_second : (second : List Item) (rest : List ℕ) → AreItems second → bytes ≡ list_text second ++ rest → ListEnds second rest
-    → FormRead text (end_at (without_stop rest) >>= λ over. Ok (mover, map (group_of colour) first ++ map (group_of (other colour)) second))
+      → FormRead text (end_at (without_stop rest) >>= λ over. Ok (mover, map (group_of colour) first ++ map (group_of (other colour)) second))
   behind_second second [] all bytes_are ends = whole second false all bytes_are
   behind_second second (b ∷ behind) all bytes_are ends =
       let groups : List Group = map (group_of colour) first ++ map (group_of (other colour)) second in
       elim (cases_Bool (b == 46)) [
-        inl e ↦ subst (λ t. FormRead text (end_at (cond t behind (b ∷ behind)) >>= λ over. Ok (mover, groups))) (sym e)
-          (after_stop second behind all (bytes_are ∙ ap (λ k. list_text second ++ (k ∷ behind)) (eqb-true b 46 e)))
-      | inr e ↦ subst (λ t. FormRead text (end_at (cond t behind (b ∷ behind)) >>= λ over. Ok (mover, groups))) (sym e)
-          (let here = list_place text (second_list mover colour first) second (b ∷ behind) all_first (parts ∙ ap (λ t. opening_front (second_list mover colour first) ++ t) bytes_are) ends in
-           record { place = here.place; rest = b ∷ behind; sound = here.sound; parts = here.parts; fails = (refl, here.no_square, here.others b behind refl e) })
+        | inl e ↦ subst (λ t. FormRead text (end_at (cond t behind (b ∷ behind)) >>= λ over. Ok (mover, groups))) (sym e)
+            (after_stop second behind all (bytes_are ∙ ap (λ k. list_text second ++ (k ∷ behind)) (eqb-true b 46 e)))
+        | inr e ↦ subst (λ t. FormRead text (end_at (cond t behind (b ∷ behind)) >>= λ over. Ok (mover, groups))) (sym e)
+            (let here = list_place text (second_list mover colour first) second (b ∷ behind) all_first (parts ∙ ap (λ t. opening_front (second_list mover colour first) ++ t) bytes_are) ends in
+            record { place = here.place; rest = b ∷ behind; sound = here.sound; parts = here.parts; fails = (refl, here.no_square, here.others b behind refl e) })
       ]
 
   second_read : (r : Result (List Group × List ℕ) Fault) → ListRead (other colour) bytes r
-    → FormRead text (r >>= λ back. end_at (without_stop back.1) >>= λ over. Ok (mover, map (group_of colour) first ++ back.0))
+      → FormRead text (r >>= λ back. end_at (without_stop back.1) >>= λ over. Ok (mover, map (group_of colour) first ++ back.0))
   second_read (Err f) e = list_fails text (second_list mover colour first) bytes f all_first parts e
   second_read (Ok x) found =
       subst (λ gs. FormRead text (end_at (without_stop x.1) >>= λ over. Ok (mover, map (group_of colour) first ++ gs))) (sym found.groups_are) (behind_second found.items x.1 found.sound found.parts found.ends)
@@ -261,11 +260,11 @@ module _ (text : List ℕ) (mover colour : Side) (first : List Item) (all_first 
       second_read text mover colour first all_first rest (parts ∙ ap (λ t. opening_text mover colour ++ (list_text first ++ (58 ∷ t))) e ∙ sym (second_parts mover colour first rest)) (list_at (other colour) rest) (list_read (other colour) rest)
   letter_read bytes parts (Err f) e =
       byte_fails text (at_other_colour mover colour first) bytes f (λ b. b == letter_of (other colour)) all_first
-        (parts ∙ sym (append_assoc (opening_text mover colour) (list_text first ++ 58 ∷ []) bytes ∙ ap (λ t. opening_text mover colour ++ t) (append_assoc (list_text first) (58 ∷ []) bytes)))
-        refl refl (λ b behind stands wrong. wrong) e
+      (parts ∙ sym (append_assoc (opening_text mover colour) (list_text first ++ 58 ∷ []) bytes ∙ ap (λ t. opening_text mover colour ++ t) (append_assoc (list_text first) (58 ∷ []) bytes)))
+      refl refl (λ b behind stands wrong. wrong) e
 
   colon_read : (bytes : List ℕ) → text ≡ opening_text mover colour ++ (list_text first ++ bytes) → ListEnds first bytes → (r : Result (List ℕ) Fault) → ByteRead 58 bytes r
-    → FormRead text (r >>= λ turned. byte_at (letter_of (other colour)) turned >>= from_second)
+      → FormRead text (r >>= λ turned. byte_at (letter_of (other colour)) turned >>= from_second)
   colon_read bytes parts ends (Ok rest) e =
       letter_read rest (parts ∙ ap (λ t. opening_text mover colour ++ (list_text first ++ t)) e) (byte_at (letter_of (other colour)) rest) (byte_read (letter_of (other colour)) rest)
   colon_read bytes parts ends (Err f) e =
@@ -277,7 +276,7 @@ first_read : (text : List ℕ) (mover colour : Side) (bytes : List ℕ) → text
 first_read text mover colour bytes parts (Err f) e = list_fails text (first_list mover colour) bytes f tt parts e
 first_read text mover colour bytes parts (Ok x) found =
     subst (λ gs. FormRead text (byte_at 58 x.1 >>= λ turned. byte_at (letter_of (other colour)) turned >>= λ second. list_at (other colour) second >>= λ back. end_at (without_stop back.1) >>= λ over. Ok (mover, gs ++ back.0))) (sym found.groups_are)
-      (colon_read text mover colour found.items found.sound x.1 (parts ∙ ap (λ t. opening_text mover colour ++ t) found.parts) found.ends (byte_at 58 x.1) (byte_read 58 x.1))
+    (colon_read text mover colour found.items found.sound x.1 (parts ∙ ap (λ t. opening_text mover colour ++ t) found.parts) found.ends (byte_at 58 x.1) (byte_read 58 x.1))
 
 module _ (text : List ℕ) (mover : Side) where
   -- what the first letter of colour leads to

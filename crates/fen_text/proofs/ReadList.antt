@@ -1,19 +1,18 @@
 -- What is read keeps to the grammar, and where reading fails the text cannot go on: lists.
-use Rattle.std.proofs.Common.{◌≡◌, ◌≢◌, ℕ, zero, suc, ◌+◌, ◌-◌, ◌<◌, ◌≤◌, Bool, true, false, cond, not, ◌&&◌, ◌||◌, ◌==◌, List, [], ◌∷◌, ◌++◌, length, map, Option, Some, None, Result, Ok, Err, refl, sym, ◌∙◌, ap, subst, arith, append_assoc, append-nil, inl, inr}
+use Rattle.std.proofs.Common.{◌≡◌, ℕ, zero, suc, ◌<◌, ◌≤◌, Bool, true, false, cond, ◌||◌, ◌==◌, List, [], ◌∷◌, ◌++◌, length, map, Option, Some, None, Result, Ok, Err, refl, sym, ◌∙◌, ap, subst, arith, append_assoc, append-nil, inl, inr}
 use Rattle.std.specs.Prelude.{IfSome, IfOk}
 use Rattle.std.specs.Option.{option_map_or}
 use Rattle.std.proofs.lemmas.Bool.{cases_Bool, eqb-true}
 use Rattle.draughts_board.specs.declared.pieces.Side.{Side}
 use Rattle.fen_text.specs.declared.fault.Fault.{Fault}
-use Rattle.fen_text.specs.declared.fault.Fault.TheVariants.{Letter, Number, End}
-use Rattle.fen_text.specs.Grammar.{is_digit, Numeral, one, two, numeral_text, value, IsSquareFrom, Item, mark, range_text, item_text, IsItem, comma, list_text, AreItems}
+use Rattle.fen_text.specs.Grammar.{is_digit, Item, item_text, IsItem, comma, list_text, AreItems}
 use Rattle.fen_text.specs.Spelled.{Group, group_of}
-use Rattle.fen_text.specs.Faults.{ends_before, lead_text, Started, nothing, king_mark, range_sign, started_text, least_started}
+use Rattle.fen_text.specs.Faults.{lead_text, Started, nothing, started_text, least_started}
 use Rattle.fen_text.specs.Reading.{◌>>=◌, item_at, after_comma, items_within, items_at, begins_item, list_at}
 use Rattle.fen_text.proofs.Items.{item-shorter, then_items, after_comma-shorter}
 use Rattle.fen_text.proofs.Parts.{begins, digit_below, stops, comma_read, no_comma_read, list_text-cons}
 use Rattle.fen_text.proofs.Again.{item_text-parts}
-use Rattle.fen_text.proofs.Read.{SquareFails, too_short, no_digit, wrong_number, IsStarted, ItemFails, ItemFound, ItemRead, item_read}
+use Rattle.fen_text.proofs.Read.{SquareFails, too_short, IsStarted, ItemFails, ItemFound, ItemRead, item_read}
 
 -- the last of these items does not go on with what follows
 abbrev pub last_stops : Item → List Item → List ℕ → Bool
@@ -84,20 +83,24 @@ module _ (side : Side) (blanks : ℕ) (bytes : List ℕ) (g : Group) (behind : L
       sound = ((found.square, found.range), others.sound);
       groups_are = ap (λ x. x ∷ groups) found.group_is ∙ ap (λ xs. group_of side (item_of blanks found) ∷ xs) others.groups_are;
       parts = item_parts ∙ ap (λ t. item_text (item_of blanks found) ++ t) (comma_is ∙ ap (λ n. comma n ++ next) (sym others.blanks_are) ∙ ap (λ t. comma others.item.blanks ++ t) others.parts)
-        ∙ sym (list_text-cons (item_of blanks found) others.item others.items rest);
+          ∙ sym (list_text-cons (item_of blanks found) others.item others.items rest);
       stop = others.stop;
       no_comma = others.no_comma;
     }
 
     lead-parts : (items : List Item) (more : ℕ) (tail : List ℕ) → HasBlanks k items → next ≡ lead_text items more ++ tail
-      → (b : ℕ) × (bytes ≡ lead_text (item_of blanks found ∷ items) b ++ tail)
+        → (b : ℕ) × (bytes ≡ lead_text (item_of blanks found ∷ items) b ++ tail)
     unfolding item_of
-    lead-parts [] more tail has parts = (k,
+    lead-parts [] more tail has parts = (
+      k,
       item_parts ∙ ap (λ t. item_text (item_of blanks found) ++ t) (comma_is ∙ ap (λ t. comma k ++ t) parts)
-      ∙ sym (append_assoc (item_text (item_of blanks found)) (comma k) tail) ∙ ap (λ t. (t ++ comma k) ++ tail) (sym (append-nil (item_text (item_of blanks found)))))
-    lead-parts (j ∷ items) more tail has parts = (more,
+          ∙ sym (append_assoc (item_text (item_of blanks found)) (comma k) tail) ∙ ap (λ t. (t ++ comma k) ++ tail) (sym (append-nil (item_text (item_of blanks found)))),
+    )
+    lead-parts (j ∷ items) more tail has parts = (
+      more,
       item_parts ∙ ap (λ t. item_text (item_of blanks found) ++ t) (comma_is ∙ ap (λ n. comma n ++ next) (sym has) ∙ ap (λ t. comma j.blanks ++ t) (parts ∙ append_assoc (list_text (j ∷ items)) (comma more) tail))
-      ∙ sym (append_assoc (list_text (item_of blanks found ∷ j ∷ items)) (comma more) tail ∙ list_text-cons (item_of blanks found) j items (comma more ++ tail)))
+          ∙ sym (append_assoc (list_text (item_of blanks found ∷ j ∷ items)) (comma more) tail ∙ list_text-cons (item_of blanks found) j items (comma more ++ tail)),
+    )
 
     more_fail : (f : Fault) → ItemsFail k next f → ItemsFail blanks bytes f
     unfolding item_of
@@ -150,7 +153,7 @@ items_then : (side : Side) (blanks : ℕ) (bytes : List ℕ) (read : List ℕ �
 items_then side blanks bytes read (Err f) begin fails short others = first_fails blanks bytes f begin fails
 items_then side blanks bytes read (Ok x) begin found short others =
     item_then side blanks bytes read (after_comma x.1) x.0 x.1 found refl
-      (λ next k is. others next k (let s : length next < length x.1 = subst (λ o. IfSome o (λ y. length y < length x.1)) is (after_comma-shorter x.1) in omega (arith, short)))
+    (λ next k is. others next k (let s : length next < length x.1 = subst (λ o. IfSome o (λ y. length y < length x.1)) is (after_comma-shorter x.1) in omega (arith, short)))
 
 items_read-within : (n : ℕ) (side : Side) (blanks : ℕ) (bytes : List ℕ) → length bytes ≤ n → begins 32 bytes ≡ false → ItemsRead side blanks bytes (items_within n side bytes)
 unfolding items_within
@@ -158,7 +161,7 @@ items_read-within zero side blanks [] le begin = record { items = []; more = 0; 
 items_read-within zero side blanks (b ∷ behind) le begin = absurd (omega arith)
 items_read-within (suc n) side blanks bytes le begin =
     items_then side blanks bytes (items_within n side) (item_at side bytes) begin (item_read side bytes) (item-shorter side bytes)
-      (λ next k lt none. items_read-within n side k next (omega arith) none)
+    (λ next k lt none. items_read-within n side k next (omega arith) none)
 
 pub items_read : (side : Side) (bytes : List ℕ) → begins 32 bytes ≡ false → ItemsRead side 0 bytes (items_at side bytes)
 items_read side bytes begin = items_read-within (length bytes) side 0 bytes (omega arith) begin
@@ -198,8 +201,8 @@ no_blank_before : (bytes : List ℕ) → begins_item bytes ≡ true → begins 3
 no_blank_before [] e = refl
 no_blank_before (b ∷ behind) e =
     elim (cases_Bool (b == 75)) [
-      inl king ↦ subst (λ k. (k == 32) ≡ false) (sym (eqb-true b 75 king)) refl
-    | inr other ↦ (let digit : is_digit b ≡ true = sym (ap (λ t. t || is_digit b) other) ∙ e in digit_below b 32 digit (omega arith))
+      | inl king ↦ subst (λ k. (k == 32) ≡ false) (sym (eqb-true b 75 king)) refl
+      | inr other ↦ (let digit : is_digit b ≡ true = sym (ap (λ t. t || is_digit b) other) ∙ e in digit_below b 32 digit (omega arith))
     ]
 
 items_are_list : (side : Side) (bytes : List ℕ) (r : Result (List Group × List ℕ) Fault) → begins_item bytes ≡ true → ItemsRead side 0 bytes r → ListRead side bytes r
@@ -216,6 +219,6 @@ pub list_read : (side : Side) (bytes : List ℕ) → ListRead side bytes (list_a
 unfolding list_at
 list_read side bytes =
     elim (cases_Bool (begins_item bytes)) [
-      inl e ↦ subst (λ b. ListRead side bytes (cond b (items_at side bytes) (Ok ([], bytes)))) (sym e) (items_are_list side bytes (items_at side bytes) e (items_read side bytes (no_blank_before bytes e)))
-    | inr e ↦ subst (λ b. ListRead side bytes (cond b (items_at side bytes) (Ok ([], bytes)))) (sym e) (record { items = []; sound = tt; groups_are = refl; parts = refl; ends = no_item refl e })
+      | inl e ↦ subst (λ b. ListRead side bytes (cond b (items_at side bytes) (Ok ([], bytes)))) (sym e) (items_are_list side bytes (items_at side bytes) e (items_read side bytes (no_blank_before bytes e)))
+      | inr e ↦ subst (λ b. ListRead side bytes (cond b (items_at side bytes) (Ok ([], bytes)))) (sym e) (record { items = []; sound = tt; groups_are = refl; parts = refl; ends = no_item refl e })
     ]

@@ -1,15 +1,15 @@
 -- The printed FEN of a position spells it.
-use Rattle.std.proofs.Common.{◌≡◌, ◌≢◌, ℕ, zero, suc, ◌+◌, ◌-◌, ◌*◌, ◌/◌, ◌%◌, ◌<◌, ◌≤◌, Bool, true, false, cond, ◌&&◌, leb, ltb, List, [], ◌∷◌, ◌++◌, length, get_or, map, Option, Some, None, refl, sym, ◌∙◌, ap, subst, arith, inl, inr}
+use Rattle.std.proofs.Common.{◌≡◌, ◌≢◌, ℕ, zero, suc, ◌+◌, ◌-◌, ◌/◌, ◌%◌, ◌<◌, ◌≤◌, Bool, true, false, cond, ltb, List, [], ◌∷◌, ◌++◌, length, get_or, map, refl, sym, ◌∙◌, ap, subst, arith, inl, inr}
 use Rattle.std.proofs.lemmas.Bool.{cases_Bool, cases_lt, and_from, and_left, and_right, le-leb, lt-leb, lt-ltb, le-ltb, cond-true, cond-false, false≢true}
 use Rattle.std.proofs.lemmas.List.Sums.{sum_by-append}
 use Rattle.draughts_board.specs.Geometry.{IsSquare}
-use Rattle.draughts_board.specs.Board.{Board, IsLawful, belongs, is_empty, same_side}
+use Rattle.draughts_board.specs.Board.{Board, IsLawful, belongs, is_empty}
 use Rattle.draughts_board.specs.declared.pieces.Side.{Side}
 use Rattle.draughts_board.specs.declared.pieces.Side.TheVariants.{Black, White}
 use Rattle.draughts_board.specs.declared.pieces.Cell.{Cell}
 use Rattle.draughts_board.specs.declared.pieces.Cell.TheVariants.{Empty, Man, King}
-use Rattle.fen_text.specs.Grammar.{is_digit, Numeral, one, two, are_digits, value, IsSquareFrom, Item, IsItem, AreItems, HasForm}
-use Rattle.fen_text.specs.Spelled.{Group, piece_of, group_of, groups_of, covers, times_named, NoneTwice, cell_named, cells_named, Spells}
+use Rattle.fen_text.specs.Grammar.{is_digit, Numeral, one, two, are_digits, value, IsItem, AreItems, HasForm}
+use Rattle.fen_text.specs.Spelled.{Group, piece_of, group_of, groups_of, covers, times_named, cell_named, Spells}
 use Rattle.fen_text.specs.Printed.{decimal, is_king, printed_item, printed_items, printed, fen_of}
 use Rattle.fen_text.proofs.Naming.{times_named-cons, counted, not_counted}
 use Rattle.fen_text.proofs.Verdict.{cells_are}
@@ -27,9 +27,9 @@ record DecimalIs (n : ℕ) (d : Numeral) : Type 0 where
 decimal_is : (n : ℕ) → n ≤ 32 → DecimalIs n (decimal n)
 decimal_is n le =
     elim (cases_lt n 10) [
-      inl lt ↦ subst (DecimalIs n) (sym (cond-true (ltb n 10) (one (48 + n)) (two (48 + n / 10) (48 + n % 10)) (lt-ltb n 10 lt))) (record { digits = digit_is n (omega arith); is = omega arith })
-    | inr ge ↦ subst (DecimalIs n) (sym (cond-false (ltb n 10) (one (48 + n)) (two (48 + n / 10) (48 + n % 10)) (le-ltb n 10 ge)))
-        (record { digits = and_from _ _ (digit_is (n / 10) (omega arith)) (digit_is (n % 10) (omega arith)); is = omega arith })
+      | inl lt ↦ subst (DecimalIs n) (sym (cond-true (ltb n 10) (one (48 + n)) (two (48 + n / 10) (48 + n % 10)) (lt-ltb n 10 lt))) (record { digits = digit_is n (omega arith); is = omega arith })
+      | inr ge ↦ subst (DecimalIs n) (sym (cond-false (ltb n 10) (one (48 + n)) (two (48 + n / 10) (48 + n % 10)) (le-ltb n 10 ge)))
+          (record { digits = and_from _ _ (digit_is (n / 10) (omega arith)) (digit_is (n % 10) (omega arith)); is = omega arith })
     ]
 
 item_is : (n : ℕ) (c : Cell) → IsSquare n → IsItem (printed_item n c)
@@ -43,8 +43,8 @@ items_are side n [] low high = tt
 items_are side n (c ∷ cells) low high =
     let rest = items_are side (n + 1) cells (omega arith) (omega arith) in
     elim (cases_Bool (belongs side c)) [
-      inl on ↦ subst (λ b. AreItems (cond b (printed_item n c ∷ printed_items side (n + 1) cells) (printed_items side (n + 1) cells))) (sym on) (item_is n c (low, omega arith), rest)
-    | inr off ↦ subst (λ b. AreItems (cond b (printed_item n c ∷ printed_items side (n + 1) cells) (printed_items side (n + 1) cells))) (sym off) rest
+      | inl on ↦ subst (λ b. AreItems (cond b (printed_item n c ∷ printed_items side (n + 1) cells) (printed_items side (n + 1) cells))) (sym on) (item_is n c (low, omega arith), rest)
+      | inr off ↦ subst (λ b. AreItems (cond b (printed_item n c ∷ printed_items side (n + 1) cells) (printed_items side (n + 1) cells))) (sym off) rest
     ]
 
 -- ---- what it names
@@ -61,8 +61,8 @@ covers_here side king n = and_from _ _ (le-leb n n (omega arith)) (le-leb n n (o
 covers_other : (side : Side) (king : Bool) (n m : ℕ) → m ≢ n → covers m (record { side = side; king = king; first = n; last = n }) ≡ false
 covers_other side king n m other =
     elim (cases_lt m n) [
-      inl lt ↦ and_left _ _ (lt-leb n m lt)
-    | inr ge ↦ and_right _ _ (lt-leb m n (omega arith))
+      | inl lt ↦ and_left _ _ (lt-leb n m lt)
+      | inr ge ↦ and_right _ _ (lt-leb m n (omega arith))
     ]
 
 piece_is : (side : Side) (c : Cell) → belongs side c ≡ true → piece_of side (is_king c) ≡ c
@@ -88,29 +88,29 @@ record NamesAt (groups : List Group) (m times : ℕ) (c : Cell) : Type 0 where
 names-here : (side : Side) (n : ℕ) (c : Cell) (rest : List Group) → n ≤ 32 → belongs side c ≡ true → NamesAt rest n 0 Empty → NamesAt (group_of side (printed_item n c) ∷ rest) n 1 c
 names-here side n c rest le on none =
     subst (λ g. NamesAt (g ∷ rest) n 1 c) (sym (group_is side n c le)) (
-      let g : Group = record { side = side; king = is_king c; first = n; last = n } in
-      let here = covers_here side (is_king c) n in
-      record {
-        often = (let e = times_named-cons n g rest in let o = none.often in let one = counted (covers n g) here in omega (arith, e, o, one));
-        cell = ap (λ b. cond b (piece_of side (is_king c)) (cell_named n rest)) here ∙ piece_is side c on;
-      })
+    let g : Group = record { side = side; king = is_king c; first = n; last = n } in
+    let here = covers_here side (is_king c) n in
+    record {
+      often = (let e = times_named-cons n g rest in let o = none.often in let one = counted (covers n g) here in omega (arith, e, o, one));
+      cell = ap (λ b. cond b (piece_of side (is_king c)) (cell_named n rest)) here ∙ piece_is side c on;
+    })
 
 names-other : (side : Side) (n m : ℕ) (c x : Cell) (times : ℕ) (rest : List Group) → n ≤ 32 → m ≢ n → NamesAt rest m times x → NamesAt (group_of side (printed_item n c) ∷ rest) m times x
 names-other side n m c x times rest le other is =
     subst (λ g. NamesAt (g ∷ rest) m times x) (sym (group_is side n c le)) (
-      let g : Group = record { side = side; king = is_king c; first = n; last = n } in
-      let there = covers_other side (is_king c) n m other in
-      record {
-        often = (let e = times_named-cons m g rest in let o = is.often in let none = not_counted (covers m g) there in omega (arith, e, o, none));
-        cell = ap (λ b. cond b (piece_of side (is_king c)) (cell_named m rest)) there ∙ is.cell;
-      })
+    let g : Group = record { side = side; king = is_king c; first = n; last = n } in
+    let there = covers_other side (is_king c) n m other in
+    record {
+      often = (let e = times_named-cons m g rest in let o = is.often in let none = not_counted (covers m g) there in omega (arith, e, o, none));
+      cell = ap (λ b. cond b (piece_of side (is_king c)) (cell_named m rest)) there ∙ is.cell;
+    })
 
 -- the group of the first cell, if there is one
 names-cons : (side : Side) (n : ℕ) (c : Cell) (cells : List Cell) (P : List Group → Type 0) → (belongs side c ≡ true → P (group_of side (printed_item n c) ∷ names side (n + 1) cells)) → (belongs side c ≡ false → P (names side (n + 1) cells)) → P (names side n (c ∷ cells))
 names-cons side n c cells P with_it without_it =
     elim (cases_Bool (belongs side c)) [
-      inl on ↦ subst (λ b. P (map (group_of side) (cond b (printed_item n c ∷ printed_items side (n + 1) cells) (printed_items side (n + 1) cells)))) (sym on) (with_it on)
-    | inr off ↦ subst (λ b. P (map (group_of side) (cond b (printed_item n c ∷ printed_items side (n + 1) cells) (printed_items side (n + 1) cells)))) (sym off) (without_it off)
+      | inl on ↦ subst (λ b. P (map (group_of side) (cond b (printed_item n c ∷ printed_items side (n + 1) cells) (printed_items side (n + 1) cells)))) (sym on) (with_it on)
+      | inr off ↦ subst (λ b. P (map (group_of side) (cond b (printed_item n c ∷ printed_items side (n + 1) cells) (printed_items side (n + 1) cells)))) (sym off) (without_it off)
     ]
 
 -- the squares before these cells are not named
@@ -128,15 +128,15 @@ names-at side n (c ∷ cells) zero le lt =
     let same : n ≡ n + 0 = omega arith in
     let rest = names-before side (n + 1) cells n (omega arith) (omega arith) in
     subst (λ m. NamesAt (names side n (c ∷ cells)) m (cond {A = ℕ} (belongs side c) 1 0) (of_side side c)) same
-      (names-cons side n c cells (λ gs. NamesAt gs n (cond {A = ℕ} (belongs side c) 1 0) (of_side side c))
-        (λ on. subst (λ b. NamesAt (group_of side (printed_item n c) ∷ names side (n + 1) cells) n (cond {A = ℕ} b 1 0) (cond b c Empty)) (sym on) (names-here side n c (names side (n + 1) cells) (omega arith) on rest))
-        (λ off. subst (λ b. NamesAt (names side (n + 1) cells) n (cond {A = ℕ} b 1 0) (cond b c Empty)) (sym off) rest))
+    (names-cons side n c cells (λ gs. NamesAt gs n (cond {A = ℕ} (belongs side c) 1 0) (of_side side c))
+    (λ on. subst (λ b. NamesAt (group_of side (printed_item n c) ∷ names side (n + 1) cells) n (cond {A = ℕ} b 1 0) (cond b c Empty)) (sym on) (names-here side n c (names side (n + 1) cells) (omega arith) on rest))
+    (λ off. subst (λ b. NamesAt (names side (n + 1) cells) n (cond {A = ℕ} b 1 0) (cond b c Empty)) (sym off) rest))
 names-at side n (c ∷ cells) (suc k) le lt =
     let same : n + 1 + k ≡ n + suc k = omega arith in
     let d : Cell = get_or cells k Empty in
     let rest = subst (λ m. NamesAt (names side (n + 1) cells) m (cond {A = ℕ} (belongs side d) 1 0) (of_side side d)) same (names-at side (n + 1) cells k (omega arith) (omega arith)) in
     names-cons side n c cells (λ gs. NamesAt gs (n + suc k) (cond {A = ℕ} (belongs side d) 1 0) (of_side side d))
-      (λ on. names-other side n (n + suc k) c (of_side side d) (cond {A = ℕ} (belongs side d) 1 0) (names side (n + 1) cells) (omega arith) (omega arith) rest) (λ off. rest)
+    (λ on. names-other side n (n + suc k) c (of_side side d) (cond {A = ℕ} (belongs side d) 1 0) (names side (n + 1) cells) (omega arith) (omega arith) rest) (λ off. rest)
 
 -- ---- both lists
 
@@ -144,8 +144,8 @@ cell_named-append : (m : ℕ) (a b : List Group) → cell_named m (a ++ b) ≡ c
 cell_named-append m [] b = refl
 cell_named-append m (g ∷ a) b =
     elim (cases_Bool (covers m g)) [
-      inl e ↦ rw e (full g.side g.king)
-    | inr e ↦ rw e (cell_named-append m a b)
+      | inl e ↦ rw e (full g.side g.king)
+      | inr e ↦ rw e (cell_named-append m a b)
     ]
   where
     full : (side : Side) (king : Bool) → piece_of side king ≡ cond (is_empty (piece_of side king)) (cell_named m b) (piece_of side king)
@@ -157,8 +157,7 @@ both : (c : Cell) (m : ℕ) (white black : List Group) → NamesAt white m (cond
 both c m white black w b =
     let times = sum_by-append (λ (g : Group). cond {A = ℕ} (covers m g) 1 0) white black in
     let often_w = w.often in
-    let often_b = b.often in
-    (
+    let often_b = b.often in (
       (let most : cond {A = ℕ} (belongs White c) 1 0 + cond {A = ℕ} (belongs Black c) 1 0 ≤ 1 = one_owner c in omega (arith, times, often_w, often_b, most)),
       owner c ∙ sym (cell_named-append m white black ∙ ap (λ x. cond (is_empty x) (cell_named m black) x) w.cell ∙ ap (λ x. cond (is_empty (of_side White c)) x (of_side White c)) b.cell),
     )
@@ -169,6 +168,7 @@ both c m white black w b =
     one_owner (Man Black) = omega arith
     one_owner (King White) = omega arith
     one_owner (King Black) = omega arith
+
     owner : (x : Cell) → x ≡ cond (is_empty (of_side White x)) (of_side Black x) (of_side White x)
     owner Empty = refl
     owner (Man White) = refl
@@ -184,8 +184,8 @@ at_square p lawful n square =
     let b = names-at Black 1 p.cells (n - 1) (omega arith) (omega (arith, square.0, square.1)) in
     let c : Cell = get_or p.cells (n - 1) Empty in
     both c n (names White 1 p.cells) (names Black 1 p.cells)
-      (subst (λ m. NamesAt (names White 1 p.cells) m (cond {A = ℕ} (belongs White c) 1 0) (of_side White c)) place w)
-      (subst (λ m. NamesAt (names Black 1 p.cells) m (cond {A = ℕ} (belongs Black c) 1 0) (of_side Black c)) place b)
+    (subst (λ m. NamesAt (names White 1 p.cells) m (cond {A = ℕ} (belongs White c) 1 0) (of_side White c)) place w)
+    (subst (λ m. NamesAt (names Black 1 p.cells) m (cond {A = ℕ} (belongs Black c) 1 0) (of_side Black c)) place b)
 
 pub printed_has_form : (p : Board) → IsLawful p → HasForm (fen_of p) (printed p)
 unfolding fen_of

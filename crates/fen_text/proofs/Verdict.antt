@@ -1,6 +1,5 @@
 -- The one outcome of each text.
-use Rattle.std.proofs.Common.{◌≡◌, ◌≢◌, ℕ, zero, suc, ◌+◌, ◌-◌, ◌<◌, ◌≤◌, ◌↔◌, Bool, true, false, ◌&&◌, List, [], ◌∷◌, ◌++◌, length, get_or, map, Option, Some, None, Result, Ok, Err, refl, sym, ◌∙◌, ap, subst, arith, ◌⊎◌, inl, inr, append-nil, length-append}
-use Rattle.std.specs.Prelude.{IsTrue, IsFalse}
+use Rattle.std.proofs.Common.{◌≡◌, ℕ, zero, suc, ◌+◌, ◌-◌, ◌<◌, ◌≤◌, ◌↔◌, true, List, [], ◌∷◌, ◌++◌, length, get_or, Result, Ok, Err, refl, sym, ◌∙◌, ap, subst, arith, inl, inr, append-nil, length-append}
 use Rattle.std.proofs.lemmas.Bool.{cases_order, and_parts}
 use Rattle.std.proofs.lemmas.List.{ext_get_or, get_or-map, length-map}
 use Rattle.draughts_board.specs.Geometry.{IsSquare, squares}
@@ -13,15 +12,15 @@ use Rattle.fen_text.specs.declared.fault.Fault.{Fault}
 use Rattle.fen_text.specs.declared.fault.Fault.TheVariants.{Letter, Number, End}
 use Rattle.fen_text.specs.declared.refusal.FenRefusal.{FenRefusal}
 use Rattle.fen_text.specs.declared.refusal.FenRefusal.TheVariants.{BadLetter, BadSquare, Twice, TooMany, ManOnLastRow, Truncated}
-use Rattle.fen_text.specs.Spelled.{Group, groups_of, times_named, NoneTwice, IsLeastTwice, cell_named, cells_named, Spells, NamesTwice, IsOver, NamesTooMany, NamesManOnLastRow}
-use Rattle.fen_text.specs.Faults.{Place, front, is_square_due, StandsWrong, NumberWrong, least_square, IsTruncated, IsBadLetter, IsBadSquare}
+use Rattle.fen_text.specs.Spelled.{Group, NoneTwice, IsLeastTwice, cell_named, cells_named, Spells, NamesTwice, IsOver, NamesTooMany, NamesManOnLastRow}
+use Rattle.fen_text.specs.Faults.{front, IsTruncated, IsBadLetter, IsBadSquare}
 use Rattle.fen_text.specs.Reading.{form_at}
 use Rattle.fen_text.specs.Refusal.{refusal_at, IsWithin}
 use Rattle.fen_text.proofs.Lists.{squares_at, squares-length}
 use Rattle.fen_text.proofs.Parts.{not_both}
 use Rattle.fen_text.proofs.Again.{text_again}
 use Rattle.fen_text.proofs.Wrong.{letter_refused, square_refused, number_refused, end_refused}
-use Rattle.fen_text.proofs.ReadForm.{PlaceFails, TextFails, FormRead, FormFound, form_read}
+use Rattle.fen_text.proofs.ReadForm.{TextFails, FormRead, FormFound, form_read}
 
 -- ---- what the contract says of each answer
 
@@ -74,9 +73,9 @@ to_verdict text (Err (BadLetter at)) h =
     subst (λ x. Verdict (length text) x (Err (BadLetter at))) (sym read) (ap (λ k. Err (BadLetter k)) here)
 to_verdict text (Err (BadSquare at)) h =
     let refused : form_at (front h.place ++ h.rest) ≡ Err (Number (length h.rest)) = elim h.wrong [
-        inl w ↦ square_refused h.place h.rest h.sound w.0 w.1
+      | inl w ↦ square_refused h.place h.rest h.sound w.0 w.1
       | inr w ↦ number_refused h.place h.rest w.0 h.sound w.1 w.2
-      ] in
+    ] in
     let read : form_at text ≡ Err (Number (length h.rest)) = ap form_at h.spelled ∙ refused in
     let here : at ≡ length text - length h.rest = h.here ∙ sym (at_place text (front h.place) h.rest h.spelled) in
     subst (λ x. Verdict (length text) x (Err (BadSquare at))) (sym read) (ap (λ k. Err (BadSquare k)) here)
@@ -123,10 +122,10 @@ none_and_twice groups n none twice = (let a = none n twice.square in let b = twi
 one_twice : (groups : List Group) (n m : ℕ) → IsLeastTwice groups n → IsLeastTwice groups m → n ≡ m
 one_twice groups n m a b =
     elim (cases_order n m) [
-      inl e ↦ e
-    | inr lt ↦ elim lt [
-        inl below ↦ (let x = b.least n a.square below in let y = a.twice in absurd (omega (arith, x, y)))
-      | inr above ↦ (let x = a.least m b.square above in let y = b.twice in absurd (omega (arith, x, y)))
+      | inl e ↦ e
+      | inr lt ↦ elim lt [
+        | inl below ↦ (let x = b.least n a.square below in let y = a.twice in absurd (omega (arith, x, y)))
+        | inr above ↦ (let x = a.least m b.square above in let y = b.twice in absurd (omega (arith, x, y)))
       ]
     ]
 
@@ -147,10 +146,10 @@ lawful_and_misplaced p cells n lawful e least =
 one_misplaced : (cells : List Cell) (n m : ℕ) → IsLeastMisplaced cells n → IsLeastMisplaced cells m → n ≡ m
 one_misplaced cells n m a b =
     elim (cases_order n m) [
-      inl e ↦ e
-    | inr lt ↦ elim lt [
-        inl below ↦ absurd (not_both _ (b.3 n a.0 below) a.2)
-      | inr above ↦ absurd (not_both _ (a.3 m b.0 above) b.2)
+      | inl e ↦ e
+      | inr lt ↦ elim lt [
+        | inl below ↦ absurd (not_both _ (b.3 n a.0 below) a.2)
+        | inr above ↦ absurd (not_both _ (a.3 m b.0 above) b.2)
       ]
     ]
 
@@ -221,18 +220,19 @@ pub cells_are : (cells : List Cell) (groups : List Group) → length cells ≡ 3
 cells_are cells groups full named =
     let size : length (cells_named groups) ≡ 32 = length-map squares (λ n. cell_named n groups) ∙ squares-length in
     ext_get_or Empty cells (cells_named groups) (full ∙ sym size) (λ i lt.
-      let within : i < 32 = omega arith in
-      let is : get_or squares i 0 ≡ i + 1 = squares_at i within in
-      let in_squares : i < length squares = (let l = squares-length in omega arith) in
-      let at : get_or (cells_named groups) i Empty ≡ cell_named (i + 1) groups = get_or-map (λ n. cell_named n groups) squares i 0 Empty in_squares ∙ ap (λ n. cell_named n groups) is in
-      let back : i + 1 - 1 ≡ i = omega arith in
-      let here : get_or cells (i + 1 - 1) Empty ≡ cell_named (i + 1) groups = named (i + 1) (omega arith, omega arith) in
-      sym (ap (λ k. get_or cells k Empty) back) ∙ here ∙ sym at)
+    let within : i < 32 = omega arith in
+    let is : get_or squares i 0 ≡ i + 1 = squares_at i within in
+    let in_squares : i < length squares = (let l = squares-length in omega arith) in
+    let at : get_or (cells_named groups) i Empty ≡ cell_named (i + 1) groups = get_or-map (λ n. cell_named n groups) squares i 0 Empty in_squares ∙ ap (λ n. cell_named n groups) is in
+    let back : i + 1 - 1 ≡ i = omega arith in
+    let here : get_or cells (i + 1 - 1) Empty ≡ cell_named (i + 1) groups = named (i + 1) (omega arith, omega arith) in
+    sym (ap (λ k. get_or cells k Empty) back) ∙ here ∙ sym at)
 
 pub one_position : (text : List ℕ) (p q : Board) → Spells text p → Spells text q → p ≡ q
 one_position text p q a b = same p q (one_answer (length text) (form_at text) (Ok p) (Ok q) (to_verdict text (Ok p) a) (to_verdict text (Ok q) b))
   where
     answered : Board → Result Board FenRefusal
     answered x = Ok x
+
     same : (x y : Board) → answered x ≡ answered y → x ≡ y
     same x y e = cc

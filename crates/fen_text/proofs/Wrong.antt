@@ -1,20 +1,18 @@
 -- A text that cannot go on at a place is refused there.
-use Rattle.std.proofs.Common.{◌≡◌, ◌≢◌, ℕ, zero, suc, ◌+◌, ◌-◌, ◌*◌, ◌<◌, ◌≤◌, Bool, true, false, cond, not, ◌&&◌, ◌||◌, ◌==◌, leb, List, [], ◌∷◌, ◌++◌, length, map, Option, Some, None, Result, Ok, Err, refl, sym, ◌∙◌, ap, subst, arith, append_assoc, append-nil, ◌⊎◌, inl, inr}
-use Rattle.std.specs.Prelude.{IfSome}
-use Rattle.std.specs.Option.{option_map_or}
-use Rattle.std.proofs.lemmas.Bool.{leb-true, le-leb, lt-leb, eqb-true, and_parts, and_left, and_right, not-true, or_parts, not_from_false}
+use Rattle.std.proofs.Common.{◌≡◌, ℕ, suc, Bool, true, false, cond, not, ◌&&◌, ◌==◌, leb, List, [], ◌∷◌, ◌++◌, length, map, Option, Some, None, Ok, Err, refl, sym, ◌∙◌, ap, subst, arith, append_assoc, append-nil, inl, inr}
+use Rattle.std.proofs.lemmas.Bool.{lt-leb, and_parts, and_left, and_right, not-true, or_parts}
 use Rattle.draughts_board.specs.Board.{other}
 use Rattle.draughts_board.specs.declared.pieces.Side.{Side}
 use Rattle.draughts_board.specs.declared.pieces.Side.TheVariants.{Black, White}
 use Rattle.fen_text.specs.declared.fault.Fault.{Fault}
 use Rattle.fen_text.specs.declared.fault.Fault.TheVariants.{Letter, Number, End}
-use Rattle.fen_text.specs.Grammar.{letter_of, is_digit, Numeral, one, two, numeral_text, are_digits, value, IsSquareFrom, Item, mark, range_text, item_text, IsItem, comma, further_text, list_text, AreItems, opening_text, turn_text}
-use Rattle.fen_text.specs.Spelled.{Group, last_of, group_of}
-use Rattle.fen_text.specs.Faults.{ends_before, lead_text, Opening, first_list, second_list, opening_front, IsOpening, Started, nothing, king_mark, range_sign, started_text, HasStarted, may_begin, least_started, Place, at_side, at_colon, at_colour, at_other_colour, at_list, in_item, behind_item, at_end, front, IsPlace, closing, carries_on, has_room, may_stand, may_end, is_square_due, least_square, StandsWrong, NumberWrong}
-use Rattle.fen_text.specs.Reading.{◌>>=◌, byte_at, side_at, square_at, king_at, last_at, item_at, items_at, begins_item, list_at, without_stop, end_at, form_at}
+use Rattle.fen_text.specs.Grammar.{letter_of, is_digit, Numeral, one, two, numeral_text, are_digits, value, Item, mark, IsItem, comma, list_text, AreItems, opening_text}
+use Rattle.fen_text.specs.Spelled.{Group, group_of}
+use Rattle.fen_text.specs.Faults.{lead_text, Opening, first_list, second_list, opening_front, IsOpening, Started, nothing, king_mark, range_sign, started_text, HasStarted, least_started, Place, at_side, at_colon, at_colour, at_other_colour, at_list, in_item, behind_item, at_end, front, IsPlace, closing, carries_on, may_end, is_square_due, least_square, StandsWrong, NumberWrong}
+use Rattle.fen_text.specs.Reading.{◌>>=◌, byte_at, side_at, square_at, king_at, last_at, item_at, items_at, begins_item, list_at, end_at, form_at}
 use Rattle.fen_text.proofs.Items.{then_items, items_at-step, with_front}
-use Rattle.fen_text.proofs.Parts.{begins, digit_below, digit_above, stops, stops_at_end, no_comma, ends_at_range, item_begins}
-use Rattle.fen_text.proofs.Again.{tens, first_digit, square_at-number, square_again, king_again, items_before, items_again, list_begins, list_at-items, list_at-none, list_again, after_first, after_second, form_at-first, form_at-second}
+use Rattle.fen_text.proofs.Parts.{begins, digit_below, digit_above, stops, stops_at_end, ends_at_range}
+use Rattle.fen_text.proofs.Again.{square_at-number, square_again, king_again, items_before, items_again, list_begins, list_at-items, list_at-none, list_again, after_first, after_second, form_at-first, form_at-second}
 
 -- ---- squares
 
@@ -22,9 +20,9 @@ use Rattle.fen_text.proofs.Again.{tens, first_digit, square_at-number, square_ag
 square_wrong : (least : ℕ) (rest : List ℕ) → NumberWrong least rest → square_at least rest ≡ Err (Number (length rest))
 square_wrong least rest wrong =
     let out : (leb least (value wrong.number) && leb (value wrong.number) 32) ≡ false = elim wrong.wrong [
-        inl low ↦ and_left _ _ (lt-leb least (value wrong.number) low)
+      | inl low ↦ and_left _ _ (lt-leb least (value wrong.number) low)
       | inr high ↦ and_right _ _ (lt-leb (value wrong.number) 32 high)
-      ] in
+    ] in
     ap (square_at least) wrong.stands ∙ square_at-number least wrong.number wrong.behind wrong.digits wrong.whole
     ∙ ap (λ b. cond b (Ok (value wrong.number, wrong.behind)) (Err (Number (length (numeral_text wrong.number ++ wrong.behind))))) out
     ∙ ap (λ (t : List ℕ). Err (Number (length t))) (sym wrong.stands)
@@ -109,7 +107,7 @@ in_item_fails opening items blanks started rest f is ready e =
     let side = colour_of opening in
     let tail : List ℕ = started_text started ++ rest in
     let parted : front (in_item opening items blanks started) ++ rest ≡ opening_front opening ++ (lead_text items blanks ++ tail) =
-        append_assoc (opening_front opening) (lead_text items blanks ++ started_text started) rest ∙ ap (λ t. opening_front opening ++ t) (append_assoc (lead_text items blanks) (started_text started) rest) in
+    append_assoc (opening_front opening) (lead_text items blanks ++ started_text started) rest ∙ ap (λ t. opening_front opening ++ t) (append_assoc (lead_text items blanks) (started_text started) rest) in
     let item : items_at side tail ≡ Err f = first_item_fails side tail f (item_fails side items started rest f is.2 ready e) in
     let whole : items_at side (lead_text items blanks ++ tail) ≡ Err f = items_before side items blanks tail is.1 (started_begins items started rest is.2 ready) ∙ ap (with_front (map (group_of side) items)) item in
     ap form_at parted ∙ list_fails opening (lead_text items blanks ++ tail) f is.0 (list_at-items side (lead_text items blanks ++ tail) (lead_begins items blanks started rest is.1 is.2) ∙ whole)
@@ -144,16 +142,12 @@ behind_read opening items item rest is ends none =
 
 -- ---- a byte that may not stand there, and no square is due
 
-at_first_byte : (b : ℕ) (behind : List ℕ) → (b == 66) ≡ false → (b == 87) ≡ false → side_at (b ∷ behind) ≡ Err (Letter (suc (length behind)))
-unfolding side_at
-at_first_byte b behind black white = rw (black, white) refl
-
 other_colour_due : (mover colour : Side) (items : List Item) (rest : List ℕ) → AreItems items
     → form_at (front (at_other_colour mover colour items) ++ rest) ≡ (byte_at (letter_of (other colour)) rest >>= λ second. list_at (other colour) second >>= after_second mover (map (group_of colour) items))
 unfolding byte_at
 other_colour_due mover colour items rest all =
     let parted : front (at_other_colour mover colour items) ++ rest ≡ opening_text mover colour ++ (list_text items ++ (58 ∷ rest)) =
-        append_assoc (opening_text mover colour) (list_text items ++ 58 ∷ []) rest ∙ ap (λ t. opening_text mover colour ++ t) (append_assoc (list_text items) (58 ∷ []) rest) in
+    append_assoc (opening_text mover colour) (list_text items ++ 58 ∷ []) rest ∙ ap (λ t. opening_text mover colour ++ t) (append_assoc (list_text items) (58 ∷ []) rest) in
     ap form_at parted ∙ form_at-first mover colour (list_text items ++ (58 ∷ rest)) ∙ ap (λ r. r >>= after_first mover colour) (list_again colour items (58 ∷ rest) all refl)
 
 end_due : (mover colour : Side) (first second : List Item) (rest : List ℕ) → AreItems first → AreItems second
@@ -161,7 +155,7 @@ end_due : (mover colour : Side) (first second : List Item) (rest : List ℕ) →
 end_due mover colour first second rest all_first all_second =
     let opening : Opening = second_list mover colour first in
     let parted : front (at_end mover colour first second) ++ rest ≡ opening_front opening ++ (list_text second ++ (46 ∷ rest)) =
-        append_assoc (opening_front opening) (list_text second ++ 46 ∷ []) rest ∙ ap (λ t. opening_front opening ++ t) (append_assoc (list_text second) (46 ∷ []) rest) in
+    append_assoc (opening_front opening) (list_text second ++ 46 ∷ []) rest ∙ ap (λ t. opening_front opening ++ t) (append_assoc (list_text second) (46 ∷ []) rest) in
     ap form_at parted ∙ form_at-second mover colour first (list_text second ++ (46 ∷ rest)) all_first
     ∙ ap (λ r. r >>= after_second mover (map (group_of colour) first)) (list_again (other colour) second (46 ∷ rest) all_second refl)
 

@@ -1,9 +1,8 @@
 -- Where a text cannot go on. A place is what stands before it, in the grammar's parts; each place says which bytes may
 -- stand there, which square, and whether the text may end there.
-use Rattle.std.specs.Prelude.{◌≡◌, ◌≢◌, ℕ, ◌+◌, ◌<◌, ◌⊎◌, List, [], ◌∷◌, ◌++◌, length, Option, Some, None, Bool, true, false, ◌&&◌, ◌||◌, not, ◌==◌}
+use Rattle.std.specs.Prelude.{◌≡◌, ◌≢◌, ℕ, ◌<◌, ◌⊎◌, List, [], ◌∷◌, ◌++◌, length, Option, Some, None, Bool, true, false, ◌&&◌, ◌||◌, not, ◌==◌}
 use Rattle.draughts_board.specs.Board.{other}
 use Rattle.draughts_board.specs.declared.pieces.Side.{Side}
-use Rattle.draughts_board.specs.declared.pieces.Side.TheVariants.{Black, White}
 use Rattle.fen_text.specs.Grammar.{letter_of, is_digit, Numeral, one, two, numeral_text, are_digits, value, IsSquareFrom, Item, mark, IsItem, AreItems, comma, list_text, opening_text, turn_text}
 
 -- ---- places
@@ -205,4 +204,4 @@ pub record IsBadSquare (text : List ℕ) (at : ℕ) : Type 0 where
   pub spelled : text ≡ front place ++ rest
   pub here : at ≡ length (front place)
   pub wrong : ((is_square_due place ≡ true) × StandsWrong place rest)
-    ⊎ ((least : ℕ) × (least_square place ≡ Some least) × NumberWrong least rest)
+      ⊎ ((least : ℕ) × (least_square place ≡ Some least) × NumberWrong least rest)

@@ -1,5 +1,5 @@
 -- Laws of the printed spelling.
-use Rattle.std.specs.Prelude.{◌≡◌, ℕ, ◌≤◌, List, length, Bool, true, ◌||◌, ◌==◌, All}
+use Rattle.std.specs.Prelude.{◌≡◌, ℕ, List, Bool, true, ◌||◌, ◌==◌, All}
 use Rattle.draughts_board.specs.Board.{Board, IsLawful}
 use Rattle.fen_text.specs.Grammar.{is_digit}
 use Rattle.fen_text.specs.Spelled.{Spells}

@@ -8,7 +8,7 @@ use Rattle.draughts_board.specs.declared.pieces.Side.TheVariants.{Black, White}
 use Rattle.fen_text.specs.declared.fault.Fault.{Fault}
 use Rattle.fen_text.specs.declared.fault.Fault.TheVariants.{Letter, Number, End}
 use Rattle.fen_text.specs.Grammar.{letter_of, is_digit}
-use Rattle.fen_text.specs.Spelled.{Group, piece_of}
+use Rattle.fen_text.specs.Spelled.{Group}
 
 infixl 10 ◌>>=◌
 abbrev pub ◌>>=◌ : {A B : Type 0} → Result A Fault → (A → Result B Fault) → Result B Fault

@@ -10,12 +10,9 @@ mod fault;
 mod group;
 mod laws;
 mod printing;
-
 mod reading;
 mod refusal;
 mod setup;
-
-
 
 pub use laws::{printed_is_plain, printed_is_spelled, printed_tells_apart, spelled_tells_apart};
 pub use printing::print_fen;
@@ -24,4 +21,3 @@ pub use refusal::FenRefusal;
 
 #[cfg(test)]
 mod tests;
-

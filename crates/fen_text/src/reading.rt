@@ -1,15 +1,13 @@
 //! Reading a text from the front. Each part answers what it read and the bytes behind it.
-ghost use Rattle.std.specs.Prelude.{◌≡◌, ◌<◌, ◌≤◌, ◌↔◌, ℕ, ◌++◌, List, IfOk, IfSome, length};
+ghost use Rattle.std.specs.Prelude.{◌≡◌, ◌<◌, ◌≤◌, ◌↔◌, ℕ, IfOk, IfSome, length};
 ghost use Rattle.std.specs.Option.{option_map};
 ghost use Rattle.draughts_board.specs.Board.{Board, IsLawful};
-ghost use Rattle.fen_text.specs.Grammar.{letter_of, is_digit};
-ghost use Rattle.fen_text.specs.Spelled.{Group as Named, Spells, NamesTwice, NamesTooMany, NamesManOnLastRow};
+ghost use Rattle.fen_text.specs.Spelled.{Spells, NamesTwice, NamesTooMany, NamesManOnLastRow};
 ghost use Rattle.fen_text.specs.Faults.{IsBadLetter, IsBadSquare, IsTruncated};
 ghost use Rattle.fen_text.specs.Printed.{fen_of};
 ghost use Rattle.fen_text.specs.Refusal.{IsWithin, refusal_at};
 ghost use Rattle.draughts_board.specs.declared.pieces.Side.{Side as Player};
 ghost use Rattle.fen_text.specs.Reading.{Gives, byte_at, side_at, second_digit, square_at, king_at, last_at, item_at, without_blanks, after_comma, items_at, list_at, without_stop, end_at, form_at};
-ghost use Rattle.fen_text.specs.Setup.{Holds};
 ghost use Rattle.fen_text.specs.Seen.{group_seen, GivesGroups, GivesSetup};
 
 use crate::fault::Fault;

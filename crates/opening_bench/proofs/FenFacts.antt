@@ -14,8 +14,9 @@ lacks : (c : ℕ) (text : List ℕ) → is_printed_byte c ≡ false → AllByRec
 lacks c [] other all = refl
 lacks c (x ∷ text) other all =
     elim (bool_cases (x == c)) [
-        inl t ↦ absurd (let same : x ≡ c = grind arith in true≢false (sym all.0 ∙ ap is_printed_byte same ∙ other))
-      | inr f ↦ ap (λ b. b || list_any (λ n. n == c) text) f ∙ lacks c text other all.1 ]
+      | inl t ↦ absurd (let same : x ≡ c = grind arith in true≢false (sym all.0 ∙ ap is_printed_byte same ∙ other))
+      | inr f ↦ ap (λ b. b || list_any (λ n. n == c) text) f ∙ lacks c text other all.1
+    ]
 
 pub Lacks-fen : (c : ℕ) (p : Board) → is_printed_byte c ≡ false → IsLawful p → Lacks c (fen_of p)
 Lacks-fen c p other lawful = lacks c (fen_of p) other (recursion_from_All (λ b. is_printed_byte b ≡ true) (fen_of p) (printed_is_plain p lawful))

@@ -48,6 +48,7 @@ first_line_of (c ∷ front) = elim (bool_cases (c == 10)) [ inl t ↦ here t | i
   where
     here : (c == 10) ≡ true → FirstLine (c ∷ (front ++ 10 ∷ []))
     here t = let e : c ≡ 10 = grind arith in record { body = []; rest = front ++ 10 ∷ []; bare = refl; ends = inr (front, refl); split = ap (λ n. n ∷ (front ++ 10 ∷ [])) e }
+
     further : (c == 10) ≡ false → FirstLine (front ++ 10 ∷ []) → FirstLine (c ∷ (front ++ 10 ∷ []))
     further f l = record { body = c ∷ l.body; rest = l.rest; bare = ap (λ b. b || list_any (λ n. n == 10) l.body) f ∙ l.bare; ends = l.ends; split = ap (λ t. c ∷ t) l.split }
 
@@ -64,21 +65,21 @@ empty_split (x ∷ a) b c line e = cc
 
 -- a whole line of a text of lines is one of them
 pub line_among : (lines : List (List ℕ)) (before line after : List ℕ) → AllByRecursion IsLine lines → IsLine line → EndsLine before
-  → before ++ (line ++ after) ≡ flat_map (λ l. l) lines → Contains lines line
+    → before ++ (line ++ after) ≡ flat_map (λ l. l) lines → Contains lines line
 line_among [] before line after each one ends e = absurd (empty_split before line after one e)
 line_among (l ∷ lines) before line after each one (inl nothing) e =
     let lined : (one.0 ++ 10 ∷ []) ++ after ≡ (each.0.0 ++ 10 ∷ []) ++ flat_map (λ l. l) lines =
-          ap (λ t. t ++ after) (sym one.1.1) ∙ ap (λ b. b ++ (line ++ after)) (sym nothing) ∙ e ∙ ap (λ t. t ++ flat_map (λ l. l) lines) each.0.1.1 in
+    ap (λ t. t ++ after) (sym one.1.1) ∙ ap (λ b. b ++ (line ++ after)) (sym nothing) ∙ e ∙ ap (λ t. t ++ flat_map (λ l. l) lines) each.0.1.1 in
     let bodies = fields_agree 10 one.0 each.0.0 after (flat_map (λ l. l) lines) one.1.0 each.0.1.0
-          (sym (append_assoc one.0 (10 ∷ []) after) ∙ lined ∙ append_assoc each.0.0 (10 ∷ []) (flat_map (λ l. l) lines)) in
+    (sym (append_assoc one.0 (10 ∷ []) after) ∙ lined ∙ append_assoc each.0.0 (10 ∷ []) (flat_map (λ l. l) lines)) in
     let same : line ≡ l = one.1.1 ∙ ap (λ b. b ++ 10 ∷ []) bodies.0 ∙ sym each.0.1.1 in
     subst (λ x. Contains (l ∷ lines) x) (sym same) (Contains-head l lines)
 line_among (l ∷ lines) before line after each one (inr ended) e =
     let first = first_line_of ended.0 in
     let lined : first.body ++ 10 ∷ (first.rest ++ (line ++ after)) ≡ each.0.0 ++ 10 ∷ flat_map (λ l. l) lines =
-          sym (append_assoc first.body (10 ∷ first.rest) (line ++ after))
-          ∙ ap (λ t. t ++ (line ++ after)) (sym first.split ∙ sym ended.1) ∙ e
-          ∙ ap (λ t. t ++ flat_map (λ l. l) lines) each.0.1.1 ∙ append_assoc each.0.0 (10 ∷ []) (flat_map (λ l. l) lines) in
+    sym (append_assoc first.body (10 ∷ first.rest) (line ++ after))
+    ∙ ap (λ t. t ++ (line ++ after)) (sym first.split ∙ sym ended.1) ∙ e
+    ∙ ap (λ t. t ++ flat_map (λ l. l) lines) each.0.1.1 ∙ append_assoc each.0.0 (10 ∷ []) (flat_map (λ l. l) lines) in
     let rest = fields_agree 10 first.body each.0.0 (first.rest ++ (line ++ after)) (flat_map (λ l. l) lines) first.bare each.0.1.0 lined in
     Contains-tail l line lines (line_among lines first.rest line after each.1 one first.ends rest.1)
 

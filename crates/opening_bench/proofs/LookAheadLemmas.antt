@@ -42,11 +42,12 @@ not_at_sight p q lawful h =
     let path = path-to_successor p q lawful h in
     let some : 1 ≤ piece_count p = (let a = mover_has_pieces p path.0 path.1.0 in let b = side_of_all p p.to_move in omega (arith, a, b)) in
     both (is_nil (successors_of p)) (nat_le (piece_count p) 0) (nil (successors_of p) q h)
-      (elim (bool_cases (nat_le (piece_count p) 0)) [ inl t ↦ absurd (let e = leb-true _ _ t in omega (arith, some, e)) | inr f ↦ f ])
+    (elim (bool_cases (nat_le (piece_count p) 0)) [ inl t ↦ absurd (let e = leb-true _ _ t in omega (arith, some, e)) | inr f ↦ f ])
   where
     both : (a b : Bool) → a ≡ false → b ≡ false → (a || b) ≡ false
     both true b h g = h
     both false b h g = g
+
     nil : (xs : List Board) (x : Board) → Contains xs x → is_nil xs ≡ false
     nil [] x h = absurd (Contains-nil x h)
     nil (y ∷ ys) x h = refl
@@ -66,20 +67,22 @@ won_by_move p q d e lawful h is shown = subst (λ n. ShowsWin draughts 0 p.to_mo
 
 -- every successor is won for the other side
 pub lost_by_replies : (p q : Board) (d e : ℕ) → IsLawful p → Contains (successors_of p) q → e ≡ suc d
-  → ((r : Board) → Contains (successors_of p) r → ShowsWin draughts 0 (other p.to_move) d r) → ShowsWin draughts 0 (other p.to_move) e p
+    → ((r : Board) → Contains (successors_of p) r → ShowsWin draughts 0 (other p.to_move) d r) → ShowsWin draughts 0 (other p.to_move) e p
 lost_by_replies p q d e lawful h is each =
     subst (λ n. ShowsWin draughts 0 (other p.to_move) n p) (sym is) (inr (not_at_sight p q lawful h, by_every_reply (sym (other-other p.to_move)) each))
 
 -- no successor is won for the mover, and one is not won for the other side
 pub neither_shown : (p q : Board) (d e : ℕ) → IsLawful p → Contains (successors_of p) q → e ≡ suc d
-  → ((r : Board) → Contains (successors_of p) r → ShowsWin draughts 0 p.to_move d r → ⊥) → (ShowsWin draughts 0 (other p.to_move) d q → ⊥) → ShowsWinner p e None
+    → ((r : Board) → Contains (successors_of p) r → ShowsWin draughts 0 p.to_move d r → ⊥) → (ShowsWin draughts 0 (other p.to_move) d q → ⊥) → ShowsWinner p e None
 neither_shown p q d e lawful h is none held = subst (λ n. ShowsWinner p n None) (sym is) (λ s shown. by_case s shown)
   where
     sight : is_at_sight draughts 0 p ≡ false
     sight = not_at_sight p q lawful h
+
     by_force : (s : Side) → CanForce draughts s (ShowsWin draughts 0 s d) p → ⊥
     by_force s (by_move r mine next won) = none r next (subst (λ t. ShowsWin draughts 0 t d r) (sym mine) won)
     by_force s (by_every_reply theirs all) = held (subst (λ t. ShowsWin draughts 0 t d q) (sym (other-other s) ∙ ap other (sym theirs)) (all q h))
+
     by_case : (s : Side) → ShowsWin draughts 0 s (suc d) p → ⊥
     by_case s (inl sighted) = true≢false (sym sighted.0 ∙ sight)
     by_case s (inr f) = by_force s f.1
@@ -140,23 +143,24 @@ module _ (d : ℕ) (p : Board) (xs : List Board) (i : ℕ) (q : Board) (within :
 
   -- the same from what was answered of the successor
   pub looked_at_more : (w : Option Side) (all_lost now : Bool) → option_eq side.eq-value.it w (Some p.to_move) ≡ false → ShowsWinner q d w
-    → (w ≡ None → now ≡ false) → (w ≡ Some (other p.to_move) → now ≡ all_lost) → LookedAt d p xs (take i xs) all_lost → LookedAt d p xs (take (i + 1) xs) now
+      → (w ≡ None → now ≡ false) → (w ≡ Some (other p.to_move) → now ≡ all_lost) → LookedAt d p xs (take i xs) all_lost → LookedAt d p xs (take (i + 1) xs) now
   looked_at_more w all_lost now other_one shown none some l =
       elim (is_no_winner w p.to_move other_one) [
-          inl e ↦ looked_at_open all_lost now (none e) (subst (ShowsWinner q d) e shown) l
-        | inr e ↦ looked_at_lost all_lost now (some e) (subst (ShowsWinner q d) e shown) l ]
+        | inl e ↦ looked_at_open all_lost now (none e) (subst (ShowsWinner q d) e shown) l
+        | inr e ↦ looked_at_lost all_lost now (some e) (subst (ShowsWinner q d) e shown) l
+      ]
 
 -- the end of the loop
 pub looked_at_all : (d e : ℕ) (p : Board) (xs : List Board) (i : ℕ) → IsLawful p → xs ≡ successors_of p → (length xs == 0) ≡ false → e ≡ suc d → length xs ≤ i
-  → LookedAt d p xs (take i xs) true → ShowsWin draughts 0 (other p.to_move) e p
+    → LookedAt d p xs (take i xs) true → ShowsWin draughts 0 (other p.to_move) e p
 looked_at_all d e p xs i lawful is some more all l =
     let one = some_member xs some in
     lost_by_replies p one.0 d e lawful (subst (λ next. Contains next one.0) is one.1) more
-      (λ r h. l.lost refl r (subst (λ seen. Contains seen r) (sym (take_all i xs all ∙ is)) h))
+    (λ r h. l.lost refl r (subst (λ seen. Contains seen r) (sym (take_all i xs all ∙ is)) h))
 
 pub looked_at_held : (d e : ℕ) (p : Board) (xs : List Board) (i : ℕ) → IsLawful p → xs ≡ successors_of p → e ≡ suc d → length xs ≤ i
-  → LookedAt d p xs (take i xs) false → ShowsWinner p e None
+    → LookedAt d p xs (take i xs) false → ShowsWinner p e None
 looked_at_held d e p xs i lawful is more all l =
     let one = l.held refl in
     neither_shown p one.0 d e lawful (subst (λ next. Contains next one.0) is one.1.0) more
-      (λ r h. l.none r (subst (λ seen. Contains seen r) (sym (take_all i xs all ∙ is)) h)) one.1.1
+    (λ r h. l.none r (subst (λ seen. Contains seen r) (sym (take_all i xs all ∙ is)) h)) one.1.1

@@ -49,11 +49,15 @@ Lacks-root_body n p v l lawful =
 
 pub root_line-is_line : (n : ℕ) (p : Board) (v : Option Value) → n < 2 ^ 64 → IsLawful p → IsLine (root_line n p v)
 unfolding root_body
-root_line-is_line n p v l lawful =
-    (root_body n p v, (Lacks-root_body n p v l lawful,
-      sym (append_assoc (codes "root ") (decimal n ++ 32 ∷ (fen_of p ++ 32 ∷ word_of v)) (10 ∷ [])
+root_line-is_line n p v l lawful = (
+  root_body n p v,
+  (
+    Lacks-root_body n p v l lawful,
+    sym (append_assoc (codes "root ") (decimal n ++ 32 ∷ (fen_of p ++ 32 ∷ word_of v)) (10 ∷ [])
         ∙ ap (λ t. codes "root " ++ t) (append_assoc (decimal n) (32 ∷ (fen_of p ++ 32 ∷ word_of v)) (10 ∷ [])
-          ∙ ap (λ t. decimal n ++ 32 ∷ t) (append_assoc (fen_of p) (32 ∷ word_of v) (10 ∷ []))))))
+        ∙ ap (λ t. decimal n ++ 32 ∷ t) (append_assoc (fen_of p) (32 ∷ word_of v) (10 ∷ [])))),
+  ),
+)
 
 AllLawful : List Root → Type 0
 AllLawful roots = (r : Root) → Contains roots r → IsLawful r.position
@@ -61,9 +65,10 @@ AllLawful roots = (r : Root) → Contains roots r → IsLawful r.position
 root_lines-are_lines : (n : ℕ) (roots : List Root) → n + length roots < 2 ^ 64 → AllLawful roots → AllByRecursion IsLine (root_lines n roots)
 unfolding AllLawful
 root_lines-are_lines n [] l lawful = tt
-root_lines-are_lines n (r ∷ roots) l lawful =
-    (root_line-is_line n r.position r.value (omega arith) (lawful r (Contains-head r roots)),
-     root_lines-are_lines (n + 1) roots (omega arith) (λ q h. lawful q (Contains-tail r q roots h)))
+root_lines-are_lines n (r ∷ roots) l lawful = (
+  root_line-is_line n r.position r.value (omega arith) (lawful r (Contains-head r roots)),
+  root_lines-are_lines (n + 1) roots (omega arith) (λ q h. lawful q (Contains-tail r q roots h)),
+)
 
 -- ---- so is the summary
 
@@ -86,14 +91,17 @@ summary_line-is_line roots l =
     let with_settled : Lacks 10 settled = Lacks-append 10 (decimal (settled_count roots)) unsolved (Lacks-decimal 10 (settled_count roots) (lit< tt) few) with_unsolved in
     let with_word : Lacks 10 settled_word = Lacks-append 10 (codes " settled ") settled refl with_settled in
     let with_total : Lacks 10 total = Lacks-append 10 (decimal (length roots)) settled_word (Lacks-decimal 10 (length roots) (lit< tt) l) with_word in
-    let with_roots : Lacks 10 (summary_body roots) = Lacks-append 10 (codes "roots ") total refl with_total in
-    (summary_body roots,
-     (with_roots,
-      sym (append_assoc (codes "roots ") _ (10 ∷ [])
-        ∙ ap (λ t. codes "roots " ++ t) (append_assoc (decimal (length roots)) _ (10 ∷ [])
-          ∙ ap (λ t. decimal (length roots) ++ t) (append_assoc (codes " settled ") _ (10 ∷ [])
+    let with_roots : Lacks 10 (summary_body roots) = Lacks-append 10 (codes "roots ") total refl with_total in (
+      summary_body roots,
+      (
+        with_roots,
+        sym (append_assoc (codes "roots ") _ (10 ∷ [])
+            ∙ ap (λ t. codes "roots " ++ t) (append_assoc (decimal (length roots)) _ (10 ∷ [])
+            ∙ ap (λ t. decimal (length roots) ++ t) (append_assoc (codes " settled ") _ (10 ∷ [])
             ∙ ap (λ t. codes " settled " ++ t) (append_assoc (decimal (settled_count roots)) _ (10 ∷ [])
-              ∙ ap (λ t. decimal (settled_count roots) ++ t) (append_assoc (codes " unsolved ") (decimal (length roots - settled_count roots)) (10 ∷ [])))))))) 
+            ∙ ap (λ t. decimal (settled_count roots) ++ t) (append_assoc (codes " unsolved ") (decimal (length roots - settled_count roots)) (10 ∷ [])))))),
+      ),
+    )
 
 push_lines : (lines : List (List ℕ)) (line : List ℕ) → AllByRecursion IsLine lines → IsLine line → AllByRecursion IsLine (lines ++ line ∷ [])
 push_lines [] line each one = (one, tt)
@@ -124,7 +132,7 @@ word_of-tells Draw None e = absurd (first_differ (word_of (Some Draw) ++ 10 ∷ 
 root_line-tells : (n m : ℕ) (p q : Board) (v : Value) (w : Option Value) → n < 2 ^ 64 → m < 2 ^ 64 → IsLawful p → IsLawful q → root_line n p (Some v) ≡ root_line m q w → (fen_of p ≡ fen_of q) × (w ≡ Some v)
 root_line-tells n m p q v w ln lm lp lq e =
     let numbers = fields_agree 32 (decimal n) (decimal m) (fen_of p ++ 32 ∷ (word_of (Some v) ++ 10 ∷ [])) (fen_of q ++ 32 ∷ (word_of w ++ 10 ∷ []))
-          (Lacks-decimal 32 n (lit< tt) ln) (Lacks-decimal 32 m (lit< tt) lm) (ap (drop 5) e) in
+    (Lacks-decimal 32 n (lit< tt) ln) (Lacks-decimal 32 m (lit< tt) lm) (ap (drop 5) e) in
     let fens = fields_agree 32 (fen_of p) (fen_of q) (word_of (Some v) ++ 10 ∷ []) (word_of w ++ 10 ∷ []) (Lacks-fen 32 p refl lp) (Lacks-fen 32 q refl lq) numbers.1 in
     (fens.0, word_of-tells v w fens.1)
 
@@ -133,12 +141,13 @@ no_summary n p v roots e = let h : ◌≡◌ {A = ℕ} 32 115 = ap (λ t. get_or
 
 -- the line of one of the roots
 line_of_root : (m : ℕ) (roots : List Root) (line : List ℕ) → m + length roots < 2 ^ 64 → Contains (root_lines m roots) line
-  → (k : ℕ) × ((r : Root) × (Contains roots r × ((k < 2 ^ 64) × (root_line k r.position r.value ≡ line))))
+    → (k : ℕ) × ((r : Root) × (Contains roots r × ((k < 2 ^ 64) × (root_line k r.position r.value ≡ line))))
 line_of_root m [] line l h = absurd (Contains-nil line h)
 line_of_root m (r ∷ roots) line l h =
     elim (Contains-cons_cases (root_line m r.position r.value) (root_lines (m + 1) roots) line h) [
-        inl e ↦ (m, (r, (Contains-head r roots, (omega arith, e))))
-      | inr rest ↦ (let found = line_of_root (m + 1) roots line (omega arith) rest in (found.0, (found.1.0, (Contains-tail r found.1.0 roots found.1.1.0, found.1.1.1)))) ]
+      | inl e ↦ (m, (r, (Contains-head r roots, (omega arith, e))))
+      | inr rest ↦ (let found = line_of_root (m + 1) roots line (omega arith) rest in (found.0, (found.1.0, (Contains-tail r found.1.0 roots found.1.1.0, found.1.1.1))))
+    ]
 
 -- ---- what is shown is true
 
@@ -149,17 +158,18 @@ won_by-wins (Some White) v d p e shown = let is : WhiteWins ≡ v = cc in subst 
 
 -- the front of a report holds true values alone
 pub report-is_true : (d : ℕ) (roots : List Root) (front back : List ℕ) → 1 + length roots < 2 ^ 64
-  → ((r : Root) → Contains roots r → IsLawful r.position × IsShown d r) → report_of roots ≡ front ++ back → ValuesAreTrue front
+    → ((r : Root) → Contains roots r → IsLawful r.position × IsShown d r) → report_of roots ≡ front ++ back → ValuesAreTrue front
 unfolding AllLawful
 report-is_true d roots front back few each whole n p v small lawful has =
     let line : List ℕ = root_line n p (Some v) in
     let lawful_all : AllLawful roots = λ r h. (each r h).0 in
     let stands : has.before ++ (line ++ (has.after ++ back)) ≡ report_of roots =
-          ap (λ t. has.before ++ t) (sym (append_assoc line has.after back)) ∙ sym (append_assoc has.before (line ++ has.after) back) ∙ ap (λ t. t ++ back) (sym has.split) ∙ sym whole in
+    ap (λ t. has.before ++ t) (sym (append_assoc line has.after back)) ∙ sym (append_assoc has.before (line ++ has.after) back) ∙ ap (λ t. t ++ back) (sym has.split) ∙ sym whole in
     let among = line_among (report_lines roots) has.before line (has.after ++ back) (report_lines-are_lines roots few lawful_all) (root_line-is_line n p (Some v) small lawful) has.begins stands in
     elim (Contains-push_cases (root_lines 1 roots) (summary_line roots) line among) [
-        inl mine ↦ of_root (line_of_root 1 roots line few mine)
-      | inr last ↦ absurd (no_summary n p v roots (sym last)) ]
+      | inl mine ↦ of_root (line_of_root 1 roots line few mine)
+      | inr last ↦ absurd (no_summary n p v roots (sym last))
+    ]
   where
     of_root : (k : ℕ) × ((r : Root) × (Contains roots r × ((k < 2 ^ 64) × (root_line k r.position r.value ≡ root_line n p (Some v))))) → HasValue draughts p v
     of_root (k, (r, (member, (below, same)))) =

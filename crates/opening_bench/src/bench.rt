@@ -12,7 +12,9 @@ use crate::input::position_of;
 use crate::look_ahead::shown_winner;
 use crate::report::report;
 use crate::roots::Root;
-use bench_edges::{Command, ReadRefusal, Sink, Source, Status, read_to_limit, read_words, write_all};
+use bench_edges::{
+    Command, ReadRefusal, Sink, Source, Status, read_to_limit, read_words, write_all,
+};
 use draughts_board::{Position, Side, Value};
 use std::alloc::{AllocError, Global};
 
@@ -93,7 +95,12 @@ fn write_report<K: Sink>(alloc: Global, root: &Root, sink: &mut K) -> Status
 ///
 /// `words` are those of the command line without the program's name: a path, `solve`, and its option. Every call
 /// returns. Want of memory is answered by the status `Memory`.
-pub fn bench<S: Source, K: Sink>(alloc: Global, words: &[&str], source: &mut S, sink: &mut K) -> Status
+pub fn bench<S: Source, K: Sink>(
+    alloc: Global,
+    words: &[&str],
+    source: &mut S,
+    sink: &mut K,
+) -> Status
     // Every value that is written is true.
     ensures values { WritesOnly (K.taken sink.old) (K.taken sink.new) ValuesAreTrue }
 

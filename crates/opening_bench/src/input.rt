@@ -49,5 +49,9 @@ pub(crate) fn position_of(text: &[u8]) -> Option<Position>
     let Ok(position) = read_fen(fen) else {
         return None;
     };
-    if print_fen(&position).as_bytes() == fen { Some(position) } else { None }
+    if print_fen(&position).as_bytes() == fen {
+        Some(position)
+    } else {
+        None
+    }
 }

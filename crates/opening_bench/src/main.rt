@@ -15,9 +15,8 @@ mod tests;
 
 pub use bench::bench as run;
 use bench_edges::{Status, StdSink, StdSource};
-use std::env;
-use std::io;
 use std::process::ExitCode;
+use std::{env, io};
 
 /// The exit status where the words cannot be had for another cause than want of memory. No call answers it.
 const NO_WORDS: u8 = 9;
@@ -26,10 +25,14 @@ const NO_WORDS: u8 = 9;
 fn read_args(rt: &HostRuntime) -> Result<Vec<String>, u8> {
     let args = match env::args(rt) {
         Ok(args) => args,
-        Err(error) if error.kind() == io::ErrorKind::OutOfMemory => return Err(Status::Memory.number()),
+        Err(error) if error.kind() == io::ErrorKind::OutOfMemory => return Err(
+            Status::Memory.number(),
+        ),
         Err(_) => return Err(NO_WORDS),
     };
-    args.skip(1).collect(rt.alloc()).map_err(|_| Status::Memory.number())
+    args.skip(1)
+        .collect(rt.alloc())
+        .map_err(|_| Status::Memory.number())
 }
 
 /// Calls `bench` on the words, standard input and standard output, and gives its status.

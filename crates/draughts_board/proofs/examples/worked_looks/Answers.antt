@@ -5,7 +5,7 @@ use Rattle.draughts_board.specs.Board.{start_board}
 use Rattle.draughts_board.specs.Geometry.{squares}
 use Rattle.draughts_board.specs.Play.{grown, captures, steps, legal_paths, successors_of}
 use Rattle.draughts_board.specs.Draughts.{draughts}
-use Rattle.draughts_board.specs.Game.{WinsIn, by_move, by_every_reply, is_at_sight, ShowsWin, ShowsHold}
+use Rattle.draughts_board.specs.Game.{WinsIn, by_move, by_every_reply, is_at_sight, ShowsHold}
 use Rattle.draughts_board.specs.declared.pieces.Side.{Side}
 use Rattle.draughts_board.specs.declared.pieces.Side.TheVariants.{Black, White}
 use Rattle.draughts_board.specs.Examples.{man_blocked, man_to_block, shuttle}

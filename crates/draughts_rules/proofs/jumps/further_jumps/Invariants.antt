@@ -1,6 +1,6 @@
 use Rattle.std.proofs.Common.{◌≡◌, take}
 use Rattle.std.specs.Prelude.{filter}
-use Rattle.draughts_rules.specs.Tests.{is_open_further}
+use Rattle.draughts_rules.specs.Conditions.{is_open_further}
 use Rattle.draughts_rules.proofs.jumps.further_jumps.Given as goal
 
 abbrev pub invariant-loop-number : goal.invariant-loop-number

@@ -1,6 +1,6 @@
 use Rattle.std.proofs.Common.{◌≡◌, ◌∙◌, sym, ap, true, false, List, ℕ, inl, inr}
 use Rattle.draughts_board.specs.Board.{Board}
-use Rattle.draughts_rules.specs.Tests.{is_capture, is_lone_step}
+use Rattle.draughts_rules.specs.Conditions.{is_capture, is_lone_step}
 use Rattle.draughts_rules.proofs.LegalTests.{capture-from_test, test-from_capture, step-from_test, test-from_step}
 use Rattle.draughts_rules.proofs.legality.is_legal.Goals as goal
 

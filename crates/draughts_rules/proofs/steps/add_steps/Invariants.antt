@@ -1,6 +1,6 @@
 use Rattle.std.proofs.Common.{◌≡◌, ◌++◌, ◌∷◌, [], take}
 use Rattle.std.specs.Prelude.{filter, flat_map}
-use Rattle.draughts_rules.specs.Tests.{is_open_step}
+use Rattle.draughts_rules.specs.Conditions.{is_open_step}
 use Rattle.draughts_rules.proofs.steps.add_steps.Given as goal
 
 abbrev pub invariant-loop-number : goal.invariant-loop-number

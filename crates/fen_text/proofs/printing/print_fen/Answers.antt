@@ -1,6 +1,5 @@
-use Rattle.std.proofs.Common.{◌≡◌, ◌++◌, ◌∷◌, [], refl, ◌∙◌, arith}
-use Rattle.fen_text.specs.Grammar.{letter_of, list_text}
-use Rattle.fen_text.specs.Printed.{fen_of, printed_items}
+use Rattle.std.proofs.Common.{refl, ◌∙◌, arith}
+use Rattle.fen_text.specs.Printed.{fen_of}
 use Rattle.fen_text.proofs.Lists.{printed_text}
 use Rattle.fen_text.proofs.printing.print_fen.Goals as goal
 

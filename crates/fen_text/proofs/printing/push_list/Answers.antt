@@ -1,8 +1,8 @@
-use Rattle.std.proofs.Common.{◌≡◌, ◌+◌, ◌≤◌, Bool, true, false, arith, sym, refl, ◌∙◌, ap, ◌∷◌, [], ◌++◌, get_or, length, take, length-append}
+use Rattle.std.proofs.Common.{◌≡◌, ◌+◌, true, false, arith, sym, refl, ◌∙◌, ap, ◌∷◌, [], ◌++◌, get_or, length, take, length-append}
 use Rattle.draughts_board.specs.Board.{belongs}
 use Rattle.draughts_board.specs.declared.pieces.Cell.TheVariants.{Empty}
 use Rattle.fen_text.specs.Printed.{printed_item, printed_items, next_text}
-use Rattle.fen_text.proofs.Lists.{most_items, items_more, items_same, square_is, cell_is, so_far-push, ListSoFar}
+use Rattle.fen_text.proofs.Lists.{most_items, items_more, items_same, square_is, cell_is, so_far-push}
 use Rattle.fen_text.proofs.printing.push_list.Goals as goal
 use Rattle.fen_text.proofs.printing.push_list.Goals.{then-belongs_to, else-belongs_to}
 
@@ -22,14 +22,14 @@ loop-square-preserved c =
     let here = square_is c.all-square-items.result i c.square-item.result c.all-square-items.ensures c.loop-square-test.true in
     let cell = cell_is p i (get_or c.all-square-items.result i c.square-item.result) c.at-cell.result here c.at-cell.ensures.value in
     elim c.if-belongs_to.branch [
-      then-belongs_to w ↦ (
-        let mine : belongs c.args.side (get_or p.cells i Empty) ≡ true = sym (ap (belongs c.args.side) cell) ∙ sym c.belongs_to.ensures ∙ w.if-belongs_to.true in
-        let bytes : w.push_next.new.text.bytes ≡ c.loop-square.text.bytes ++ next_text c.loop-square.is_first (printed_item (i + 1) (get_or p.cells i Empty)) = w.push_next.ensures.bytes ∙ rw (here, cell) refl in
-        let step = so_far-push c.args.text.now.bytes c.loop-square.text.bytes w.push_next.new.text.bytes c.loop-square.is_first (printed_items c.args.side 1 (take i p.cells)) (i + 1) (get_or p.cells i Empty) c.loop-square.invariant bytes w.push_next.ensures.len in
-        rw (w.text-is, w.is_first-is, items_more c.args.side p i c.requires.lawful c.loop-square-test.true mine) step)
-    | else-belongs_to w ↦ (
-        let other : belongs c.args.side (get_or p.cells i Empty) ≡ false = sym (ap (belongs c.args.side) cell) ∙ sym c.belongs_to.ensures ∙ w.if-belongs_to.false in
-        rw (w.text-is, w.is_first-is, items_same c.args.side p i c.requires.lawful c.loop-square-test.true other) c.loop-square.invariant)
+      | then-belongs_to w ↦ (
+          let mine : belongs c.args.side (get_or p.cells i Empty) ≡ true = sym (ap (belongs c.args.side) cell) ∙ sym c.belongs_to.ensures ∙ w.if-belongs_to.true in
+          let bytes : w.push_next.new.text.bytes ≡ c.loop-square.text.bytes ++ next_text c.loop-square.is_first (printed_item (i + 1) (get_or p.cells i Empty)) = w.push_next.ensures.bytes ∙ rw (here, cell) refl in
+          let step = so_far-push c.args.text.now.bytes c.loop-square.text.bytes w.push_next.new.text.bytes c.loop-square.is_first (printed_items c.args.side 1 (take i p.cells)) (i + 1) (get_or p.cells i Empty) c.loop-square.invariant bytes w.push_next.ensures.len in
+          rw (w.text-is, w.is_first-is, items_more c.args.side p i c.requires.lawful c.loop-square-test.true mine) step)
+      | else-belongs_to w ↦ (
+          let other : belongs c.args.side (get_or p.cells i Empty) ≡ false = sym (ap (belongs c.args.side) cell) ∙ sym c.belongs_to.ensures ∙ w.if-belongs_to.false in
+          rw (w.text-is, w.is_first-is, items_same c.args.side p i c.requires.lawful c.loop-square-test.true other) c.loop-square.invariant)
     ]
 
 pub returns-clause-len : goal.returns-clause-len

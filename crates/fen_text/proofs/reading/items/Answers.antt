@@ -1,9 +1,6 @@
-use Rattle.std.proofs.Common.{◌≡◌, ◌++◌, ◌∷◌, [], List, Some, None, sym, append_assoc, append-nil}
-use Rattle.std.specs.Option.{option_map}
-use Rattle.fen_text.specs.Spelled.{Group}
-use Rattle.fen_text.specs.Setup.{Holds}
+use Rattle.std.proofs.Common.{◌++◌, ◌∷◌, [], sym, append_assoc, append-nil}
 use Rattle.fen_text.specs.Seen.{group_seen}
-use Rattle.fen_text.specs.Reading.{items_at, after_comma}
+use Rattle.fen_text.specs.Reading.{items_at}
 use Rattle.fen_text.proofs.Items.{goes_on, stops, fails, with_no_front}
 use Rattle.fen_text.proofs.reading.items.Goals as goal
 

@@ -1,5 +1,4 @@
-use Rattle.std.proofs.Common.{◌≡◌, Ok, Err, refl, length, subst, sym}
-use Rattle.draughts_board.specs.Board.{Board}
+use Rattle.std.proofs.Common.{Ok, Err, refl, subst, sym}
 use Rattle.fen_text.specs.Reading.{form_at}
 use Rattle.fen_text.specs.Seen.{GivesSetup}
 use Rattle.fen_text.proofs.Verdict.{fault_within}

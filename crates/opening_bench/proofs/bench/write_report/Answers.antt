@@ -8,4 +8,4 @@ pub returns-in-Err-clause-reported : goal.returns-in-Err-clause-reported
 returns-in-Err-clause-reported g c =
     let front = c.in-Err.ensures.front in
     subst (Takes Write (g.K.Sink.taken c.args.sink.now) (g.K.Sink.taken c.write_all.new.sink)) (c.deref.ensures.value ∙ c.in-Ok.ensures)
-      (takes_front c.deref.result.now front.0 (g.K.Sink.taken c.args.sink.now) (g.K.Sink.taken c.write_all.new.sink) front.1 front.2)
+    (takes_front c.deref.result.now front.0 (g.K.Sink.taken c.args.sink.now) (g.K.Sink.taken c.write_all.new.sink) front.1 front.2)

@@ -7,9 +7,9 @@ returns-in-Some c =
     let line = c.without_line_end-game.result.now in
     let rest = c.in-Some.rest.now in
     match_map c.before_suffix.result _ _ _ _
-      (λ none fen. no_back text line rest fen c.without_line_end-game.ensures c.in-Some.ensures none)
-      (λ x h. around_part text line rest x.now c.without_line_end-game.ensures c.in-Some.ensures h)
-      c.before_suffix.ensures
+    (λ none fen. no_back text line rest fen c.without_line_end-game.ensures c.in-Some.ensures none)
+    (λ x h. around_part text line rest x.now c.without_line_end-game.ensures c.in-Some.ensures h)
+    c.before_suffix.ensures
 
 pub returns-in-None : goal.returns-in-None
 returns-in-None c = λ fen. no_front c.args.text.now c.without_line_end-game.result.now fen c.without_line_end-game.ensures c.in-None.ensures

@@ -1,4 +1,4 @@
-use Rattle.std.proofs.Common.{◌≡◌, ◌+◌, ◌-◌, ◌≤◌, arith, sym}
+use Rattle.std.proofs.Common.{◌≡◌, ◌+◌, ◌-◌, ◌≤◌, arith}
 use Rattle.fen_text.proofs.Naming.{group_begins, group_goes_on}
 use Rattle.fen_text.proofs.setup.Setup.add.Goals as goal
 

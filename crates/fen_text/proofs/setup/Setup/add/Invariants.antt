@@ -1,4 +1,4 @@
-use Rattle.std.proofs.Common.{◌≡◌, ◌++◌, ◌∷◌, [], List, ◌-◌}
+use Rattle.std.proofs.Common.{◌++◌, ◌∷◌, [], List, ◌-◌}
 use Rattle.fen_text.specs.Spelled.{Group as Named}
 use Rattle.fen_text.specs.Setup.{Holds}
 use Rattle.fen_text.proofs.setup.Setup.add.Given as goal

@@ -1,4 +1,4 @@
--- What the code tests: what is left of a step or a jump once a table has named the square, and legality as one test.
+-- The conditions that the code tests: what is left of a step or a jump once a table has named the square, and legality.
 use Rattle.std.specs.Prelude.{ℕ, Bool, ◌&&◌, ◌||◌, ◌==◌, not, List, length}
 use Rattle.draughts_board.specs.Geometry.{is_square, between}
 use Rattle.draughts_board.specs.Board.{Board, cell_at, belongs, other, is_empty}

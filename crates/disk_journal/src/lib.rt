@@ -1,0 +1,29 @@
+//! A journal of payloads on a disk, which a crash at any moment cannot spoil.
+//!
+//! The bytes are a head of 8 bytes, `DRBENCH` and the pieces of the endgame tables that the journal is for, and behind
+//! it frames. Before each frame stands a gate of one byte: 1 is open, and behind it stand the length of a body, in 8
+//! bytes with the greatest first, and the body, which is one payload or more, each a length of 4 bytes and so many
+//! bytes. Any other gate is closed, and what stands behind it is never read. A file of at most 9 bytes is fresh: it is
+//! taken as a new journal, whatever its bytes are.
+//!
+//! [`Journal::commit`] writes a frame behind the closed gate, with the next gate closed behind it, makes that durable,
+//! and only then opens the gate. So on an honest disk each image that a crash may leave reads as a list of payloads
+//! that begins with all that was acknowledged by a [`Receipt`] before, and that goes on with what was being committed.
+#![tactic(auto)]
+
+mod append;
+mod body;
+mod gate;
+mod journal;
+mod load;
+mod payload;
+mod reader;
+mod refusal;
+#[cfg(test)]
+mod tests;
+mod text;
+
+pub use journal::{Journal, Receipt};
+pub use load::read_journal;
+pub use payload::Payload;
+pub use refusal::JournalRefusal;

@@ -1,0 +1,116 @@
+//! Reading a journal, and beginning one on a fresh disk.
+ghost use Rattle.std.specs.Prelude.{◌≡◌, ◌⊎◌, ◌+◌, ◌≤◌, ◌<◌, ◌^◌, [], ◌∷◌, ◌++◌, ℕ, List, length, map, IfErr, IfOk, OnErr, OnOk, IsErrAnd};
+ghost use Rattle.bench_disk.specs.Disk.{HasCause, IsHonest, NothingPending, Rose};
+ghost use Rattle.bench_disk.specs.Runs.{Leaves};
+ghost use Rattle.disk_journal.specs.Format.{HasPayloads, HasPlaces, IsFresh, IsTable, head};
+ghost use Rattle.disk_journal.specs.Log.{IsAtRest, StaysOrFresh};
+ghost use Rattle.disk_journal.specs.Looks.{OnlyLooks};
+ghost use Rattle.disk_journal.specs.Refusals.{Explains, ExplainsAny, IsForCause, IsOfNoBytes};
+ghost use Rattle.disk_journal.specs.Rest.{HoldsFrames};
+
+use crate::append::write_durably;
+use crate::payload::Payload;
+use crate::reader::{Frames, measure, read_frames, read_head};
+use crate::refusal::JournalRefusal;
+use bench_disk::{Disk, DiskFault};
+use std::alloc::Global;
+
+const MAX_FRESH: u64 = 9;
+
+/// Reads a journal on a disk without writing to it, and tells the pieces of its tables and its payloads, in order. A
+/// fresh disk, of at most 9 bytes, gives 2 and no payload.
+pub fn read_journal<D: Disk>(
+    alloc: Global,
+    disk: &mut D,
+) -> Result<(u8, Vec<Payload>), JournalRefusal>
+    ensures payloads { IsHonest D.TELLS → IfOk result (λ r. HasPayloads r.0 (D.reads disk.old) (map (λ p. p.bytes.items) r.1.items)) }
+    ensures places { IsHonest D.TELLS → IfOk result (λ r. HasPlaces r.0 (D.reads disk.old) (map (λ p. p.at) r.1.items)) }
+    ensures table { IfOk result (λ r. IsTable r.0) }
+    ensures fresh { IsHonest D.TELLS → IsFresh (D.reads disk.old) → IfOk result (λ r. r.0 ≡ 2) }
+
+    // Each refusal comes for its cause, and where the bytes have a cause no other comes for them.
+    ensures refused { IsHonest D.TELLS → IfErr result (ExplainsAny (D.reads disk.old)) }
+    ensures exactly { IsHonest D.TELLS → (cause : _) → ExplainsAny (D.reads disk.old) cause → IsOfNoBytes cause ⊎ IsErrAnd result (IsForCause cause) }
+    ensures looks { IsHonest D.TELLS → OnlyLooks D.reads D.images D.images_since D.moment disk.old disk.new }
+    ensures faults { D.faults disk.old ≤ D.faults disk.new }
+    ensures cause { result ≡ Err JournalRefusal.DiskFault → Rose (D.faults disk.old) (D.faults disk.new) }
+{
+    let len = measure(disk)?;
+    if len <= MAX_FRESH {
+        return Ok((2, Vec::new(alloc)));
+    }
+    let pieces = read_head(disk)?;
+    let found = read_frames(alloc, disk, len, pieces)?;
+    Ok((pieces, found.payloads))
+}
+
+// Reads a journal for tables of these pieces on a disk of so many bytes.
+fn read_asked<D: Disk>(
+    alloc: Global,
+    disk: &mut D,
+    len: u64,
+    pieces: u8,
+) -> Result<Frames, JournalRefusal>
+    requires len { IsHonest D.TELLS → len ≡ length (D.reads disk.old) }
+    requires long { 9 < len }
+    requires bound { len ≤ 2 ^ 62 }
+    ensures frames { IsHonest D.TELLS → IfOk result (λ f. HoldsFrames pieces (D.reads disk.old) f.gate f.payloads.items) }
+    ensures bound { IfOk result (λ f. (length f.payloads.items ≤ f.gate) × (f.gate < 2 ^ 62)) }
+    ensures refused { IsHonest D.TELLS → IfErr result (Explains (D.reads disk.old) pieces) }
+    ensures looks { IsHonest D.TELLS → OnlyLooks D.reads D.images D.images_since D.moment disk.old disk.new }
+    ensures faults { D.faults disk.old ≤ D.faults disk.new }
+    ensures cause { result ≡ Err JournalRefusal.DiskFault → Rose (D.faults disk.old) (D.faults disk.new) }
+{
+    let found = read_head(disk)?;
+    if found != pieces {
+        return Err(JournalRefusal::OtherTable {
+            found,
+            asked: pieces,
+        });
+    }
+    read_frames(alloc, disk, len, pieces)
+}
+
+// Writes the head and a closed gate over a fresh disk.
+fn begin<D: Disk>(disk: &mut D, pieces: u8) -> Result<(), DiskFault>
+    requires table { IsTable pieces }
+    requires fresh { IsHonest D.TELLS → IsFresh (D.reads disk.old) }
+    requires settled { IsHonest D.TELLS → NothingPending (D.reads disk.old) (D.images disk.old) }
+    ensures at_rest { IsHonest D.TELLS → OnOk result (IsAtRest D.reads D.images disk.new pieces 8 []) }
+    ensures begun { IsHonest D.TELLS → OnOk result (D.reads disk.new ≡ head pieces ++ 0 ∷ []) }
+    ensures crash { IsHonest D.TELLS → Leaves D.moment D.images_since disk.old disk.new IsFresh }
+    ensures cause { HasCause (D.faults disk.old) (D.faults disk.new) result }
+{
+    write_durably(
+        disk,
+        0,
+        &[b'D', b'R', b'B', b'E', b'N', b'C', b'H', pieces, 0],
+    )
+}
+
+/// Reads a journal for tables of these pieces from a disk with nothing pending, or begins one on a fresh disk.
+pub fn load<D: Disk>(alloc: Global, disk: &mut D, pieces: u8) -> Result<Frames, JournalRefusal>
+    requires table { IsTable pieces }
+    requires settled { IsHonest D.TELLS → NothingPending (D.reads disk.old) (D.images disk.old) }
+    ensures at_rest { IsHonest D.TELLS → IfOk result (λ f. IsAtRest D.reads D.images disk.new pieces f.gate (map (λ p. p.bytes.items) f.payloads.items)) }
+    ensures payloads { IsHonest D.TELLS → IfOk result (λ f. HasPayloads pieces (D.reads disk.old) (map (λ p. p.bytes.items) f.payloads.items)) }
+    ensures places { IsHonest D.TELLS → IfOk result (λ f. HasPlaces pieces (D.reads disk.old) (map (λ p. p.at) f.payloads.items)) }
+    ensures bound { IfOk result (λ f. (length f.payloads.items ≤ f.gate) × (f.gate < 2 ^ 62)) }
+    ensures begun { IsHonest D.TELLS → IsFresh (D.reads disk.old) → OnOk result (D.reads disk.new ≡ head pieces ++ 0 ∷ []) }
+    ensures unwritten { IsHonest D.TELLS → 9 < length (D.reads disk.old) → (D.reads disk.new ≡ D.reads disk.old) × NothingPending (D.reads disk.new) (D.images disk.new) }
+    ensures settled { IsHonest D.TELLS → OnErr result (NothingPending (D.reads disk.new) (D.images disk.new) ⊎ Rose (D.faults disk.old) (D.faults disk.new)) }
+    ensures refused { IsHonest D.TELLS → IfErr result (Explains (D.reads disk.old) pieces) }
+    ensures crash { IsHonest D.TELLS → Leaves D.moment D.images_since disk.old disk.new (StaysOrFresh (D.images disk.old) (D.reads disk.old)) }
+    ensures faults { D.faults disk.old ≤ D.faults disk.new }
+    ensures cause { result ≡ Err JournalRefusal.DiskFault → Rose (D.faults disk.old) (D.faults disk.new) }
+{
+    let len = measure(disk)?;
+    if len <= MAX_FRESH {
+        begin(disk, pieces)?;
+        return Ok(Frames {
+            gate: 8,
+            payloads: Vec::new(alloc),
+        });
+    }
+    read_asked(alloc, disk, len, pieces)
+}

@@ -1,0 +1,35 @@
+//! The number of lists of legal moves.
+ghost use Rattle.std.specs.Prelude.{◌≡◌, IfOk};
+ghost use Rattle.move_count_bench.specs.Lists.{lists_of};
+
+use draughts_board::Position;
+use draughts_rules::{apply, legal_moves};
+use std::alloc::{AllocError, Global};
+
+/// Why the lists were not counted.
+#[derive(Debug, Drop, thiserror::Error)]
+pub enum CountError {
+    #[error("there are 2^64 lists or more")]
+    TooMany,
+    #[error("out of memory")]
+    Memory(#[from] AllocError),
+}
+
+/// How many lists of n legal moves there are from the position. The last moves are counted, and not made.
+pub fn count(alloc: Global, p: &Position, n: u32) -> Result<u64, CountError>
+    ensures { IfOk result (λ lists. lists ≡ lists_of n p.now) }
+{
+    if n == 0 {
+        return Ok(1);
+    }
+    let moves = legal_moves(alloc, p)?;
+    if n == 1 {
+        return Ok(moves.len() as u64);
+    }
+    let mut lists = 0u64;
+    for m in &moves {
+        let behind = count(alloc, &apply(p, m), n - 1)?;
+        lists = lists.checked_add(behind).ok_or(CountError::TooMany)?;
+    }
+    Ok(lists)
+}

@@ -1,0 +1,9 @@
+pub mod FirstPlaces
+pub mod WordFields
+pub mod FormChoice
+pub mod GameFold
+pub mod Reached
+pub mod ItemAnswers
+pub mod VariationScan
+pub mod TagScan
+pub mod OneReading

@@ -1,0 +1,129 @@
+-- How far a text has been read.
+use Rattle.std.proofs.Common.{◌≡◌, ◌∙◌, ◌⊎◌, inl, inr, Bool, IfOk, Vec, Global, ℕ, suc, ◌<◌, ◌≤◌, List, [], ◌∷◌, ◌++◌, length, drop, Some, None, Result, Ok, Err, refl, sym, ap, subst, arith, append-nil}
+use Rattle.std.specs.Prelude.{option_to_list}
+use Rattle.std.proofs.lemmas.List.Concat.{flat_map-append}
+use Rattle.pdn_text.specs.Gathering.{Progress, no_game, taken, all_taken, games_of}
+use Rattle.pdn_text.specs.Grammar.{IsItem, IsFault, form_at, begins_line}
+use Rattle.pdn_text.specs.Forms.{form_of}
+use Rattle.pdn_text.specs.Signs.{IsMemory, Fails}
+use Rattle.pdn_text.specs.Pdn.{Refused, beginning, AreItems, signs, most_games, ReadsTo, Reads, StandsFirst, BeginsOneMore}
+use Rattle.pdn_text.specs.Scans.{item_of}
+use Rattle.pdn_text.specs.declared.game.Game.{Game}
+use Rattle.pdn_text.specs.declared.items.Item.{Item}
+use Rattle.pdn_text.specs.declared.items.Sign.{Sign}
+use Rattle.pdn_text.specs.declared.refusal.PdnRefusal.{PdnRefusal}
+use Rattle.pdn_text.specs.declared.refusal.PdnRefusal.TheVariants as refusal
+use Rattle.pdn_text.proofs.GameFold.{gathered_make, all_taken-append}
+use Rattle.pdn_text.proofs.ItemAnswers.{item_sound, fault_sound, never_too_many}
+
+-- the text is items up to this place, and this is what they say of games
+pub record Reached (text : List ℕ) (at : ℕ) (p : Progress) : Type 0 where
+  pub items : List Item
+  pub are_items : AreItems text (beginning text) items at
+  pub so_far : p ≡ all_taken no_game (signs items)
+  pub few : length (games_of p) ≤ most_games
+  pub inside : at ≤ length text
+
+pub reached_beginning : (text : List ℕ) (p : Progress) → p ≡ no_game → beginning text ≤ length text → Reached text (beginning text) p
+reached_beginning text p e inside = record {
+  items = [];
+  are_items = refl;
+  so_far = e;
+  few = rw e (omega arith);
+  inside = inside;
+}
+
+pub push_item : (text : List ℕ) (from to : ℕ) (items : List Item) (item : Item) → AreItems text from items to → IsItem (form_at text to) to (drop to text) item
+    → AreItems text from (items ++ item ∷ []) item.end
+push_item text from to [] item e is = (subst (λ x. IsItem (form_at text x) x (drop x text) item) (sym e) is, refl)
+push_item text from to (x ∷ items) item a is = (a.0, push_item text x.end to items item a.1 is)
+
+pub signs_push : (items : List Item) (item : Item) → signs (items ++ item ∷ []) ≡ signs items ++ option_to_list item.sign
+signs_push items item = flat_map-append (λ i. option_to_list i.sign) items (item ∷ []) ∙ ap (λ x. signs items ++ x) (append-nil (option_to_list item.sign))
+
+-- what was answered here is an item
+here : (text : List ℕ) (at : ℕ) (start : Bool) (item : Item) → start ≡ begins_line text at → item_of (form_of start (drop at text)) at (drop at text) ≡ Ok item
+    → IsItem (form_at text at) at (drop at text) item
+here text at start item e h = item_sound (begins_line text at) at (drop at text) item (rw (← e) h)
+
+-- an item that says nothing
+pub reached_skip : (text : List ℕ) (at : ℕ) (p : Progress) (start : Bool) (item : Item) → Reached text at p → start ≡ begins_line text at → item_of (form_of start (drop at text)) at (drop at text) ≡ Ok item → item.sign ≡ None
+    → item.end ≤ length text → Reached text item.end p
+reached_skip text at p start item r e h none inside = let is = here text at start item e h in record {
+  items = r.items ++ item ∷ [];
+  are_items = push_item text (beginning text) at r.items item r.are_items is;
+  so_far = r.so_far ∙ ap (all_taken no_game) (sym (signs_push r.items item ∙ ap (λ x. signs r.items ++ option_to_list x) none ∙ append-nil (signs r.items)));
+  few = r.few;
+  inside = inside;
+}
+
+-- an item that says something
+pub reached_sign : (text : List ℕ) (at : ℕ) (p q : Progress) (start : Bool) (item : Item) (sign : Sign) → Reached text at p → start ≡ begins_line text at → item_of (form_of start (drop at text)) at (drop at text) ≡ Ok item → item.sign ≡ Some sign
+    → q ≡ taken p sign → length (games_of q) ≤ most_games → item.end ≤ length text → Reached text item.end q
+reached_sign text at p q start item sign r line h some e few inside = let is = here text at start item line h in record {
+  items = r.items ++ item ∷ [];
+  are_items = push_item text (beginning text) at r.items item r.are_items is;
+  so_far = e ∙ ap (λ x. taken x sign) r.so_far ∙ sym (ap (all_taken no_game) (signs_push r.items item ∙ ap (λ x. signs r.items ++ option_to_list x) some) ∙ all_taken-append no_game (signs r.items) (sign ∷ []));
+  few = few;
+  inside = inside;
+}
+
+-- what has been read makes the games that were gathered
+pub reads_to : (text : List ℕ) (at : ℕ) (p : Progress) (r : Reached text at p) → ReadsTo text at r.items (games_of p)
+reads_to text at p r = record {
+  are_items = r.are_items;
+  make = rw (r.so_far) (gathered_make (signs r.items));
+  few = r.few;
+}
+
+pub reads_all : (text : List ℕ) (at : ℕ) (p : Progress) (result : Result (Vec Game Global) PdnRefusal) → Reached text at p → length text ≤ at → IfOk result (λ games. games.items ≡ games_of p)
+    → IfOk result (λ games. Reads text games.items)
+reads_all text at p (Ok games) r end e =
+    let inside = r.inside in
+    let last : at ≡ length text = omega arith in
+    rw e (r.items, rw (← last) (reads_to text at p r))
+reads_all text at p (Err e) r end h = tt
+
+pub fault_here : (text : List ℕ) (at : ℕ) (p : Progress) (e : PdnRefusal) → Reached text at p → at < length text → IsFault (form_at text at) at (drop at text) e → StandsFirst text e
+fault_here text at p e r inside fault = record {
+  place = at;
+  items = r.items;
+  games = games_of p;
+  before = reads_to text at p r;
+  inside = omega arith;
+  stands = fault;
+}
+
+pub one_more : (text : List ℕ) (at : ℕ) (p : Progress) (item : Item) (sign : Sign) → Reached text at p → IsItem (form_at text at) at (drop at text) item → item.sign ≡ Some sign
+    → length (games_of (taken p sign)) ≡ suc most_games → BeginsOneMore text
+one_more text at p item sign r is some many =
+    let led : taken p sign ≡ all_taken no_game (signs (r.items ++ item ∷ [])) =
+    ap (λ x. taken x sign) r.so_far ∙ sym (ap (all_taken no_game) (signs_push r.items item ∙ ap (λ x. signs r.items ++ option_to_list x) some) ∙ all_taken-append no_game (signs r.items) (sign ∷ [])) in
+    record {
+      place = at;
+      items = r.items;
+      games = games_of p;
+      before = reads_to text at p r;
+      item = item;
+      next = is;
+      more = games_of (taken p sign);
+      make_more = rw led (gathered_make (signs (r.items ++ item ∷ [])));
+      too_many = many;
+    }
+
+pub refused_here : (text : List ℕ) (at : ℕ) (p : Progress) (start : Bool) (e : PdnRefusal) → Reached text at p → at < length text → start ≡ begins_line text at
+    → Fails e (item_of (form_of start (drop at text)) at (drop at text)) → IsMemory e ⊎ Refused text e
+refused_here text at p start (refusal.Memory m) r inside line h = inl tt
+refused_here text at p start refusal.TooManyGames r inside line h =
+    absurd (never_too_many (form_at text at) at (drop at text) (fault_sound (begins_line text at) at (drop at text) refusal.TooManyGames (rw (← line) h)))
+refused_here text at p start (refusal.BadByte n) r inside line h = inr (fault_here text at p (refusal.BadByte n) r inside (fault_sound (begins_line text at) at (drop at text) (refusal.BadByte n) (rw (← line) h)))
+refused_here text at p start (refusal.OpenTag n) r inside line h = inr (fault_here text at p (refusal.OpenTag n) r inside (fault_sound (begins_line text at) at (drop at text) (refusal.OpenTag n) (rw (← line) h)))
+refused_here text at p start (refusal.OpenComment n) r inside line h = inr (fault_here text at p (refusal.OpenComment n) r inside (fault_sound (begins_line text at) at (drop at text) (refusal.OpenComment n) (rw (← line) h)))
+refused_here text at p start (refusal.OpenVariation n) r inside line h = inr (fault_here text at p (refusal.OpenVariation n) r inside (fault_sound (begins_line text at) at (drop at text) (refusal.OpenVariation n) (rw (← line) h)))
+refused_here text at p start (refusal.BadMove n) r inside line h = inr (fault_here text at p (refusal.BadMove n) r inside (fault_sound (begins_line text at) at (drop at text) (refusal.BadMove n) (rw (← line) h)))
+
+pub refused_many : (text : List ℕ) (at : ℕ) (p : Progress) (start : Bool) (item : Item) (sign : Sign) (e : PdnRefusal) → Reached text at p → start ≡ begins_line text at
+    → item_of (form_of start (drop at text)) at (drop at text) ≡ Ok item → item.sign ≡ Some sign
+    → IsMemory e ⊎ ((e ≡ refusal.TooManyGames) × (length (games_of (taken p sign)) ≡ suc most_games)) → IsMemory e ⊎ Refused text e
+refused_many text at p start item sign e r line h some (inl memory) = inl memory
+refused_many text at p start item sign e r line h some (inr many) = rw many.0 (inr (one_more text at p item sign r (here text at start item line h) some many.1))

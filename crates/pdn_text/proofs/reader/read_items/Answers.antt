@@ -1,0 +1,35 @@
+use Rattle.std.proofs.Common.{arith}
+use Rattle.std.proofs.lemmas.Result.{err_from_is_err_and}
+use Rattle.pdn_text.specs.Gathering.{progress}
+use Rattle.pdn_text.proofs.Reached.{reached_beginning, reached_skip, reached_sign, reads_all, refused_here, refused_many}
+use Rattle.pdn_text.proofs.reader.read_items.Goals as goal
+
+pub loop-at-init : goal.loop-at-init
+loop-at-init c = rw c.beginning-at.ensures.value (reached_beginning c.args.text.now (progress c.new-gathered.result) c.new-gathered.ensures (rw (← c.beginning-at.ensures.value) c.beginning-at.ensures.inside))
+
+pub returns-in_err-end-clause-refused : goal.returns-in_err-end-clause-refused
+returns-in_err-end-clause-refused c =
+    let p = err_from_is_err_and c.from_residual.result c.from_residual.ensures.1 in
+    let here = refused_here c.args.text.now c.loop-at.at (progress c.loop-at.gathered) c.begins_line.result c.in_err-end.field-0.0 c.loop-at.invariant c.loop-at-test.true c.begins_line.ensures c.in_err-end.ensures.gives in
+    rw (p.1, p.2) here
+
+pub take-requires : goal.take-requires
+take-requires c = c.loop-at.invariant.few
+
+pub returns-in_err-take-in-Some-clause-refused : goal.returns-in_err-take-in-Some-clause-refused
+returns-in_err-take-in-Some-clause-refused c =
+    let p = err_from_is_err_and c.from_residual-in_err-take-in-Some.result c.from_residual-in_err-take-in-Some.ensures.1 in
+    let here = refused_many c.args.text.now c.loop-at.at (progress c.loop-at.gathered) c.begins_line.result c.in_ok-end.field-0 c.in-Some.sign c.in_err-take-in-Some.field-0.0 c.loop-at.invariant c.begins_line.ensures c.in_ok-end.ensures.gives c.in-Some.is c.in_err-take-in-Some.ensures.err in
+    rw (p.1, p.2) here
+
+pub loop-at-preserved-in_ok-take-in-Some : goal.loop-at-preserved-in_ok-take-in-Some
+loop-at-preserved-in_ok-take-in-Some c =
+    reached_sign c.args.text.now c.loop-at.at (progress c.loop-at.gathered) (progress c.take.new.self) c.begins_line.result c.in_ok-end.field-0 c.in-Some.sign c.loop-at.invariant c.begins_line.ensures c.in_ok-end.ensures.gives c.in-Some.is
+    c.in_ok-take-in-Some.ensures.ok c.in_ok-take-in-Some.ensures.few c.in_ok-end.ensures.inside
+
+pub loop-at-preserved : goal.loop-at-preserved
+loop-at-preserved c =
+    reached_skip c.args.text.now c.loop-at.at (progress c.loop-at.gathered) c.begins_line.result c.in_ok-end.field-0 c.loop-at.invariant c.begins_line.ensures c.in_ok-end.ensures.gives c.in-None.is c.in_ok-end.ensures.inside
+
+pub returns-clause-games : goal.returns-clause-games
+returns-clause-games c = reads_all c.args.text.now c.loop-at.at (progress c.loop-at.gathered) c.finish.result c.loop-at.invariant (omega arith) c.finish.ensures.ok

@@ -1,0 +1,11 @@
+pub mod Bytes
+pub mod Forms
+pub mod Words
+pub mod Signs
+pub mod Variations
+pub mod Tags
+pub mod Grammar
+pub mod Games
+pub mod Pdn
+pub mod Scans
+pub mod Gathering

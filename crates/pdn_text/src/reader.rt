@@ -1,0 +1,68 @@
+//! Reads a whole text.
+ghost use Rattle.std.specs.Prelude.{◌≡◌, ◌⊎◌, ◌<◌, ◌≤◌, List, length, IfOk, IfErr};
+ghost use Rattle.pdn_text.specs.Grammar.{begins_line};
+ghost use Rattle.pdn_text.specs.Pdn.{Reads, Refused, beginning};
+ghost use Rattle.pdn_text.specs.Signs.{IsMemory, Gives};
+ghost use Rattle.pdn_text.specs.declared.game.Game.{Game};
+ghost use Rattle.pdn_text.specs.declared.refusal.PdnRefusal.{PdnRefusal};
+
+use crate::game::Game;
+use crate::gather::Gathered;
+use crate::items::{Item, item_at};
+use crate::refusal::PdnRefusal;
+use std::alloc::Global;
+
+/// The games of a text in Portable Draughts Notation, in the order of the text, or the fault that stands first in it.
+///
+/// A byte order mark at the front is skipped. A text without tag, move and result has no game. Each refusal but
+/// `TooManyGames` and `Memory` has the place of its fault, a byte offset from 0: of the byte itself, of the `[` of
+/// what is no tag, of the `{` or the outermost `(` that is not closed, of the first byte of a word that is no move.
+pub fn read_games(alloc: Global, text: &[u8]) -> Result<Vec<Game>, PdnRefusal>
+    // What is read is what the text's items make.
+    ensures games { IfOk result (λ games. Reads text.now games.items) }
+    // A refusal is the fault that stands first.
+    ensures refused { IfErr result (λ refusal. IsMemory refusal ⊎ Refused text.now refusal) }
+    // A text that can be read is read so, and a text that is refused is refused so, unless memory runs out.
+    ensures only_games { (games : List Game) → Reads text.now games → Gives (λ v. v.items) result (Ok games) }
+    ensures only_refused { (refusal : PdnRefusal) → Refused text.now refusal → Gives (λ v. v.items) result (Err refusal) }
+{
+    read_items(alloc, text)
+}
+
+/// Reads item after item, up to the end or the first fault.
+fn read_items(alloc: Global, text: &[u8]) -> Result<Vec<Game>, PdnRefusal>
+    ensures games { IfOk result (λ games. Reads text.now games.items) }
+    ensures refused { IfErr result (λ refusal. IsMemory refusal ⊎ Refused text.now refusal) }
+{
+    let mut gathered = Gathered::new(alloc);
+    let mut at = beginning(text);
+    while at < text.len() {
+        let Item { end, sign } = item_at(alloc, begins_line(text, at), text, at)?;
+        match sign {
+            Some(sign) => gathered.take(sign)?,
+            None => {}
+        }
+        at = end;
+    }
+    gathered.finish()
+}
+
+/// Where the items begin: behind the byte order mark, if one stands at the front.
+fn beginning(text: &[u8]) -> usize
+    ensures value { result ≡ beginning text.now }
+    ensures inside { result ≤ length text.now }
+{
+    if text.starts_with(&[0xef, 0xbb, 0xbf]) {
+        3
+    } else {
+        0
+    }
+}
+
+/// The place is the text's first, or stands straight behind a byte 10.
+fn begins_line(text: &[u8], at: usize) -> bool
+    requires { at < length text.now }
+    ensures { result ≡ begins_line text.now at }
+{
+    at == 0 || text[at - 1] == b'\n'
+}
