@@ -70,10 +70,6 @@ first-found test (x ∷ paths) (suc i) d l none pass = by (test x) none (first-f
     by true e rest = absurd (cc)
     by false e rest = rest e pass
 
--- one more that does not pass
-pub none-more : (test : List ℕ → Bool) (now : List (List ℕ)) (b : Bool) (x : List ℕ) → now ≡ [] → b ≡ false → now ++ cond b (x ∷ []) [] ≡ []
-none-more test now b x e f = (λ i. e i ++ cond (f i) (x ∷ []) [])
-
 -- the paths behind the first, as a slice from place 1 on
 abbrev pub behind_first : List (List ℕ) → List (List ℕ)
 behind_first paths = take (length paths - 1) (drop 1 paths)
