@@ -1,5 +1,5 @@
 -- Which words say a command, and which begin one.
-use Rattle.std.proofs.Common.{◌≡◌, ◌≢◌, ℕ, ◌+◌, ◌<◌, ◌≤◌, ◌==◌, List, [], ◌∷◌, ◌++◌, length, take, drop, get_or, Option, Some, None, IsSome, Result, Ok, Err, IfOk, IfErr, unwrap_or, codes, decimal, Bool, true, false, cond, Decides, refl, ap, sym, ◌∙◌, subst, append_assoc, append-nil, arith, rules}
+use Rattle.std.proofs.Common.{◌≡◌, ◌≢◌, ℕ, ◌+◌, ◌<◌, ◌≤◌, ◌^◌, ◌==◌, List, [], ◌∷◌, ◌++◌, length, take, drop, get_or, Option, Some, None, inl, inr, Result, Ok, Err, IfOk, IfErr, unwrap_or, codes, decimal, Bool, true, false, cond, Decides, refl, ap, sym, ◌∙◌, subst, append_assoc, append-nil, arith, rules}
 use Rattle.std.proofs.lemmas.Grind.{common_steps, flat_map-append}
 use Rattle.std.proofs.lemmas.Fmt.{decimal_injective}
 use Rattle.std.proofs.lemmas.List.{take-append-drop, take_all}
@@ -25,10 +25,27 @@ not_nil x xs e = let long = ap length e in omega arith
 
 -- settings
 
+small : (s : Setting) → IsSetting s → s.value < 2 ^ 64
+small s (inl one) = omega arith
+small s (inr one) = omega arith
+
 same_setting : (s t : Setting) → IsSetting s → IsSetting t → s.name ≡ t.name → decimal s.value ≡ decimal t.value → s ≡ t
 same_setting s t first second name digits =
-    let value : s.value ≡ t.value = decimal_injective s.value t.value (omega arith) (omega arith) digits in
+    let value : s.value ≡ t.value = decimal_injective s.value t.value (small s first) (small t second) digits in
     ap (λ (n : List ℕ). record { name = n; value = s.value }) name ∙ ap (λ (v : ℕ). record { name = t.name; value = v }) value
+
+-- the options' names differ
+pub depth_is_not_plies : ◌≢◌ {A = List ℕ} (codes "--depth") (codes "--plies")
+depth_is_not_plies same = let third : ◌≡◌ {A = ℕ} 100 112 = ap (λ (name : List ℕ). get_or name 2 0) same in omega arith
+
+-- the largest number of each
+pub depth_limit : (s : Setting) → IsSetting s → s.name ≡ codes "--depth" → s.value ≤ 12
+depth_limit s (inl one) same = one.1
+depth_limit s (inr one) same = absurd (depth_is_not_plies (sym same ∙ one.0))
+
+pub plies_limit : (s : Setting) → IsSetting s → s.name ≡ codes "--plies" → s.value ≤ 200
+plies_limit s (inl one) same = absurd (depth_is_not_plies (sym one.0 ∙ same))
+plies_limit s (inr one) same = one.1
 
 -- the settings that stand behind others in the same words
 record Splits (given whole : List Setting) (word : List ℕ) (rest : List (List ℕ)) : Type 0 where
@@ -84,28 +101,38 @@ skipped : (b : Bool) (P : Type 0) (x rest : Option ℕ) → Decides b P → ¬ P
 skipped true P x rest d none = absurd (none (d.0 refl))
 skipped false P x rest d none = refl
 
+taken : (b : Bool) (P : Type 0) (x rest : Option ℕ) → Decides b P → P → cond b x rest ≡ x
+taken true P x rest d one = refl
+taken false P x rest d one = let wrong : false ≡ true = d.1 one in search rules
+
+some_none : {A : Type 0} (n : A) → Some n ≡ None → ⊥
+some_none n e = search rules
+
 unnamed : (b : Bool) (P : Type 0) (n : ℕ) (rest : Option ℕ) → Decides b P → cond b (Some n) rest ≡ None → (¬ P) × (rest ≡ None)
 unnamed true P n rest d e = absurd (some_none n e)
-  where
-    some_none : (n : ℕ) → Some n ≡ None → ⊥
-    some_none n e = search rules
 unnamed false P n rest d e = ((λ p. let wrong : false ≡ true = d.1 p in search rules), e)
 
-number_for-more : (name : List ℕ) (given more : List Setting) → IsNew name given → number_for name (given ++ more) ≡ number_for name more
-number_for-more name [] more new = refl
-number_for-more name (g ∷ gs) more new =
-    skipped (bytes_eq g.name name) (g.name ≡ name) (Some g.value) (number_for name (gs ++ more)) (bytes_eq-Decides g.name name) new.0 ∙ number_for-more name gs more new.1
-
-number_for-new : (name : List ℕ) (given : List Setting) → IsNew name given → number_for name given ≡ None
+-- a new name has no number
+pub number_for-new : (name : List ℕ) (given : List Setting) → IsNew name given → number_for name given ≡ None
 number_for-new name [] new = refl
 number_for-new name (g ∷ gs) new =
     skipped (bytes_eq g.name name) (g.name ≡ name) (Some g.value) (number_for name gs) (bytes_eq-Decides g.name name) new.0 ∙ number_for-new name gs new.1
 
-IsNew-from_none : (name : List ℕ) (given : List Setting) → number_for name given ≡ None → IsNew name given
+pub IsNew-from_none : (name : List ℕ) (given : List Setting) → number_for name given ≡ None → IsNew name given
 IsNew-from_none name [] e = tt
 IsNew-from_none name (g ∷ gs) e =
     let u = unnamed (bytes_eq g.name name) (g.name ≡ name) g.value (number_for name gs) (bytes_eq-Decides g.name name) e in
     (u.0, IsNew-from_none name gs u.1)
+
+-- one setting more gives its name its number, and no other name one
+pub number_for-same : (given : List Setting) (next : Setting) → IsNew next.name given → number_for next.name (given ++ next ∷ []) ≡ Some next.value
+number_for-same [] next new = taken (bytes_eq next.name next.name) (next.name ≡ next.name) (Some next.value) None (bytes_eq-Decides next.name next.name) refl
+number_for-same (g ∷ gs) next new =
+    skipped (bytes_eq g.name next.name) (g.name ≡ next.name) (Some g.value) (number_for next.name (gs ++ next ∷ [])) (bytes_eq-Decides g.name next.name) new.0 ∙ number_for-same gs next new.1
+
+pub number_for-other : (name : List ℕ) (given : List Setting) (next : Setting) → next.name ≢ name → number_for name (given ++ next ∷ []) ≡ number_for name given
+number_for-other name [] next other = skipped (bytes_eq next.name name) (next.name ≡ name) (Some next.value) None (bytes_eq-Decides next.name name) other
+number_for-other name (g ∷ gs) next other = ap (λ (r : Option ℕ). cond (bytes_eq g.name name) (Some g.value) r) (number_for-other name gs next other)
 
 -- refusals
 
@@ -135,31 +162,41 @@ refused_end words at end begins none = record {
 
 -- `solve`, read so far
 
--- the words in front of a place say `solve` with settings that give `--depth` this number
-pub record IsReadTo (words : List (List ℕ)) (at : ℕ) (depth : Option ℕ) : Type 0 where
+-- the words in front of a place say `solve` with these settings
+pub record IsReadTo (words : List (List ℕ)) (at : ℕ) (given : List Setting) : Type 0 where
   pub path : List ℕ
-  pub given : List Setting
   pub front : take at words ≡ solve_words path given
   pub named : path ≢ []
   pub settings : AreSettings given
-  pub number : number_for (codes "--depth") given ≡ depth
   pub within : at ≤ length words
 
-said : (words : List (List ℕ)) (at : ℕ) (depth : Option ℕ) → IsReadTo words at depth → SaysSolve (take at words) (record { depth = unwrap_or depth 4 })
-said words at depth r = record {
-  path = r.path;
-  given = r.given;
-  spelling = r.front;
-  named = r.named;
-  settings = r.settings;
-  depth = ap (λ d. unwrap_or d 4) (sym r.number);
+-- the options that settings give
+abbrev pub options_of : List Setting → Options
+options_of given = record {
+  depth = unwrap_or (number_for (codes "--depth") given) 4;
+  plies = unwrap_or (number_for (codes "--plies") given) 200;
 }
 
-pub said_all : (words : List (List ℕ)) (at : ℕ) (depth : Option ℕ) → IsReadTo words at depth → length words ≤ at → SaysSolve words (record { depth = unwrap_or depth 4 })
-said_all words at depth r end = subst (λ (ws : List (List ℕ)). SaysSolve ws (record { depth = unwrap_or depth 4 })) (take_all at words end) (said words at depth r)
+-- settings that are read say a whole `solve`
+pub said : (words : List (List ℕ)) (path : List ℕ) (given : List Setting) → words ≡ solve_words path given → path ≢ [] → AreSettings given → SaysSolve words (options_of given)
+said words path given spelling named settings = record {
+  path = path;
+  given = given;
+  spelling = spelling;
+  named = named;
+  settings = settings;
+  depth = refl;
+  plies = refl;
+}
 
-begins_there : (words : List (List ℕ)) (at : ℕ) (depth : Option ℕ) → IsReadTo words at depth → Begins (take at words)
-begins_there words at depth r = ([], Solve (record { depth = unwrap_or depth 4 }), subst (λ (ws : List (List ℕ)). SaysSolve ws (record { depth = unwrap_or depth 4 })) (sym (append-nil (take at words))) (said words at depth r))
+pub said_all : (words : List (List ℕ)) (at : ℕ) (given : List Setting) → IsReadTo words at given → length words ≤ at → SaysSolve words (options_of given)
+said_all words at given r end = said words r.path given (sym (take_all at words end) ∙ r.front) r.named r.settings
+
+begins_with : (front rest : List (List ℕ)) (path : List ℕ) (given : List Setting) → front ++ rest ≡ solve_words path given → path ≢ [] → AreSettings given → Begins front
+begins_with front rest path given spelling named settings = (rest, Solve (options_of given), said (front ++ rest) path given spelling named settings)
+
+begins_there : (words : List (List ℕ)) (at : ℕ) (given : List Setting) → IsReadTo words at given → Begins (take at words)
+begins_there words at given r = begins_with (take at words) [] r.path given (append-nil (take at words) ∙ r.front) r.named r.settings
 
 -- a longer `solve` goes on with a setting of a new name
 record GoesOn (given : List Setting) (word : List ℕ) (rest : List (List ℕ)) : Type 0 where
@@ -170,113 +207,92 @@ record GoesOn (given : List Setting) (word : List ℕ) (rest : List (List ℕ)) 
   name : next.name ≡ word
   value : decimal next.value ∷ flat_map setting_words more ≡ rest
 
-goes_on : (words : List (List ℕ)) (at : ℕ) (depth : Option ℕ) (r : IsReadTo words at depth) (word : List ℕ) (rest : List (List ℕ)) (options : Options) → SaysSolve (take at words ++ word ∷ rest) options → GoesOn r.given word rest
-goes_on words at depth r word rest options says =
-    let all : says.path ∷ codes "solve" ∷ flat_map setting_words says.given ≡ r.path ∷ codes "solve" ∷ (flat_map setting_words r.given ++ word ∷ rest) =
+goes_on : (words : List (List ℕ)) (at : ℕ) (given : List Setting) (r : IsReadTo words at given) (word : List ℕ) (rest : List (List ℕ)) (options : Options) → SaysSolve (take at words ++ word ∷ rest) options → GoesOn given word rest
+goes_on words at given r word rest options says =
+    let all : says.path ∷ codes "solve" ∷ flat_map setting_words says.given ≡ r.path ∷ codes "solve" ∷ (flat_map setting_words given ++ word ∷ rest) =
     sym says.spelling ∙ ap (λ (ws : List (List ℕ)). ws ++ word ∷ rest) r.front in
-    let s = splits r.given says.given word rest r.settings says.settings (cons_tail _ _ _ _ (cons_tail _ _ _ _ all)) in
-    let placed = new_before r.given s.next s.more (subst AreSettings s.split says.settings) in
+    let s = splits given says.given word rest r.settings says.settings (cons_tail _ _ _ _ (cons_tail _ _ _ _ all)) in
+    let placed = new_before given s.next s.more (subst AreSettings s.split says.settings) in
     record { next = s.next; more = s.more; setting = placed.0; new = placed.1; name = s.name; value = s.value }
 
-some_none : {A : Type 0} (n : A) → Some n ≡ None → ⊥
-some_none n e = search rules
-
 -- a word that is no new option's name
-pub refused_name : (words : List (List ℕ)) (at : ℕ) (depth : Option ℕ) → IsReadTo words at depth → at < length words → (get_or words at [] ≡ codes "--depth" → IsSome depth) → IsRefusedAt words at
-refused_name words at depth r within given = refused_at words at within (begins_there words at depth r) stuck
+pub refused_name : (words : List (List ℕ)) (at : ℕ) (given : List Setting) → IsReadTo words at given → at < length words → ((s : Setting) → IsSetting s → get_or words at [] ≡ s.name → IsNew s.name given → ⊥) → IsRefusedAt words at
+refused_name words at given r within other = refused_at words at within (begins_there words at given r) stuck
   where
     stuck : IsStuck (take at words) (get_or words at [])
     stuck rest (Solve options) says =
-        let g = goes_on words at depth r (get_or words at []) rest options says in
-        let none : depth ≡ None = sym r.number ∙ number_for-new (codes "--depth") r.given (subst (λ (name : List ℕ). IsNew name r.given) g.setting.0 g.new) in
-        let wrong : false ≡ true = subst (λ (d : Option ℕ). IsSome d) none (given (sym g.name ∙ g.setting.0)) in
-        search rules
+        let g = goes_on words at given r (get_or words at []) rest options says in
+        other g.next g.setting (sym g.name) g.new
 
--- the option `--depth` with a number
-depth_setting : ℕ → Setting
-depth_setting n = record { name = codes "--depth"; value = n }
+longer_words : (path : List ℕ) (given : List Setting) (next : Setting) → solve_words path given ++ next.name ∷ decimal next.value ∷ [] ≡ solve_words path (given ++ next ∷ [])
+longer_words path given next = ap (λ (ws : List (List ℕ)). path ∷ codes "solve" ∷ ws) (sym (flat_map-append setting_words given (next ∷ [])))
 
-longer : (words : List (List ℕ)) (at : ℕ) (r : IsReadTo words at None) (n : ℕ) → n ≤ 12 → AreSettings (r.given ++ record { name = codes "--depth"; value = n } ∷ [])
-longer words at r n small = AreSettings-more r.given (record { name = codes "--depth"; value = n }) r.settings (refl, small) (IsNew-from_none (codes "--depth") r.given r.number)
-
-longer_words : (path : List ℕ) (given : List Setting) (n : ℕ) → solve_words path given ++ codes "--depth" ∷ decimal n ∷ [] ≡ solve_words path (given ++ record { name = codes "--depth"; value = n } ∷ [])
-longer_words path given n = ap (λ (ws : List (List ℕ)). path ∷ codes "solve" ∷ ws) (sym (flat_map-append setting_words given (record { name = codes "--depth"; value = n } ∷ [])))
-
--- the option and its number are read
-pub read_on : (words : List (List ℕ)) (at : ℕ) (n : ℕ) → IsReadTo words at None → at + 1 < length words → get_or words at [] ≡ codes "--depth" → get_or words (at + 1) [] ≡ decimal n → n ≤ 12 → IsReadTo words (at + 2) (Some n)
-read_on words at n r within name digits small =
+-- an option and its number are read
+pub read_on : (words : List (List ℕ)) (at : ℕ) (given : List Setting) (next : Setting) → IsReadTo words at given → IsSetting next → IsNew next.name given → at + 1 < length words → get_or words at [] ≡ next.name → get_or words (at + 1) [] ≡ decimal next.value → IsReadTo words (at + 2) (given ++ next ∷ [])
+read_on words at given next r setting new within name digits =
     let two : take (at + 2) words ≡ take at words ++ get_or words at [] ∷ get_or words (at + 1) [] ∷ [] = grind (arith, common_steps) in
-    let front : take (at + 2) words ≡ solve_words r.path (r.given ++ record { name = codes "--depth"; value = n } ∷ []) =
-    two ∙ ap (λ (w : List ℕ). take at words ++ w ∷ get_or words (at + 1) [] ∷ []) name ∙ ap (λ (w : List ℕ). take at words ++ codes "--depth" ∷ w ∷ []) digits ∙ ap (λ (ws : List (List ℕ)). ws ++ codes "--depth" ∷ decimal n ∷ []) r.front ∙ longer_words r.path r.given n in
+    let front : take (at + 2) words ≡ solve_words r.path (given ++ next ∷ []) =
+    two ∙ ap (λ (w : List ℕ). take at words ++ w ∷ get_or words (at + 1) [] ∷ []) name ∙ ap (λ (w : List ℕ). take at words ++ next.name ∷ w ∷ []) digits ∙ ap (λ (ws : List (List ℕ)). ws ++ next.name ∷ decimal next.value ∷ []) r.front ∙ longer_words r.path given next in
     record {
       path = r.path;
-      given = r.given ++ record { name = codes "--depth"; value = n } ∷ [];
       front = front;
       named = r.named;
-      settings = longer words at r n small;
-      number = number_for-more (codes "--depth") r.given (record { name = codes "--depth"; value = n } ∷ []) (IsNew-from_none (codes "--depth") r.given r.number);
+      settings = AreSettings-more given next r.settings setting new;
       within = omega arith;
     }
 
--- what stands in front of the number begins a command
-begins_value : (words : List (List ℕ)) (at : ℕ) → IsReadTo words at None → at < length words → get_or words at [] ≡ codes "--depth" → Begins (take (at + 1) words)
-begins_value words at r within name =
+-- what stands in front of an option's number begins a command
+begins_value : (words : List (List ℕ)) (at : ℕ) (given : List Setting) (next : Setting) → IsReadTo words at given → IsSetting next → IsNew next.name given → at < length words → get_or words at [] ≡ next.name → Begins (take (at + 1) words)
+begins_value words at given next r setting new within name =
     let one : take (at + 1) words ≡ take at words ++ get_or words at [] ∷ [] = grind (arith, common_steps) in
-    let front : take (at + 1) words ++ decimal 0 ∷ [] ≡ solve_words r.path (r.given ++ record { name = codes "--depth"; value = 0 } ∷ []) =
-    ap (λ (ws : List (List ℕ)). ws ++ decimal 0 ∷ []) (one ∙ ap (λ (w : List ℕ). take at words ++ w ∷ []) name ∙ ap (λ (ws : List (List ℕ)). ws ++ codes "--depth" ∷ []) r.front) ∙ append_assoc (solve_words r.path r.given) (codes "--depth" ∷ []) (decimal 0 ∷ []) ∙ longer_words r.path r.given 0 in (
-      decimal 0 ∷ [],
-      Solve (record { depth = 0 }),
-      record {
-        path = r.path;
-        given = r.given ++ record { name = codes "--depth"; value = 0 } ∷ [];
-        spelling = front;
-        named = r.named;
-        settings = longer words at r 0 (omega arith);
-        depth = sym (ap (λ d. unwrap_or d 4) (number_for-more (codes "--depth") r.given (record { name = codes "--depth"; value = 0 } ∷ []) (IsNew-from_none (codes "--depth") r.given r.number)));
-      },
-    )
+    let front : take (at + 1) words ++ decimal next.value ∷ [] ≡ solve_words r.path (given ++ next ∷ []) =
+    ap (λ (ws : List (List ℕ)). ws ++ decimal next.value ∷ []) (one ∙ ap (λ (w : List ℕ). take at words ++ w ∷ []) name ∙ ap (λ (ws : List (List ℕ)). ws ++ next.name ∷ []) r.front) ∙ append_assoc (solve_words r.path given) (next.name ∷ []) (decimal next.value ∷ []) ∙ longer_words r.path given next in
+    begins_with (take (at + 1) words) (decimal next.value ∷ []) r.path (given ++ next ∷ []) front r.named (AreSettings-more given next r.settings setting new)
 
--- a word behind `--depth` that is no number of it, or none
-pub refused_value : (words : List (List ℕ)) (at : ℕ) → IsReadTo words at None → at < length words → get_or words at [] ≡ codes "--depth" → (at + 1 < length words → (n : ℕ) → n ≤ 12 → get_or words (at + 1) [] ≢ decimal n) → IsRefusedAt words (at + 1)
-refused_value words at r within name other = go (at + 1 == length words) refl
+-- A word behind a new option's name that is no number of it, or none. `some` is a number that it could have.
+pub refused_value : (words : List (List ℕ)) (at : ℕ) (given : List Setting) (some : Setting) → IsReadTo words at given → IsSetting some → IsNew some.name given → at < length words → get_or words at [] ≡ some.name → (at + 1 < length words → (s : Setting) → IsSetting s → s.name ≡ some.name → get_or words (at + 1) [] ≢ decimal s.value) → IsRefusedAt words (at + 1)
+refused_value words at given some r setting new within name other = go (at + 1 == length words) refl
   where
-    value_of : (rest : List (List ℕ)) (options : Options) → SaysSolve (take at words ++ codes "--depth" ∷ rest) options → GoesOn r.given (codes "--depth") rest
-    value_of rest options says = goes_on words at None r (codes "--depth") rest options says
+    value_of : (rest : List (List ℕ)) (options : Options) → SaysSolve (take at words ++ some.name ∷ rest) options → GoesOn given some.name rest
+    value_of rest options says = goes_on words at given r some.name rest options says
 
-    one : take (at + 1) words ≡ take at words ++ codes "--depth" ∷ []
+    one : take (at + 1) words ≡ take at words ++ some.name ∷ []
     one = let e : take (at + 1) words ≡ take at words ++ get_or words at [] ∷ [] = grind (arith, common_steps) in e ∙ ap (λ (w : List ℕ). take at words ++ w ∷ []) name
 
     stuck : at + 1 < length words → IsStuck (take (at + 1) words) (get_or words (at + 1) [])
     stuck inside rest (Solve options) says =
         let word = get_or words (at + 1) [] in
-        let g = value_of (word ∷ rest) options (subst (λ (ws : List (List ℕ)). SaysSolve ws options) (ap (λ (ws : List (List ℕ)). ws ++ word ∷ rest) one ∙ append_assoc (take at words) (codes "--depth" ∷ []) (word ∷ rest)) says) in
-        other inside g.next.value g.setting.1 (sym (cons_head _ _ _ _ g.value))
+        let g = value_of (word ∷ rest) options (subst (λ (ws : List (List ℕ)). SaysSolve ws options) (ap (λ (ws : List (List ℕ)). ws ++ word ∷ rest) one ∙ append_assoc (take at words) (some.name ∷ []) (word ∷ rest)) says) in
+        other inside g.next g.setting g.name (sym (cons_head _ _ _ _ g.value))
 
     none : length words ≡ at + 1 → (command : Command) → Says words command → ⊥
     none end (Solve options) says =
-        let whole : words ≡ take at words ++ codes "--depth" ∷ [] = sym (take_all (at + 1) words (omega arith)) ∙ one in
+        let whole : words ≡ take at words ++ some.name ∷ [] = sym (take_all (at + 1) words (omega arith)) ∙ one in
         let g = value_of [] options (subst (λ (ws : List (List ℕ)). SaysSolve ws options) whole says) in
         not_nil _ _ (sym g.value)
+
+    begins : Begins (take (at + 1) words)
+    begins = begins_value words at given some r setting new within name
 
     go : (b : Bool) → (at + 1 == length words) ≡ b → IsRefusedAt words (at + 1)
     go true e =
         let end : length words ≡ at + 1 = grind (arith, common_steps) in
-        refused_end words (at + 1) (sym end) (subst Begins (take_all (at + 1) words (omega arith)) (begins_value words at r within name)) (none end)
+        refused_end words (at + 1) (sym end) (subst Begins (take_all (at + 1) words (omega arith)) begins) (none end)
     go false e =
         let inside : at + 1 < length words = grind (arith, common_steps) in
-        refused_at words (at + 1) inside (begins_value words at r within name) (stuck inside)
+        refused_at words (at + 1) inside begins (stuck inside)
 
 -- the front of a call
 
-solve_says : (path : List ℕ) → path ≢ [] → SaysSolve (path ∷ codes "solve" ∷ []) (record { depth = 4 })
-solve_says path named = record { path = path; given = []; spelling = refl; named = named; settings = tt; depth = refl }
+solve_says : (path : List ℕ) → path ≢ [] → SaysSolve (path ∷ codes "solve" ∷ []) (options_of [])
+solve_says path named = said (path ∷ codes "solve" ∷ []) path [] refl named tt
 
 some_path : ◌≢◌ {A = List ℕ} (45 ∷ []) []
 some_path e = not_nil _ _ (sym e)
 
 -- no word at all
 pub refused_empty : (words : List (List ℕ)) → length words ≡ 0 → IsRefusedAt words 0
-refused_empty words end = refused_end words 0 (sym end) (subst Begins none ((45 ∷ []) ∷ codes "solve" ∷ [], Solve (record { depth = 4 }), solve_says (45 ∷ []) some_path)) (λ command says. no_words command (subst (λ (ws : List (List ℕ)). Says ws command) (sym none) says))
+refused_empty words end = refused_end words 0 (sym end) (subst Begins none ((45 ∷ []) ∷ codes "solve" ∷ [], Solve (options_of []), solve_says (45 ∷ []) some_path)) (λ command says. no_words command (subst (λ (ws : List (List ℕ)). Says ws command) (sym none) says))
   where
     none : [] ≡ words
     none = let e : take 0 words ≡ words = take_all 0 words (omega arith) in e
@@ -286,7 +302,7 @@ refused_empty words end = refused_end words 0 (sym end) (subst Begins none ((45 
 
 -- an empty path
 pub refused_path : (words : List (List ℕ)) → 0 < length words → get_or words 0 [] ≡ [] → IsRefusedAt words 0
-refused_path words within empty = refused_at words 0 within ((45 ∷ []) ∷ codes "solve" ∷ [], Solve (record { depth = 4 }), solve_says (45 ∷ []) some_path) stuck
+refused_path words within empty = refused_at words 0 within ((45 ∷ []) ∷ codes "solve" ∷ [], Solve (options_of []), solve_says (45 ∷ []) some_path) stuck
   where
     stuck : IsStuck (take 0 words) (get_or words 0 [])
     stuck rest (Solve options) says = says.named (sym (cons_head _ _ _ _ says.spelling) ∙ empty)
@@ -302,7 +318,7 @@ refused_command words within named other = go (length words == 1) refl
     one = grind (arith, common_steps)
 
     good : Begins (take 1 words)
-    good = (codes "solve" ∷ [], Solve (record { depth = 4 }), subst (λ (ws : List (List ℕ)). SaysSolve (ws ++ codes "solve" ∷ []) (record { depth = 4 })) (sym one) (solve_says path named))
+    good = (codes "solve" ∷ [], Solve (options_of []), subst (λ (ws : List (List ℕ)). SaysSolve (ws ++ codes "solve" ∷ []) (options_of [])) (sym one) (solve_says path named))
 
     stuck : 1 < length words → IsStuck (take 1 words) (get_or words 1 [])
     stuck inside rest (Solve options) says =
@@ -323,8 +339,8 @@ refused_command words within named other = go (length words == 1) refl
         refused_at words 1 inside good (stuck inside)
 
 -- a path and `solve` are read
-pub read_front : (words : List (List ℕ)) (path : List ℕ) → 1 < length words → path ≢ [] → take 2 words ≡ path ∷ codes "solve" ∷ [] → IsReadTo words 2 None
-read_front words path within named front = record { path = path; given = []; front = front; named = named; settings = tt; number = refl; within = within }
+pub read_front : (words : List (List ℕ)) (path : List ℕ) → 1 < length words → path ≢ [] → take 2 words ≡ path ∷ codes "solve" ∷ [] → IsReadTo words 2 []
+read_front words path within named front = record { path = path; front = front; named = named; settings = tt; within = within }
 
 -- words say one command
 pub one_command : (words : List (List ℕ)) (first second : Command) → Says words first → Says words second → first ≡ second
@@ -332,7 +348,8 @@ one_command words (Solve options) (Solve others) first second =
     let behind : flat_map setting_words second.given ≡ flat_map setting_words first.given = cons_tail _ _ _ _ (cons_tail _ _ _ _ (sym second.spelling ∙ first.spelling)) in
     let same : second.given ≡ first.given = same_settings first.given second.given first.settings second.settings behind in
     let depth : options.depth ≡ others.depth = first.depth ∙ ap (λ g. unwrap_or (number_for (codes "--depth") g) 4) (sym same) ∙ sym second.depth in
-    ap (λ (d : ℕ). Solve (record { depth = d })) depth
+    let plies : options.plies ≡ others.plies = first.plies ∙ ap (λ g. unwrap_or (number_for (codes "--plies") g) 200) (sym same) ∙ sym second.plies in
+    ap (λ (d : ℕ). Solve (record { depth = d; plies = options.plies })) depth ∙ ap (λ (p : ℕ). Solve (record { depth = others.depth; plies = p })) plies
 
 -- the place of a refusal
 

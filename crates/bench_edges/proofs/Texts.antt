@@ -27,6 +27,16 @@ pub text_other : (words : List (Bor (List ℕ))) (at : ℕ) (none : Bor (List �
 text_other words at none name ne within test e same =
     not_true _ (sym test ∙ e) ((bytes_eq-Decides (get_or words at none).now name).1 (sym (text_at words at none within) ∙ same))
 
+-- what a test `words[at] == name` shows
+pub text_eq : (words : List (Bor (List ℕ))) (at : ℕ) (none : Bor (List ℕ)) (name : List ℕ) (eq : Bool) → at < length words → eq ≡ bytes_eq (get_or words at none).now name → eq ≡ true → get_or (texts words) at [] ≡ name
+text_eq words at none name eq within test e =
+    text_at words at none within ∙ (bytes_eq-Decides (get_or words at none).now name).0 (sym test ∙ e)
+
+pub text_ne : (words : List (Bor (List ℕ))) (at : ℕ) (none : Bor (List ℕ)) (name : List ℕ) (eq : Bool) → at < length words → eq ≡ bytes_eq (get_or words at none).now name → eq ≡ false → get_or (texts words) at [] ≢ name
+text_ne words at none name eq within test e same =
+    let wrong : false ≡ true = sym (sym test ∙ e) ∙ (bytes_eq-Decides (get_or words at none).now name).1 (sym (text_at words at none within) ∙ same) in
+    search rules
+
 nil_from_length : (word : List ℕ) → length word ≡ 0 → word ≡ []
 nil_from_length [] e = refl
 nil_from_length (x ∷ xs) e = let wrong : length (x ∷ xs) ≡ 0 = e in grind (arith, common_steps)

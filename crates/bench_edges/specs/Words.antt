@@ -1,10 +1,10 @@
 -- The words that the program is called with, as the manual has them.
 --
---   PATH solve [--depth N]
+--   PATH solve [--depth N] [--plies N]
 --
 -- PATH is the journal's and not empty. The options follow in any order, each at most once, and each with its number
 -- in the next word: decimal digits without sign and without leading zeros.
-use Rattle.std.specs.Prelude.{◌≡◌, ◌≢◌, ℕ, ◌+◌, ◌<◌, ◌≤◌, List, [], ◌∷◌, ◌++◌, length, take, map, Option, Some, None, unwrap_or, codes, decimal, if◌then◌else◌}
+use Rattle.std.specs.Prelude.{◌≡◌, ◌≢◌, ◌⊎◌, ℕ, ◌+◌, ◌<◌, ◌≤◌, List, [], ◌∷◌, ◌++◌, length, take, map, Option, Some, None, unwrap_or, codes, decimal, if◌then◌else◌}
 use Rattle.std.specs.Borrow.{Bor}
 use Rattle.std.specs.List.{flat_map}
 use Rattle.std.specs.Str.{bytes_eq}
@@ -27,7 +27,7 @@ setting_words s = s.name ∷ decimal s.value ∷ []
 
 -- it is an option that there is, with a number within its limits
 abbrev pub IsSetting : Setting → Type 0
-IsSetting s = (s.name ≡ codes "--depth") × (s.value ≤ 12)
+IsSetting s = ((s.name ≡ codes "--depth") × (s.value ≤ 12)) ⊎ ((s.name ≡ codes "--plies") × (s.value ≤ 200))
 
 -- none of these has the name
 abbrev pub IsNew : List ℕ → List Setting → Type 0
@@ -56,6 +56,7 @@ pub record SaysSolve (words : List (List ℕ)) (options : Options) : Type 0 wher
   pub named : path ≢ []
   pub settings : AreSettings given
   pub depth : options.depth ≡ unwrap_or (number_for (codes "--depth") given) 4
+  pub plies : options.plies ≡ unwrap_or (number_for (codes "--plies") given) 200
 
 -- the words say this command: they are in the grammar
 abbrev pub Says : List (List ℕ) → Command → Type 0

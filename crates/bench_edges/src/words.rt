@@ -16,6 +16,8 @@ pub enum Command {
 pub struct Options {
     /// How many plies a search looks ahead, 0 to 12.
     pub depth: u8,
+    /// How many plies of each game are played, 0 to 200.
+    pub plies: u8,
 }
 
 /// The words are not in the grammar.
@@ -30,6 +32,10 @@ pub struct WordsRefusal {
 const DEFAULT_DEPTH: u8 = 4;
 
 const MAX_DEPTH: u32 = 12;
+
+const DEFAULT_PLIES: u8 = 200;
+
+const MAX_PLIES: u32 = 200;
 
 // The number that a word is in decimal digits, without sign and without leading zeros.
 fn number(word: &str) -> Option<u32>
@@ -72,21 +78,27 @@ fn read_solve(words: &[&str]) -> Result<Command, WordsRefusal>
     ensures refused { IfErr result (λ refusal. IsRefusedAt (texts words.now) refusal.at) }
 {
     let mut depth = None;
+    let mut plies = None;
     let mut at = 2;
     while at < words.len() {
-        if words[at] != "--depth" || depth.is_some() {
+        if words[at] == "--depth" && depth.is_none() {
+            depth = Some(number_at(words, at + 1, MAX_DEPTH)? as u8);
+        } else if words[at] == "--plies" && plies.is_none() {
+            plies = Some(number_at(words, at + 1, MAX_PLIES)? as u8);
+        } else {
             return Err(WordsRefusal { at });
         }
-        depth = Some(number_at(words, at + 1, MAX_DEPTH)? as u8);
         at += 2;
     }
     Ok(Command::Solve(Options {
         depth: depth.unwrap_or(DEFAULT_DEPTH),
+        plies: plies.unwrap_or(DEFAULT_PLIES),
     }))
 }
 
 /// Reads the words, without the program's name: a path, `solve`, and its options in any order, each at
-/// most once, with its number in the next word. `--depth` takes 0 to 12, and is 4 where it is not given.
+/// most once, with its number in the next word: `--depth`, 0 to 12 and by default 4, and `--plies`, 0 to
+/// 200 and by default 200.
 ///
 /// Refuses words that are not in this grammar at the first that cannot stand where it stands (places
 /// count from 0), or at their number where one is missing.
@@ -112,8 +124,8 @@ mod tests {
     use super::*;
     use std::process::Abort;
 
-    fn expect_depth(rt: &impl Abort, words: &[&str], depth: u8) {
-        let solve = Command::Solve(Options { depth });
+    fn expect_solve(rt: &impl Abort, words: &[&str], depth: u8, plies: u8) {
+        let solve = Command::Solve(Options { depth, plies });
         assert_eq!(rt; read_words(words), Ok(solve), "{words:?}");
     }
 
@@ -123,10 +135,18 @@ mod tests {
 
     #[test]
     fn reads_solve(rt: HostRuntime) {
-        expect_depth(&rt, &["-", "solve"], 4);
-        expect_depth(&rt, &["-", "solve", "--depth", "0"], 0);
-        expect_depth(&rt, &["a journal", "solve", "--depth", "12"], 12);
-        expect_depth(&rt, &["--depth", "solve", "--depth", "1"], 1);
+        expect_solve(&rt, &["-", "solve"], 4, 200);
+        expect_solve(&rt, &["-", "solve", "--depth", "0"], 0, 200);
+        expect_solve(&rt, &["a journal", "solve", "--depth", "12"], 12, 200);
+        expect_solve(&rt, &["--depth", "solve", "--depth", "1"], 1, 200);
+        expect_solve(&rt, &["-", "solve", "--plies", "0"], 4, 0);
+        expect_solve(&rt, &["-", "solve", "--plies", "9", "--depth", "2"], 2, 9);
+        expect_solve(
+            &rt,
+            &["-", "solve", "--depth", "2", "--plies", "200"],
+            2,
+            200,
+        );
     }
 
     #[test]
@@ -141,6 +161,13 @@ mod tests {
             expect_refused(&rt, &["-", "solve", "--depth", number], 3);
         }
         expect_refused(&rt, &["-", "solve", "--depth", "1", "2"], 4);
+        expect_refused(&rt, &["-", "solve", "--plies", "201"], 3);
+        expect_refused(&rt, &["-", "solve", "--depth", "1", "--plies", "-1"], 5);
+        expect_refused(
+            &rt,
+            &["-", "solve", "--plies", "1", "--depth", "1", "--plies", "1"],
+            6,
+        );
         expect_refused(&rt, &["-", "solve", "--depth", "1", "--depth", "1"], 4);
     }
 
@@ -149,5 +176,6 @@ mod tests {
         expect_refused(&rt, &[], 0);
         expect_refused(&rt, &["-"], 1);
         expect_refused(&rt, &["-", "solve", "--depth"], 3);
+        expect_refused(&rt, &["-", "solve", "--depth", "1", "--plies"], 5);
     }
 }

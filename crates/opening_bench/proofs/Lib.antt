@@ -1,6 +1,4 @@
 pub mod LookAheadLemmas
-pub mod LineLemmas
-pub mod FenFacts
-pub mod ReportLemmas
-pub mod InputLemmas
-pub mod BenchLemmas
+pub mod RootLemmas
+pub mod RefusalLemmas
+pub mod RunLemmas

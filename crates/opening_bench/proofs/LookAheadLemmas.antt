@@ -1,14 +1,14 @@
 -- What one ply of looking ahead adds.
-use Rattle.std.proofs.Common.{◌≡◌, ◌≢◌, ℕ, zero, suc, ◌+◌, ◌-◌, ◌<◌, ◌≤◌, ◌⊎◌, inl, inr, Bool, true, false, ◌||◌, List, [], ◌∷◌, Option, None, Some, refl, sym, ◌∙◌, ap, subst, arith, get_or, cond, take, length, ◌&&◌, ◌==◌}
-use Rattle.std.specs.Prelude.{Contains, count_by, nat_le}
+use Rattle.std.proofs.Common.{◌≡◌, ℕ, zero, suc, ◌+◌, ◌<◌, ◌≤◌, ◌⊎◌, inl, inr, Bool, true, false, ◌||◌, List, [], ◌∷◌, Option, None, Some, refl, sym, ◌∙◌, ap, subst, arith, get_or, take, length, ◌==◌}
+use Rattle.std.specs.Prelude.{Contains, nat_le}
 use Rattle.std.specs.Cmp.{first_so, second_so}
 use Rattle.std.proofs.lemmas.Bool.{false≢true, true≢false, leb-true}
 use Rattle.draughts_board.specs.declared.pieces.Side.{Side}
 use Rattle.draughts_board.specs.declared.pieces.Side.TheVariants.{Black, White}
-use Rattle.draughts_board.specs.Board.{Board, IsLawful, other, belongs, pieces, piece_count, cell_at}
-use Rattle.draughts_board.specs.Rules.{IsLegal, IsCapture, IsStep, first_square, is_own, are_distinct}
+use Rattle.draughts_board.specs.Board.{Board, IsLawful, other, pieces, piece_count}
+use Rattle.draughts_board.specs.Rules.{IsLegal, first_square, is_own}
 use Rattle.draughts_board.specs.Play.{successors_of, is_nil}
-use Rattle.draughts_board.specs.Game.{Game, CanForce, by_move, by_every_reply, WinsIn, Wins, ShowsWin, is_at_sight}
+use Rattle.draughts_board.specs.Game.{CanForce, by_move, by_every_reply, ShowsWin, is_at_sight}
 use Rattle.draughts_board.specs.Draughts.{draughts}
 use Rattle.draughts_board.proofs.Growth.{Each, IsPieceOf, distinct-count}
 use Rattle.draughts_board.proofs.Members.{bool_cases, Contains-nil, Contains-head}

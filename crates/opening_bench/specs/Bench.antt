@@ -1,76 +1,103 @@
--- How a run ends, and what it leaves.
-use Rattle.std.specs.Prelude.{◌≡◌, ℕ, ◌<◌, ◌⊎◌, List, [], ◌∷◌, ◌++◌, length, Option, Some, None, IfSome}
-use Rattle.std.specs.List.{flat_map}
+-- How a run ends, for which cause, and what it leaves.
+use Rattle.std.specs.Prelude.{◌≡◌, ◌≢◌, ℕ, ◌<◌, ◌⊎◌, List, ◌++◌, length, Option, None, IfSome, Contains}
 use Rattle.std.specs.Io.KnownBytes.{Appends}
-use Rattle.draughts_board.specs.declared.pieces.Side.{Side}
-use Rattle.draughts_board.specs.declared.pieces.Side.TheVariants.{Black, White}
-use Rattle.draughts_board.specs.declared.pieces.Value.{Value}
-use Rattle.draughts_board.specs.declared.pieces.Value.TheVariants.{BlackWins, WhiteWins}
-use Rattle.draughts_board.specs.Board.{Board, IsLawful}
+use Rattle.bench_edges.specs.Faults.{Rose}
+use Rattle.bench_edges.specs.Words.{Says, IsRefusedAt}
 use Rattle.bench_edges.specs.declared.status.Status.{Status}
-use Rattle.bench_edges.specs.declared.status.Status.TheVariants.{Done, Unsolved, Words, Input, Disk, Journal, Memory, Read, Write}
+use Rattle.bench_edges.specs.declared.status.Status.TheVariants.{Done, Unsolved, Words, Input, Memory, Read, Write}
 use Rattle.bench_edges.specs.declared.words.Command.TheVariants.{Solve}
 use Rattle.bench_edges.specs.declared.words.Options.{Options}
-use Rattle.bench_edges.specs.Words.{Says}
-use Rattle.opening_bench.specs.declared.roots.Root.{Root}
-use Rattle.opening_bench.specs.Input.{IsGameOf}
-use Rattle.opening_bench.specs.LookAhead.{ShowsWinner}
-use Rattle.opening_bench.specs.Report.{report_lines, ValuesAreTrue}
+use Rattle.pdn_openings.specs.declared.opening.Opening.{Opening}
+use Rattle.opening_report.specs.declared.roots.Root.{Root}
+use Rattle.opening_report.specs.declared.refusals.Refusal.{Refusal}
+use Rattle.opening_report.specs.declared.refusals.Refusal.TheVariants as refusal
+use Rattle.opening_report.specs.Report.{report_of, StandsOnce}
+use Rattle.opening_report.specs.Refusals.{refusal_text}
+use Rattle.opening_bench.specs.Solving.{OpeningsOf, root_positions, AreRootsOf, IsTextRefusal}
 
--- the run came to its output: it was written, or the sink failed at it
+-- the run came to its report: it was written, or the sink failed at it
 abbrev pub Reports : Status → Type 0
 Reports Done = Unit {0}
 Reports Unsolved = Unit {0}
 Reports Write = Unit {0}
-Reports Words = ⊥
-Reports Input = ⊥
-Reports Disk = ⊥
-Reports Journal = ⊥
-Reports Memory = ⊥
-Reports Read = ⊥
+Reports status = ⊥
 
--- the value of a position that this side wins
-abbrev pub won_by : Option Side → Option Value
-won_by (Some Black) = Some BlackWins
-won_by (Some White) = Some WhiteWins
-won_by None = None
+-- the whole report was written
+abbrev pub Finishes : Status → Type 0
+Finishes Done = Unit {0}
+Finishes Unsolved = Unit {0}
+Finishes status = ⊥
 
--- the root has the value that looking d plies ahead shows of its position, and none where none shows
-abbrev pub IsShown : ℕ → Root → Type 0
-IsShown d r = (winner : Option Side) × ((r.value ≡ won_by winner) × ShowsWinner r.position d winner)
+-- the run was refused
+abbrev pub Refuses : Status → Type 0
+Refuses Words = Unit {0}
+Refuses Input = Unit {0}
+Refuses Memory = Unit {0}
+Refuses Read = Unit {0}
+Refuses status = ⊥
 
-abbrev pub report_of : List Root → List ℕ
-report_of roots = flat_map (λ line. line) (report_lines roots)
+-- the status of a refused run
+abbrev pub status_of : Refusal → Status
+status_of (refusal.Words at) = Words
+status_of refusal.Memory = Memory
+status_of refusal.Read = Read
+status_of other = Input
 
--- The sink took all of the text; where it failed, a front of it that is shorter.
-abbrev pub Takes : Status → Option (List ℕ) → Option (List ℕ) → List ℕ → Type 0
-Takes Write before after text = (front : List ℕ) × ((back : List ℕ) × ((text ≡ front ++ back) × ((0 < length back) × Appends before after front)))
-Takes status before after text = Appends before after text
+-- The sink took a front of the text, and not all of it.
+abbrev pub TakesFront : Option (List ℕ) → Option (List ℕ) → List ℕ → Type 0
+TakesFront before after text = (front : List ℕ) × ((back : List ℕ) × ((text ≡ front ++ back) × ((0 < length back) × Appends before after front)))
 
--- status 0 where the root has a value, and 1 where it has none; a fault of the sink says nothing of it
-abbrev pub Fits : Status → Option Value → Type 0
-Fits Done (Some v) = Unit {0}
-Fits Done None = ⊥
-Fits Unsolved (Some v) = ⊥
-Fits Unsolved None = Unit {0}
-Fits status value = Unit {0}
+-- With status 0 each root has a value, with status 1 some root has none; either way the sink took the whole report.
+-- With status 8 it took a front of it.
+abbrev pub Takes : Status → List Root → Option (List ℕ) → Option (List ℕ) → Type 0
+Takes Done roots before after = ((r : Root) → Contains roots r → r.value ≢ None) × Appends before after (report_of roots)
+Takes Unsolved roots before after = ((r : Root) × (Contains roots r × (r.value ≡ None))) × Appends before after (report_of roots)
+Takes Write roots before after = TakesFront before after (report_of roots)
+Takes status roots before after = ⊥
 
--- What a run does that comes to its output: the words say `solve`, the source is one game, and what is written is
--- the report on its position, looked at as many plies ahead as the words say.
+-- What a run does that comes to its report: the words say `solve`, the source has openings, the roots are their distinct
+-- positions, each with the value that looking ahead shows, and what is written is the report on them.
 pub record Solves (words : List (List ℕ)) (source before after : Option (List ℕ)) (status : Status) : Type 0 where
   pub options : Options
   pub said : Says words (Solve options)
-  pub root : Root
-  pub lawful : IsLawful root.position
-  pub game : IfSome source (λ text. IsGameOf text root.position)
-  pub shown : IsShown options.depth root
-  pub fits : Fits status root.value
-  pub taken : Takes status before after (report_of (root ∷ []))
+  pub openings : List Opening
+  pub read : IfSome source (λ text. OpeningsOf options.plies text openings)
+  pub roots : List Root
+  pub are_roots : AreRootsOf options.depth (root_positions openings) roots
+  pub taken : Takes status roots before after
+
+-- why a run that says `solve` with these plies was refused: its source is too long, or its text has no openings; or it
+-- failed; or memory ran out
+abbrev pub IsSourceRefusal : ℕ → Option (List ℕ) → ℕ → ℕ → Refusal → Type 0
+IsSourceRefusal plies source before after refusal.TooLong = IfSome source (λ text. 16777216 < length text) × (after ≡ before)
+IsSourceRefusal plies source before after refusal.Memory = Unit {0}
+IsSourceRefusal plies source before after refusal.Read = Rose before after
+IsSourceRefusal plies source before after other = IfSome source (λ text. IsTextRefusal plies text other) × (after ≡ before)
+
+-- The cause of a refusal: words that are not in the grammar, or what is wrong with the source.
+abbrev pub HasCause : List (List ℕ) → Option (List ℕ) → ℕ → ℕ → Refusal → Type 0
+HasCause words source before after (refusal.Words at) = IsRefusedAt words at
+HasCause words source before after other = (options : Options) × (Says words (Solve options) × IsSourceRefusal options.plies source before after other)
+
+-- The sink took exactly the refusal's line; or a front of it, where the sink's faults rose.
+abbrev pub TakesLine : Refusal → Option (List ℕ) → Option (List ℕ) → ℕ → ℕ → Type 0
+TakesLine r before after faults_before faults_after =
+    Appends before after (refusal_text r) ⊎ (Rose faults_before faults_after × TakesFront before after (refusal_text r))
+
+-- What a refused run does: there is a cause, its status is that of the cause, and the one line that it writes says so.
+pub record IsRefused (words : List (List ℕ)) (source : Option (List ℕ)) (read_before read_after : ℕ) (before after : Option (List ℕ)) (written_before written_after : ℕ) (status : Status) : Type 0 where
+  pub refusal : Refusal
+  pub cause : HasCause words source read_before read_after refusal
+  pub status_is : status_of refusal ≡ status
+  pub line : TakesLine refusal before after written_before written_after
 
 -- what the sink took in this run: what it has besides what it had
 abbrev pub WritesOnly : Option (List ℕ) → Option (List ℕ) → (List ℕ → Type 0) → Type 0
 WritesOnly before after P = (written : List ℕ) × (Appends before after written × P written)
 
--- The source is no input: it is longer than its limit of 16,777,216 bytes, or it is not one game with a position.
-abbrev pub IsNoInput : Option (List ℕ) → Type 0
-IsNoInput source = IfSome source (λ text. (16777216 < length text) ⊎ ((p : Board) → ¬ IsGameOf text p))
+-- Each position of the openings of the source stands in exactly one `root` line.
+abbrev pub HoldsOpenings : List (List ℕ) → Option (List ℕ) → List ℕ → Type 0
+HoldsOpenings words source written =
+    (options : Options) → Says words (Solve options)
+    → IfSome source (λ text. (openings : List Opening) → OpeningsOf options.plies text openings
+    → (opening : Opening) → Contains openings opening → StandsOnce written opening.position)

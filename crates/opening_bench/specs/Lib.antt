@@ -1,6 +1,5 @@
 pub mod LookAhead
-pub mod Lines
-pub mod Report
-pub mod Input
+pub mod Solving
 pub mod Bench
-pub mod Run
+pub mod Steps
+pub mod Writing

@@ -1,5 +1,5 @@
 -- What looking ahead answers.
-use Rattle.std.specs.Prelude.{◌≡◌, ℕ, Option, None, Some}
+use Rattle.std.specs.Prelude.{ℕ, Option, None, Some}
 use Rattle.draughts_board.specs.Board.{Board}
 use Rattle.draughts_board.specs.Game.{ShowsWin}
 use Rattle.draughts_board.specs.Draughts.{draughts}

@@ -1,4 +1,4 @@
-use Rattle.std.proofs.Common.{◌≡◌, ℕ, Bool, ◌+◌, ◌-◌, ◌<◌, suc, true, false, ◌∙◌, sym, ap, subst, arith, length, ◌==◌, ◌&&◌, Some, None, vec_len, refl}
+use Rattle.std.proofs.Common.{◌≡◌, Bool, ◌-◌, suc, true, false, ◌∙◌, sym, ap, subst, arith, length, ◌==◌, ◌&&◌, Some, None, vec_len, refl}
 use Rattle.std.specs.Prelude.{Contains}
 use Rattle.draughts_board.specs.Game.{ShowsWin}
 use Rattle.draughts_board.specs.Draughts.{draughts}

@@ -1,0 +1,18 @@
+use Rattle.std.proofs.Common.{◌≡◌, ◌∙◌, List, sym, subst}
+use Rattle.pdn_openings.specs.Openings.{AreOpenings}
+use Rattle.pdn_text.specs.declared.game.Game.{Game}
+use Rattle.opening_bench.proofs.RefusalLemmas.{pdn_only, openings_only, same_games}
+use Rattle.opening_bench.proofs.text.openings_of.Goals as goal
+
+pub returns-in-Err-clause-only : goal.returns-in-Err-clause-only
+returns-in-Err-clause-only c all o = c.of_pdn.ensures ∙ pdn_only o.0 c.in-Err.refusal (c.in-Err.ensures.only_games o.0 o.1.0)
+
+pub returns-in-Ok-openings-clause-only : goal.returns-in-Ok-openings-clause-only
+returns-in-Ok-openings-clause-only c all o =
+    let same : o.0 ≡ c.deref.result.now = same_games o.0 c.in-Ok.games.items (c.in-Ok.ensures.only_games o.0 o.1.0) ∙ sym c.deref.ensures.value in
+    c.in-Ok-openings.ensures.only_openings all (subst (λ (games : List Game). AreOpenings c.args.plies games all) same o.1.1)
+
+pub returns-clause-only : goal.returns-clause-only
+returns-clause-only c all o =
+    let same : o.0 ≡ c.deref.result.now = same_games o.0 c.in-Ok.games.items (c.in-Ok.ensures.only_games o.0 o.1.0) ∙ sym c.deref.ensures.value in
+    c.of_openings.ensures ∙ openings_only c.in-Err-openings.refusal (c.in-Err-openings.ensures.only_openings all (subst (λ (games : List Game). AreOpenings c.args.plies games all) same o.1.1))

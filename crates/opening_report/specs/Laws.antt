@@ -1,0 +1,24 @@
+-- What is believed of a text that is written.
+use Rattle.std.specs.Prelude.{◌≡◌, ℕ, ◌+◌, ◌<◌, ◌^◌, List, ◌++◌, length, Contains}
+use Rattle.opening_report.specs.declared.roots.Root.{Root}
+use Rattle.opening_report.specs.declared.refusals.Refusal.{Refusal}
+use Rattle.opening_report.specs.Lines.{IsLine}
+use Rattle.opening_report.specs.Report.{report_of, ValuesAreTrue, StandsOnce, AreTrueRoots, AreApart}
+use Rattle.opening_report.specs.Refusals.{refusal_text}
+
+-- The report on true roots, and each front of it, has true values alone.
+abbrev pub ReportsAreTrue : Type 0
+ReportsAreTrue =
+    (roots : List Root) (front back : List ℕ) → 1 + length roots < 2 ^ 64 → AreTrueRoots roots
+    → report_of roots ≡ front ++ back → ValuesAreTrue front
+
+-- In the report on roots that are apart, the position of each stands in exactly one line.
+abbrev pub RootsStandOnce : Type 0
+RootsStandOnce =
+    (roots : List Root) (r : Root) → 1 + length roots < 2 ^ 64 → AreTrueRoots roots → AreApart roots
+    → Contains roots r → StandsOnce (report_of roots) r.position
+
+-- The line of a refusal, and each front of it, has no value in it.
+abbrev pub RefusalsSayNoValue : Type 0
+RefusalsSayNoValue =
+    (r : Refusal) (front back : List ℕ) → IsLine (refusal_text r) → refusal_text r ≡ front ++ back → ValuesAreTrue front

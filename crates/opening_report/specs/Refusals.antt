@@ -1,0 +1,45 @@
+-- The one line that a refused run writes.
+use Rattle.std.specs.Prelude.{ℕ, List, [], ◌∷◌, ◌++◌, codes, decimal}
+use Rattle.draughts_board.specs.declared.pieces.Side.TheVariants.{Black, White}
+use Rattle.fen_text.specs.declared.refusal.FenRefusal.{FenRefusal}
+use Rattle.fen_text.specs.declared.refusal.FenRefusal.TheVariants.{BadLetter, BadSquare, Twice, TooMany, ManOnLastRow, Truncated}
+use Rattle.opening_report.specs.declared.refusals.Refusal.{Refusal}
+use Rattle.opening_report.specs.declared.refusals.Refusal.TheVariants as refusal
+
+-- a label, a number and the line end
+abbrev pub numbered : List ℕ → ℕ → List ℕ
+numbered label n = label ++ (decimal n ++ 10 ∷ [])
+
+-- `refused input game G` and what follows
+abbrev pub of_game : ℕ → List ℕ → List ℕ
+of_game game rest = codes "refused input game " ++ (decimal game ++ rest)
+
+-- why the FEN of a game is none
+abbrev pub fen_words : FenRefusal → List ℕ
+fen_words (BadLetter at) = numbered (codes " fen bad-letter ") at
+fen_words (BadSquare at) = numbered (codes " fen bad-square ") at
+fen_words (Twice square) = numbered (codes " fen twice ") square
+fen_words (TooMany Black) = codes " fen too-many black\n"
+fen_words (TooMany White) = codes " fen too-many white\n"
+fen_words (ManOnLastRow square) = numbered (codes " fen man-on-last-row ") square
+fen_words Truncated = codes " fen truncated\n"
+
+-- `ply P byte A` and what is wrong with the move
+abbrev pub move_words : ℕ → ℕ → List ℕ → List ℕ
+move_words ply at wrong = codes " ply " ++ (decimal ply ++ (codes " byte " ++ (decimal at ++ wrong)))
+
+abbrev pub refusal_text : Refusal → List ℕ
+refusal_text (refusal.Words at) = numbered (codes "refused words at ") at
+refusal_text refusal.TooLong = codes "refused input too-long\n"
+refusal_text (refusal.PdnBadByte at) = numbered (codes "refused input pdn bad-byte ") at
+refusal_text (refusal.PdnOpenTag at) = numbered (codes "refused input pdn open-tag ") at
+refusal_text (refusal.PdnOpenComment at) = numbered (codes "refused input pdn open-comment ") at
+refusal_text (refusal.PdnOpenVariation at) = numbered (codes "refused input pdn open-variation ") at
+refusal_text (refusal.PdnBadMove at) = numbered (codes "refused input pdn bad-move ") at
+refusal_text refusal.PdnTooManyGames = codes "refused input pdn too-many-games\n"
+refusal_text (refusal.OtherGame game) = of_game game (codes " other-game\n")
+refusal_text (refusal.Fen game fault) = of_game game (fen_words fault)
+refusal_text (refusal.Illegal game ply at) = of_game game (move_words ply at (codes " illegal\n"))
+refusal_text (refusal.Ambiguous game ply at) = of_game game (move_words ply at (codes " ambiguous\n"))
+refusal_text refusal.Memory = codes "refused memory\n"
+refusal_text refusal.Read = codes "refused read\n"

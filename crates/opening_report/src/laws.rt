@@ -1,0 +1,10 @@
+//! Laws of what is written: each function does nothing, and its contract is the law.
+ghost use Rattle.opening_report.specs.Laws.{ReportsAreTrue, RootsStandOnce, RefusalsSayNoValue};
+
+/// What a report says of true roots is true, also where only a front of it was written; each position of roots that are
+/// apart stands in exactly one line; and no refusal says a value.
+pub fn written_is_true()
+    ensures reports { ReportsAreTrue }
+    ensures once { RootsStandOnce }
+    ensures refusals { RefusalsSayNoValue }
+{}

@@ -1,0 +1,16 @@
+//! What the program writes: the report, a line for each root and a summary, or the one line of a refusal.
+//!
+//! The texts are functions of what they say (`specs/Report.antt`, `specs/Refusals.antt`). [`laws`] says what a reader of
+//! a report may believe.
+#![tactic(auto)]
+
+pub mod laws;
+mod refusals;
+mod reports;
+mod roots;
+#[cfg(test)]
+mod tests;
+
+pub use refusals::{Refusal, refusal_line};
+pub use reports::report;
+pub use roots::Root;

@@ -1,0 +1,199 @@
+//! Why a run was refused, and the line that says so.
+ghost use Rattle.std.specs.Prelude.{◌≡◌, ◌+◌, ◌≤◌, ◌++◌, IsTrue, length, decimal, codes};
+ghost use Rattle.arrayvec.specs.ArrayString.{array_string_len};
+ghost use Rattle.opening_report.specs.Lines.{IsLine, Lacks, is_line};
+ghost use Rattle.opening_report.specs.Refusals.{numbered, of_game, fen_words, move_words, refusal_text};
+
+use arrayvec::ArrayString;
+use draughts_board::Side;
+use fen_text::FenRefusal;
+use itoa::Buffer;
+
+/// Why a run was refused. Places of words and bytes count from 0, games and plies from 1.
+#[derive(Clone, Copy, Debug, PartialEq, Eq)]
+pub enum Refusal {
+    /// The word at this place cannot stand there, or is missing.
+    Words(usize),
+    /// The source is longer than its limit.
+    TooLong,
+    /// A byte at this place begins nothing.
+    PdnBadByte(usize),
+    /// The tag that begins at this place is none.
+    PdnOpenTag(usize),
+    /// The comment that begins at this place is not closed.
+    PdnOpenComment(usize),
+    /// The variation that begins at this place is not closed.
+    PdnOpenVariation(usize),
+    /// The word that begins at this place is no move, number or result.
+    PdnBadMove(usize),
+    /// There are more games than may be.
+    PdnTooManyGames,
+    /// This game is of another variant.
+    OtherGame(u32),
+    /// The FEN tag of this game is no position.
+    Fen(u32, FenRefusal),
+    /// The move at this byte is no legal one.
+    Illegal { game: u32, ply: u32, at: usize },
+    /// The move at this byte may mean two that differ.
+    Ambiguous { game: u32, ply: u32, at: usize },
+    /// Memory ran out.
+    Memory,
+    /// The source failed.
+    Read,
+}
+
+/// A line of this text, its line end among it.
+fn plain(text: &str) -> ArrayString<128>
+    requires short { length text.now ≤ 128 }
+    requires line { IsTrue (is_line text.now) }
+    ensures bytes { result.bytes ≡ text.now }
+    ensures line { IsLine text.now }
+{
+    let mut line = ArrayString::new();
+    line.push_str(text);
+    line
+}
+
+/// Appends a number in decimal.
+fn push_number(line: &mut ArrayString<128>, n: usize)
+    requires { array_string_len line.old + 20 ≤ 128 }
+    ensures bytes { line.new.bytes ≡ line.old.bytes ++ decimal n }
+    ensures len { array_string_len line.new ≤ array_string_len line.old + 20 }
+{
+    let mut buffer = Buffer::new();
+    line.push_str(buffer.format(n));
+}
+
+/// Appends a label and a number in decimal.
+fn push_field(line: &mut ArrayString<128>, label: &str, n: usize)
+    requires short { length label.now ≤ 6 }
+    requires room { array_string_len line.old + 26 ≤ 128 }
+    ensures bytes { line.new.bytes ≡ line.old.bytes ++ (label.now ++ decimal n) }
+    ensures len { array_string_len line.new ≤ array_string_len line.old + 26 }
+{
+    line.push_str(label);
+    push_number(line, n);
+}
+
+/// A label, a number and the line end.
+fn numbered(label: &str, n: usize) -> ArrayString<128>
+    requires short { length label.now ≤ 100 }
+    requires bare { Lacks 10 label.now }
+    ensures bytes { result.bytes ≡ numbered label.now n }
+    ensures line { IsLine (numbered label.now n) }
+{
+    let mut line = ArrayString::new();
+    line.push_str(label);
+    push_number(&mut line, n);
+    line.push_str("\n");
+    line
+}
+
+/// The front of a line on a game.
+fn of_game(game: u32) -> ArrayString<128>
+    ensures bytes { result.bytes ≡ codes "refused input game " ++ decimal game }
+    ensures bare { Lacks 10 (codes "refused input game " ++ decimal game) }
+    ensures len { array_string_len result ≤ 39 }
+{
+    let mut line = ArrayString::new();
+    line.push_str("refused input game ");
+    push_number(&mut line, game as usize);
+    line
+}
+
+/// The line on a game that ends with these words, the line end among them.
+fn game_line(game: u32, words: &str) -> ArrayString<128>
+    requires short { length words.now ≤ 80 }
+    requires line { IsTrue (is_line words.now) }
+    ensures bytes { result.bytes ≡ of_game game words.now }
+    ensures line { IsLine (of_game game words.now) }
+{
+    let mut line = of_game(game);
+    line.push_str(words);
+    line
+}
+
+/// The line on a game that ends with a label and a number.
+fn numbered_game_line(game: u32, label: &str, n: usize) -> ArrayString<128>
+    requires short { length label.now ≤ 40 }
+    requires bare { Lacks 10 label.now }
+    ensures bytes { result.bytes ≡ of_game game (numbered label.now n) }
+    ensures line { IsLine (of_game game (numbered label.now n)) }
+{
+    let mut line = of_game(game);
+    line.push_str(label);
+    push_number(&mut line, n);
+    line.push_str("\n");
+    line
+}
+
+/// The line on the FEN of a game that has too many pieces of a side.
+fn too_many_line(game: u32, side: Side) -> ArrayString<128>
+    ensures bytes { result.bytes ≡ of_game game (fen_words (FenRefusal.TooMany side)) }
+    ensures line { IsLine (of_game game (fen_words (FenRefusal.TooMany side))) }
+{
+    match side {
+        Side::Black => game_line(game, " fen too-many black\n"),
+        Side::White => game_line(game, " fen too-many white\n"),
+    }
+}
+
+/// The line on the FEN of a game.
+fn fen_line(game: u32, fault: FenRefusal) -> ArrayString<128>
+    ensures bytes { result.bytes ≡ of_game game (fen_words fault) }
+    ensures line { IsLine (of_game game (fen_words fault)) }
+{
+    match fault {
+        FenRefusal::BadLetter(at) => numbered_game_line(game, " fen bad-letter ", at),
+        FenRefusal::BadSquare(at) => numbered_game_line(game, " fen bad-square ", at),
+        FenRefusal::Twice(square) => numbered_game_line(
+            game,
+            " fen twice ",
+            square.number() as usize,
+        ),
+        FenRefusal::TooMany(side) => too_many_line(game, side),
+        FenRefusal::ManOnLastRow(square) => numbered_game_line(
+            game,
+            " fen man-on-last-row ",
+            square.number() as usize,
+        ),
+        FenRefusal::Truncated => game_line(game, " fen truncated\n"),
+    }
+}
+
+/// The line on a move of a game.
+fn move_line(game: u32, ply: u32, at: usize, wrong: &str) -> ArrayString<128>
+    requires short { length wrong.now ≤ 20 }
+    requires line { IsTrue (is_line wrong.now) }
+    ensures bytes { result.bytes ≡ of_game game (move_words ply at wrong.now) }
+    ensures line { IsLine (of_game game (move_words ply at wrong.now)) }
+{
+    let mut line = of_game(game);
+    push_field(&mut line, " ply ", ply as usize);
+    push_field(&mut line, " byte ", at);
+    line.push_str(wrong);
+    line
+}
+
+/// The line that says why a run was refused, its line end among it. It takes no memory.
+pub fn refusal_line(r: &Refusal) -> ArrayString<128>
+    ensures text { result.bytes ≡ refusal_text r.now }
+    ensures line { IsLine (refusal_text r.now) }
+{
+    match *r {
+        Refusal::Words(at) => numbered("refused words at ", at),
+        Refusal::TooLong => plain("refused input too-long\n"),
+        Refusal::PdnBadByte(at) => numbered("refused input pdn bad-byte ", at),
+        Refusal::PdnOpenTag(at) => numbered("refused input pdn open-tag ", at),
+        Refusal::PdnOpenComment(at) => numbered("refused input pdn open-comment ", at),
+        Refusal::PdnOpenVariation(at) => numbered("refused input pdn open-variation ", at),
+        Refusal::PdnBadMove(at) => numbered("refused input pdn bad-move ", at),
+        Refusal::PdnTooManyGames => plain("refused input pdn too-many-games\n"),
+        Refusal::OtherGame(game) => game_line(game, " other-game\n"),
+        Refusal::Fen(game, fault) => fen_line(game, fault),
+        Refusal::Illegal { game, ply, at } => move_line(game, ply, at, " illegal\n"),
+        Refusal::Ambiguous { game, ply, at } => move_line(game, ply, at, " ambiguous\n"),
+        Refusal::Memory => plain("refused memory\n"),
+        Refusal::Read => plain("refused read\n"),
+    }
+}

@@ -1,0 +1,6 @@
+pub mod Beginning
+pub mod Playing
+pub mod Openings
+pub mod Faults
+pub mod Answers
+pub mod Laws
