@@ -99,6 +99,23 @@ impl Position {
         }
     }
 
+    /// The position with these cells, that of square n at place n - 1, where the caller knows that they keep the
+    /// rule on pieces.
+    pub fn of_lawful(cells: [Cell; 32], to_move: Side) -> Position
+        requires { IsLawful (record { cells = cells; to_move = to_move }) }
+        ensures { result ≡ record { cells = cells; to_move = to_move } }
+    {
+        Position { cells, to_move }
+    }
+
+    /// What stands on each square, that of square n at place n - 1.
+    pub fn cells(&self) -> [Cell; 32]
+        ensures value { result ≡ self.now.cells }
+        ensures lawful { IsLawful self.now }
+    {
+        self.cells
+    }
+
     /// What stands on the square.
     pub fn at(&self, s: Square) -> Cell
         ensures value { result ≡ cell_at self.now s }

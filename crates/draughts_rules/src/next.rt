@@ -10,19 +10,6 @@ use crate::pieces::at_rest;
 use draughts_board::{Cell, Move, Position, Square};
 use std::alloc::{AllocError, Global};
 
-/// What stands on each square, that of square n at place n - 1.
-fn cells_of(p: &Position) -> [Cell; 32]
-    requires { IsLawful p.now }
-    ensures { result ≡ p.now.cells }
-{
-    let mut cells = [Cell::Empty; 32];
-    let all = Square::all();
-    for (place, square) in all.iter().enumerate() {
-        cells[place] = p.at(*square);
-    }
-    cells
-}
-
 /// Puts the cell on the square.
 fn put(cells: &mut [Cell; 32], square: Square, cell: Cell)
     ensures { cells.new ≡ put cells.old square cell }
@@ -52,11 +39,11 @@ pub fn apply(p: &Position, m: &Move) -> Position
     let from = first(path);
     let to = last(path);
     let piece = at_rest(p.at(from), to);
-    let mut cells = cells_of(p);
+    let mut cells = p.cells();
     put(&mut cells, from, Cell::Empty);
     take_jumped(&mut cells, path);
     put(&mut cells, to, piece);
-    Position::place(cells, p.to_move().other()).unwrap()
+    Position::of_lawful(cells, p.to_move().other())
 }
 
 /// The positions that the legal moves lead to, each once, in the order of the first move that gives it.
