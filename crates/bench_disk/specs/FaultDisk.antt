@@ -15,19 +15,19 @@ pub record IsFresh {D : Type 0} (over : FaultDisk D) (disk : D) (given : Vec ℕ
   pub none_called : over.calls ≡ 0
   pub none_refused : over.refused ≡ 0
 
--- the number of the next call: one more than there were, up to the last value
-abbrev pub next_call : {D : Type 0} → FaultDisk D → ℕ
-next_call over = min (over.calls + 1) (2 ^ 64 - 1)
+-- how many calls there are with the next one, up to the last value
+abbrev pub with_next_call : {D : Type 0} → FaultDisk D → ℕ
+with_next_call over = min (over.calls + 1) (2 ^ 64 - 1)
 
--- whether the next call is to fail
+-- whether the next call is to fail: its number is how many calls there were
 abbrev pub FailsNext : {D : Type 0} → FaultDisk D → Type 0
-FailsNext over = Contains over.numbers.items (next_call over)
+FailsNext over = Contains over.numbers.items over.calls
 
 -- The next call is counted, and it is refused, and that counted, where it is to fail. The disk below stays.
 pub record CountsCall {D T E : Type 0} (old new : FaultDisk D) (result : Result T E) : Type 0 where
   pub below : new.disk ≡ old.disk
   pub failing : new.numbers ≡ old.numbers
-  pub counted : new.calls ≡ next_call old
+  pub counted : new.calls ≡ with_next_call old
   pub passed : OnOk result (¬ FailsNext old × (new.refused ≡ old.refused))
   pub failed : OnErr result (FailsNext old × (new.refused ≡ min (old.refused + 1) (2 ^ 64 - 1)))
 
@@ -35,6 +35,6 @@ pub record CountsCall {D T E : Type 0} (old new : FaultDisk D) (result : Result 
 -- the disk below.
 pub record UsesCall {D T E : Type 0} (faults : D → ℕ) (old new : FaultDisk D) (result : Result T E) : Type 0 where
   pub failing : new.numbers ≡ old.numbers
-  pub counted : new.calls ≡ next_call old
+  pub counted : new.calls ≡ with_next_call old
   pub passed : ¬ FailsNext old → (new.refused ≡ old.refused) × HasCause (faults old.disk) (faults new.disk) result
   pub failed : FailsNext old → IsErr result × (new.disk ≡ old.disk) × (new.refused ≡ min (old.refused + 1) (2 ^ 64 - 1))

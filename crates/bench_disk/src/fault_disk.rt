@@ -5,7 +5,7 @@ ghost use Rattle.bench_disk.specs.Disk.{AddsNone, AddsOnlyTorn, GoesOn, HasCause
 use crate::{Disk, DiskFault};
 
 /// Fails the calls of the device whose numbers it was given, and passes the others to the disk below. Calls are
-/// numbered from 1 on, those that fail too.
+/// numbered from 0 on, those that fail too.
 #[derive(Drop)]
 pub struct FaultDisk<D: Disk> {
     disk: D,
@@ -17,7 +17,7 @@ pub struct FaultDisk<D: Disk> {
 impl<D: Disk> FaultDisk<D> {
     ghost use Rattle.bench_disk.specs.FaultDisk.{IsFresh, CountsCall};
 
-    /// Fails the calls with these numbers, the first of which is 1.
+    /// Fails the calls with these numbers, the first of which is 0.
     pub fn new(disk: D, numbers: Vec<u64>) -> FaultDisk<D>
         ensures { IsFresh result disk numbers }
     {
@@ -40,8 +40,9 @@ impl<D: Disk> FaultDisk<D> {
     fn count_call(&mut self) -> Result<(), DiskFault>
         ensures { CountsCall self.old self.new result }
     {
-        self.calls = self.calls.saturating_add(1);
-        if self.numbers.contains(&self.calls) {
+        let call = self.calls;
+        self.calls = call.saturating_add(1);
+        if self.numbers.contains(&call) {
             self.refused = self.refused.saturating_add(1);
             return Err(DiskFault);
         }

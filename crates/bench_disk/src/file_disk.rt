@@ -49,7 +49,11 @@ fn sync_folder<R: Files<File = File>>(rt: &R, path: &str) -> io::Result<()> {
 
 impl<R: Files<File = File> + Drop> FileDisk<R> {
     /// The disk over the file at this path. No call reaches the file system yet.
-    pub fn new(rt: R, path: String) -> FileDisk<R> {
+    pub fn new(rt: R, path: String) -> FileDisk<R>
+        ensures moment { result.moment ≡ 0 }
+        ensures faults { result.faults ≡ 0 }
+        ensures path { result.path ≡ path }
+    {
         FileDisk {
             rt,
             path,

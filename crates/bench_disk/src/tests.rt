@@ -130,7 +130,7 @@ fn fuse_disk_passes_its_calls(rt: HostRuntime) -> Result<(), Fail> {
 
 #[test]
 fn fault_disk_fails_given_calls(rt: HostRuntime) -> Result<(), Fail> {
-    let numbers = [4, 1, 4].to_vec(rt.alloc())?;
+    let numbers = [3, 0, 3].to_vec(rt.alloc())?;
     let mut disk = FaultDisk::new(MemoryDisk::of(rt.alloc(), &[1, 2])?, numbers);
     let mut outcomes = [9; 5];
     syncs(&mut disk, &mut outcomes);

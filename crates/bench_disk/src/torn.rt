@@ -11,7 +11,9 @@ pub struct Picks {
 }
 
 impl Picks {
-    pub fn new(choice: u64) -> Picks {
+    pub fn new(choice: u64) -> Picks
+        ensures { result.state ≡ choice }
+    {
         Picks { state: choice }
     }
 

@@ -321,7 +321,7 @@ fn counts_each_fault(rt: HostRuntime) -> Result<(), Fail> {
     let alloc = rt.alloc();
     let (probe, _) = journal_on(&rt, alloc, MemoryDisk::of(alloc, &TWO)?);
     let calls = probe.disk().moment();
-    for number in 1..=calls {
+    for number in 0..calls {
         let disk = FaultDisk::new(MemoryDisk::of(alloc, &TWO)?, [number].to_vec(alloc)?);
         let (disk, refusal) = match Journal::attach(alloc, disk, 2) {
             Ok((_journal, _payloads)) => panic!(rt; "call {number} is not missed"),
@@ -331,7 +331,7 @@ fn counts_each_fault(rt: HostRuntime) -> Result<(), Fail> {
         let inner = disk.into_inner();
         assert_eq!(rt; inner.bytes(), TWO.as_slice());
     }
-    for number in calls + 1..=calls + 4 {
+    for number in calls..calls + 4 {
         let disk = FaultDisk::new(MemoryDisk::of(alloc, &TWO)?, [number].to_vec(alloc)?);
         let (mut journal, _) = journal_on(&rt, alloc, disk);
         journal.stage(&[3])?;
