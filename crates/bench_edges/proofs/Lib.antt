@@ -1,4 +1,8 @@
 pub mod KnownBytes
 pub mod Numbers
+pub mod Settings
 pub mod Grammar
+pub mod SolveWords
+pub mod Front
+pub mod ShortWords
 pub mod Texts

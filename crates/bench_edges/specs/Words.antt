@@ -1,15 +1,17 @@
 -- The words that the program is called with, as the manual has them.
 --
 --   PATH solve [--depth N] [--plies N]
+--   PATH table K
+--   PATH table-check
 --
 -- PATH is the journal's and not empty. The options follow in any order, each at most once, and each with its number
--- in the next word: decimal digits without sign and without leading zeros.
+-- in the next word. K is 2 or 3. A number is decimal digits without sign and without leading zeros.
 use Rattle.std.specs.Prelude.{◌≡◌, ◌≢◌, ◌⊎◌, ℕ, ◌+◌, ◌<◌, ◌≤◌, List, [], ◌∷◌, ◌++◌, length, take, map, Option, Some, None, unwrap_or, codes, decimal, if◌then◌else◌}
 use Rattle.std.specs.Borrow.{Bor}
 use Rattle.std.specs.List.{flat_map}
 use Rattle.std.specs.Str.{bytes_eq}
 use Rattle.bench_edges.specs.declared.words.Command.{Command}
-use Rattle.bench_edges.specs.declared.words.Command.TheVariants.{Solve}
+use Rattle.bench_edges.specs.declared.words.Command.TheVariants.{Solve, MakeTable, TableCheck}
 use Rattle.bench_edges.specs.declared.words.Options.{Options}
 
 -- the bytes of each word
@@ -58,9 +60,30 @@ pub record SaysSolve (words : List (List ℕ)) (options : Options) : Type 0 wher
   pub depth : options.depth ≡ unwrap_or (number_for (codes "--depth") given) 4
   pub plies : options.plies ≡ unwrap_or (number_for (codes "--plies") given) 200
 
+-- The words say `table` with this number of pieces.
+pub record SaysTable (words : List (List ℕ)) (pieces : ℕ) : Type 0 where
+  pub path : List ℕ
+  pub spelling : words ≡ path ∷ codes "table" ∷ decimal pieces ∷ []
+  pub named : path ≢ []
+  pub two_or_three : (pieces ≡ 2) ⊎ (pieces ≡ 3)
+
+-- The words say a command by its name alone.
+pub record SaysPlain (name : List ℕ) (words : List (List ℕ)) : Type 0 where
+  pub path : List ℕ
+  pub spelling : words ≡ path ∷ name ∷ []
+  pub named : path ≢ []
+
 -- the words say this command: they are in the grammar
 abbrev pub Says : List (List ℕ) → Command → Type 0
 Says words (Solve options) = SaysSolve words options
+Says words (MakeTable pieces) = SaysTable words pieces
+Says words TableCheck = SaysPlain (codes "table-check") words
+
+-- the commands that are said by their name alone
+abbrev pub IsPlain : Command → Type 0
+IsPlain (Solve options) = ⊥
+IsPlain (MakeTable pieces) = ⊥
+IsPlain TableCheck = Unit {0}
 
 -- words that some command's words begin with
 abbrev pub Begins : List (List ℕ) → Type 0

@@ -34,11 +34,12 @@ impl Model for MemorySink {
 }
 
 impl MemorySink {
-    /// A sink that has taken nothing, fails no write and takes all that it is given.
-    pub fn new(alloc: Global) -> MemorySink
+    /// A sink that has taken nothing, takes all that it is given, and fails the writes with these numbers. The first
+    /// write has the number 0.
+    pub fn new(alloc: Global, fail: Vec<u64>) -> MemorySink
         ensures { result ≡ record {
           taken = [];
-          failing = [];
+          failing = fail.items;
           most = usize.MAX;
           calls = 0;
           faults = 0;
@@ -46,20 +47,11 @@ impl MemorySink {
     {
         MemorySink {
             bytes: Vec::new(alloc),
-            failing: Vec::new(alloc),
+            failing: fail,
             most: usize::MAX,
             calls: 0,
             faults: 0,
         }
-    }
-
-    /// The same sink, which fails the writes with these numbers. The first write has the number 0.
-    pub fn failing_at(self, failing: Vec<u64>) -> MemorySink
-        ensures { result ≡ record self { failing = failing.items } }
-    {
-        let mut sink = self;
-        sink.failing = failing;
-        sink
     }
 
     /// The same sink, which takes at most so many bytes a write.
@@ -73,7 +65,7 @@ impl MemorySink {
     }
 
     /// The bytes that it has taken.
-    pub fn taken(&self) -> &[u8]
+    pub fn bytes(&self) -> &[u8]
         ensures { result.now ≡ self.now.taken }
     {
         &self.bytes

@@ -1,11 +1,10 @@
 //! A source in memory.
-ghost use Rattle.std.specs.Prelude.{◌≡◌, ◌↔◌, ◌<◌, ◌≤◌, ◌++◌, [], Contains, IfOk, IsErr, OnErr, Some, length, min, take, drop};
+ghost use Rattle.std.specs.Prelude.{◌≡◌, ◌↔◌, ◌<◌, ◌≤◌, ◌++◌, Contains, IfOk, IsErr, OnErr, Some, length, min, take, drop};
 ghost use Rattle.std.specs.Io.KnownBytes.{Consumes, IsAtEnd, Keeps};
 ghost use Rattle.bench_edges.specs.Faults.{CountsFaults, one_more};
 ghost use Rattle.bench_edges.specs.MemorySource.{Supply};
 
 use crate::source::{Source, SourceFault};
-use std::alloc::Global;
 use std::marker::Model;
 
 /// A source in memory: it holds its bytes, tells them, and fails the reads that it is told to fail.
@@ -34,11 +33,12 @@ impl Model for MemorySource {
 }
 
 impl MemorySource {
-    /// A source of these bytes that fails no read and gives as many bytes as are asked.
-    pub fn new(alloc: Global, bytes: Vec<u8>) -> MemorySource
+    /// A source of these bytes that gives as many bytes as are asked, and fails the reads with these numbers. The first
+    /// read has the number 0.
+    pub fn new(bytes: Vec<u8>, fail: Vec<u64>) -> MemorySource
         ensures { result ≡ record {
           left = bytes.items;
-          failing = [];
+          failing = fail.items;
           most = usize.MAX;
           calls = 0;
           faults = 0;
@@ -47,20 +47,11 @@ impl MemorySource {
         MemorySource {
             bytes,
             at: 0,
-            failing: Vec::new(alloc),
+            failing: fail,
             most: usize::MAX,
             calls: 0,
             faults: 0,
         }
-    }
-
-    /// The same source, which fails the reads with these numbers. The first read has the number 0.
-    pub fn failing_at(self, failing: Vec<u64>) -> MemorySource
-        ensures { result ≡ record self { failing = failing.items } }
-    {
-        let mut source = self;
-        source.failing = failing;
-        source
     }
 
     /// The same source, which gives at most so many bytes a read.

@@ -55,11 +55,11 @@ mod tests {
     #[test]
     fn writes_whole(rt: HostRuntime) -> Result<(), Fail> {
         for most in [1, 2, 100] {
-            let mut sink = MemorySink::new(rt.alloc()).at_most(most);
+            let mut sink = MemorySink::new(rt.alloc(), Vec::new(rt.alloc())).at_most(most);
             assert_eq!(rt; write_all(&mut sink, b"roots "), Ok(()));
             assert_eq!(rt; write_all(&mut sink, b""), Ok(()));
             assert_eq!(rt; write_all(&mut sink, b"1"), Ok(()));
-            assert_eq!(rt; sink.taken(), b"roots 1".as_slice(), "{most} a write");
+            assert_eq!(rt; sink.bytes(), b"roots 1".as_slice(), "{most} a write");
             assert_eq!(rt; sink.faults(), 0);
         }
         Ok(())
@@ -68,9 +68,9 @@ mod tests {
     #[test]
     fn a_fault_in_mid_stream_is_answered(rt: HostRuntime) -> Result<(), Fail> {
         let failing = [3].to_vec(rt.alloc())?;
-        let mut sink = MemorySink::new(rt.alloc()).at_most(2).failing_at(failing);
+        let mut sink = MemorySink::new(rt.alloc(), failing).at_most(2);
         assert_eq!(rt; write_all(&mut sink, b"abcdefghi"), Err(SinkFault));
-        assert_eq!(rt; sink.taken(), b"abcdef".as_slice());
+        assert_eq!(rt; sink.bytes(), b"abcdef".as_slice());
         assert_eq!(rt; sink.calls(), 4);
         assert_eq!(rt; sink.faults(), 1);
         Ok(())

@@ -121,7 +121,7 @@ mod tests {
     fn reads_to_the_end(rt: HostRuntime) -> Result<(), Fail> {
         let bytes = sevens(rt.alloc(), 10_000)?;
         for most in [1000, CHUNK, 20_000] {
-            let mut source = MemorySource::new(rt.alloc(), bytes.clone()?).at_most(most);
+            let mut source = MemorySource::new(bytes.clone()?, Vec::new(rt.alloc())).at_most(most);
             let read = read_to_limit(rt.alloc(), &mut source, 10_000)?;
             assert_eq!(rt; read.as_slice(), bytes.as_slice(), "{most} a read");
             assert_eq!(rt; source.left().len(), 0);
@@ -134,7 +134,7 @@ mod tests {
     fn stops_one_byte_past_the_limit(rt: HostRuntime) -> Result<(), Fail> {
         let bytes = b"abcdef".to_vec(rt.alloc())?;
         for limit in 0..6 {
-            let mut source = MemorySource::new(rt.alloc(), bytes.clone()?);
+            let mut source = MemorySource::new(bytes.clone()?, Vec::new(rt.alloc()));
             let read = read_to_limit(rt.alloc(), &mut source, limit);
             assert!(rt; matches!(&read, Err(ReadRefusal::TooLong)), "{limit}");
             assert_eq!(rt; source.left(), &bytes[limit + 1..]);
@@ -146,9 +146,7 @@ mod tests {
     fn a_fault_in_mid_stream_is_answered(rt: HostRuntime) -> Result<(), Fail> {
         let bytes = b"abcdef".to_vec(rt.alloc())?;
         let failing = [2].to_vec(rt.alloc())?;
-        let mut source = MemorySource::new(rt.alloc(), bytes)
-            .at_most(2)
-            .failing_at(failing);
+        let mut source = MemorySource::new(bytes, failing).at_most(2);
         let read = read_to_limit(rt.alloc(), &mut source, 6);
         assert!(rt; matches!(&read, Err(ReadRefusal::Fault(_))));
         assert_eq!(rt; source.left(), b"ef".as_slice());

@@ -1,6 +1,6 @@
 //! The words that the program is called with.
 ghost use Rattle.std.specs.Prelude.{◌≡◌, ◌≢◌, ◌<◌, ◌≤◌, ◌+◌, ◌^◌, [], ◌∷◌, List, ℕ, IfNone, IfOk, IfErr, IfSome, Ok, Err, OnOk, OnErr, length, take, slice_index_or, decimal, codes};
-ghost use Rattle.bench_edges.specs.Words.{IsRefusedAt, Says, texts};
+ghost use Rattle.bench_edges.specs.Words.{IsPlain, IsRefusedAt, Says, texts};
 
 use thiserror::Error;
 
@@ -9,6 +9,10 @@ use thiserror::Error;
 pub enum Command {
     /// Solve the openings of the source.
     Solve(Options),
+    /// Write the endgame table of so many pieces, 2 or 3.
+    MakeTable(u8),
+    /// Check the endgame table that the source holds.
+    TableCheck,
 }
 
 /// The options of `solve`.
@@ -37,6 +41,10 @@ const DEFAULT_PLIES: u8 = 200;
 
 const MAX_PLIES: u32 = 200;
 
+const MIN_PIECES: u32 = 2;
+
+const MAX_PIECES: u32 = 3;
+
 // The number that a word is in decimal digits, without sign and without leading zeros.
 fn number(word: &str) -> Option<u32>
     ensures digits { IfSome result (λ n. word.now ≡ decimal n) }
@@ -52,20 +60,21 @@ fn number(word: &str) -> Option<u32>
     word.parse().ok()
 }
 
-// The number at a place, which is at most `most`.
-fn number_at(words: &[&str], at: usize, most: u32) -> Result<u32, WordsRefusal>
+// The number at a place, from `least` to `most`.
+fn number_at(words: &[&str], at: usize, least: u32, most: u32) -> Result<u32, WordsRefusal>
     ensures within { OnOk result (at < length words.now) }
+    ensures least { IfOk result (λ n. least ≤ n) }
     ensures most { IfOk result (λ n. n ≤ most) }
     ensures word { IfOk result (λ n. slice_index_or (texts words.now) at [] ≡ decimal n) }
     ensures place { IfErr result (λ refusal. refusal.at ≡ at) }
-    ensures other { OnErr result (at < length words.now → (n : ℕ) → n ≤ most →
+    ensures other { OnErr result (at < length words.now → (n : ℕ) → least ≤ n → n ≤ most →
         slice_index_or (texts words.now) at [] ≢ decimal n) }
 {
     if at >= words.len() {
         return Err(WordsRefusal { at });
     }
     match number(words[at]) {
-        Some(n) if n <= most => Ok(n),
+        Some(n) if least <= n && n <= most => Ok(n),
         _ => Err(WordsRefusal { at }),
     }
 }
@@ -82,9 +91,9 @@ fn read_solve(words: &[&str]) -> Result<Command, WordsRefusal>
     let mut at = 2;
     while at < words.len() {
         if words[at] == "--depth" && depth.is_none() {
-            depth = Some(number_at(words, at + 1, MAX_DEPTH)? as u8);
+            depth = Some(number_at(words, at + 1, 0, MAX_DEPTH)? as u8);
         } else if words[at] == "--plies" && plies.is_none() {
-            plies = Some(number_at(words, at + 1, MAX_PLIES)? as u8);
+            plies = Some(number_at(words, at + 1, 0, MAX_PLIES)? as u8);
         } else {
             return Err(WordsRefusal { at });
         }
@@ -96,9 +105,39 @@ fn read_solve(words: &[&str]) -> Result<Command, WordsRefusal>
     }))
 }
 
-/// Reads the words, without the program's name: a path, `solve`, and its options in any order, each at
-/// most once, with its number in the next word: `--depth`, 0 to 12 and by default 4, and `--plies`, 0 to
-/// 200 and by default 200.
+// Reads the pieces of `table`, which stand behind the first two words.
+fn read_table(words: &[&str]) -> Result<Command, WordsRefusal>
+    requires { (path : List ℕ) × (path ≢ [])
+        × (take 2 (texts words.now) ≡ path ∷ codes "table" ∷ []) }
+    ensures command { IfOk result (λ command. Says (texts words.now) command) }
+    ensures refused { IfErr result (λ refusal. IsRefusedAt (texts words.now) refusal.at) }
+{
+    let pieces = number_at(words, 2, MIN_PIECES, MAX_PIECES)?;
+    if words.len() > 3 {
+        return Err(WordsRefusal { at: 3 });
+    }
+    Ok(Command::MakeTable(pieces as u8))
+}
+
+// Reads a command that its name alone says, which is the second word.
+fn read_plain(words: &[&str], command: Command) -> Result<Command, WordsRefusal>
+    requires plain { IsPlain command }
+    requires front { Says (take 2 (texts words.now)) command }
+    ensures command { IfOk result (λ command. Says (texts words.now) command) }
+    ensures refused { IfErr result (λ refusal. IsRefusedAt (texts words.now) refusal.at) }
+{
+    if words.len() > 2 {
+        return Err(WordsRefusal { at: 2 });
+    }
+    Ok(command)
+}
+
+/// Reads the words, without the program's name: a path, which is not empty, and then one of these.
+///
+/// - `solve` and its options in any order, each at most once, with its number in the next word:
+///   `--depth`, 0 to 12 and by default 4, and `--plies`, 0 to 200 and by default 200.
+/// - `table` and the number of pieces, 2 or 3.
+/// - `table-check`.
 ///
 /// Refuses words that are not in this grammar at the first that cannot stand where it stands (places
 /// count from 0), or at their number where one is missing.
@@ -113,10 +152,15 @@ pub fn read_words(words: &[&str]) -> Result<Command, WordsRefusal>
     if words.is_empty() || words[0].is_empty() {
         return Err(WordsRefusal { at: 0 });
     }
-    if words.len() == 1 || words[1] != "solve" {
+    if words.len() == 1 {
         return Err(WordsRefusal { at: 1 });
     }
-    read_solve(words)
+    match words[1] {
+        "solve" => read_solve(words),
+        "table" => read_table(words),
+        "table-check" => read_plain(words, Command::TableCheck),
+        _ => Err(WordsRefusal { at: 1 }),
+    }
 }
 
 #[cfg(test)]
@@ -127,6 +171,10 @@ mod tests {
     fn expect_solve(rt: &impl Abort, words: &[&str], depth: u8, plies: u8) {
         let solve = Command::Solve(Options { depth, plies });
         assert_eq!(rt; read_words(words), Ok(solve), "{words:?}");
+    }
+
+    fn expect_command(rt: &impl Abort, words: &[&str], command: Command) {
+        assert_eq!(rt; read_words(words), Ok(command), "{words:?}");
     }
 
     fn expect_refused(rt: &impl Abort, words: &[&str], at: usize) {
@@ -147,6 +195,14 @@ mod tests {
             2,
             200,
         );
+    }
+
+    #[test]
+    fn reads_table_and_table_check(rt: HostRuntime) {
+        expect_command(&rt, &["-", "table", "2"], Command::MakeTable(2));
+        expect_command(&rt, &["table", "table", "3"], Command::MakeTable(3));
+        expect_command(&rt, &["-", "table-check"], Command::TableCheck);
+        expect_command(&rt, &["2", "table-check"], Command::TableCheck);
     }
 
     #[test]
@@ -172,9 +228,29 @@ mod tests {
     }
 
     #[test]
+    fn refuses_words_that_are_near_a_table(rt: HostRuntime) {
+        for name in ["tables", "Table", "table ", "table-", "table-checks", ""] {
+            expect_refused(&rt, &["-", name], 1);
+            expect_refused(&rt, &["-", name, "2"], 1);
+        }
+        for pieces in ["4", "1", "0", "02", "+2", "", "2 ", "two", "22", "--depth"] {
+            expect_refused(&rt, &["-", "table", pieces], 2);
+            expect_refused(&rt, &["-", "table", pieces, "2"], 2);
+        }
+        expect_refused(&rt, &["-", "table", "2", "x"], 3);
+        expect_refused(&rt, &["-", "table", "3", ""], 3);
+        expect_refused(&rt, &["-", "table", "2", "2", "2"], 3);
+        expect_refused(&rt, &["-", "table-check", "x"], 2);
+        expect_refused(&rt, &["-", "table-check", "2"], 2);
+        expect_refused(&rt, &["", "table", "2"], 0);
+        expect_refused(&rt, &["", "table-check"], 0);
+    }
+
+    #[test]
     fn names_the_number_of_words_where_one_is_missing(rt: HostRuntime) {
         expect_refused(&rt, &[], 0);
         expect_refused(&rt, &["-"], 1);
+        expect_refused(&rt, &["-", "table"], 2);
         expect_refused(&rt, &["-", "solve", "--depth"], 3);
         expect_refused(&rt, &["-", "solve", "--depth", "1", "--plies"], 5);
     }

@@ -2,3 +2,4 @@ pub mod LookAheadLemmas
 pub mod RootLemmas
 pub mod RefusalLemmas
 pub mod RunLemmas
+mod TableLemmas

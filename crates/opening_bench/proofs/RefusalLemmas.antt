@@ -11,8 +11,8 @@ use Rattle.bench_edges.specs.declared.source.ReadRefusal.{ReadRefusal}
 use Rattle.bench_edges.specs.declared.source.ReadRefusal.TheVariants as read
 use Rattle.bench_edges.specs.declared.status.Status.{Status}
 use Rattle.bench_edges.specs.declared.status.Status.TheVariants.{Done, Unsolved, Words, Input, Disk, Journal, Memory, Read, Write}
-use Rattle.bench_edges.specs.declared.words.Command.TheVariants.{Solve}
-use Rattle.bench_edges.specs.declared.words.Options.{Options}
+use Rattle.bench_edges.specs.declared.words.Command.{Command}
+use Rattle.bench_edges.specs.declared.words.Command.TheVariants.{Solve, MakeTable, TableCheck}
 use Rattle.pdn_text.specs.Signs.{Fails}
 use Rattle.pdn_text.specs.declared.game.Game.{Game}
 use Rattle.pdn_text.specs.declared.refusal.PdnRefusal.{PdnRefusal}
@@ -27,8 +27,9 @@ use Rattle.opening_report.specs.Lines.{IsLine}
 use Rattle.opening_report.specs.Refusals.{refusal_text}
 use Rattle.opening_report.specs.Report.{ValuesAreTrue}
 use Rattle.opening_report.proofs.ReportLemmas.{refusal_says_no_value}
-use Rattle.opening_bench.specs.Bench.{Reports, Finishes, Refuses, IsSourceRefusal, HasCause, TakesFront, TakesLine, WritesOnly, status_of}
+use Rattle.opening_bench.specs.Bench.{Reports, Finishes, Refuses, IsSourceRefusal, IsCommandRefusal, HasCause, TakesFront, TakesLine, WritesOnly, status_of}
 use Rattle.opening_bench.specs.Solving.{OpeningsOf, IsTextRefusal, IsTextRefusalOrMemory, of_pdn, of_openings}
+use Rattle.opening_bench.specs.Tables.{IsTableRefusal}
 use Rattle.opening_bench.specs.Steps.{read_refusal, IsReadFor, IsOfSource}
 
 -- ---- the line of a refusal
@@ -66,6 +67,9 @@ status_refuses (refusal.OtherGame game) = tt
 status_refuses (refusal.Fen game fault) = tt
 status_refuses (refusal.Illegal game ply at) = tt
 status_refuses (refusal.Ambiguous game ply at) = tt
+status_refuses refusal.TableBadHead = tt
+status_refuses (refusal.TableWrongLength found due) = tt
+status_refuses (refusal.TableBadEntry index kept) = tt
 status_refuses refusal.Memory = tt
 status_refuses refusal.Read = tt
 
@@ -108,24 +112,36 @@ words_status (refusal.OtherGame game) h e = (let k : ◌≡◌ {A = Status} Inpu
 words_status (refusal.Fen game fault) h e = (let k : ◌≡◌ {A = Status} Input Words = e in cc)
 words_status (refusal.Illegal game ply at) h e = (let k : ◌≡◌ {A = Status} Input Words = e in cc)
 words_status (refusal.Ambiguous game ply at) h e = (let k : ◌≡◌ {A = Status} Input Words = e in cc)
+words_status refusal.TableBadHead h e = (let k : ◌≡◌ {A = Status} Input Words = e in cc)
+words_status (refusal.TableWrongLength found due) h e = (let k : ◌≡◌ {A = Status} Input Words = e in cc)
+words_status (refusal.TableBadEntry index kept) h e = (let k : ◌≡◌ {A = Status} Input Words = e in cc)
 words_status refusal.Memory h e = (let k : ◌≡◌ {A = Status} Memory Words = e in cc)
 words_status refusal.Read h e = (let k : ◌≡◌ {A = Status} Read Words = e in cc)
 
-pub read_status : (r : Refusal) (plies : ℕ) (source : Option (List ℕ)) (before after : ℕ) → IsSourceRefusal plies source before after r → status_of r ≡ Read → Rose before after
-read_status (refusal.Words at) plies source before after cause e = (let k : ◌≡◌ {A = Status} Words Read = e in absurd cc)
-read_status refusal.TooLong plies source before after cause e = (let k : ◌≡◌ {A = Status} Input Read = e in absurd cc)
-read_status (refusal.PdnBadByte at) plies source before after cause e = (let k : ◌≡◌ {A = Status} Input Read = e in absurd cc)
-read_status (refusal.PdnOpenTag at) plies source before after cause e = (let k : ◌≡◌ {A = Status} Input Read = e in absurd cc)
-read_status (refusal.PdnOpenComment at) plies source before after cause e = (let k : ◌≡◌ {A = Status} Input Read = e in absurd cc)
-read_status (refusal.PdnOpenVariation at) plies source before after cause e = (let k : ◌≡◌ {A = Status} Input Read = e in absurd cc)
-read_status (refusal.PdnBadMove at) plies source before after cause e = (let k : ◌≡◌ {A = Status} Input Read = e in absurd cc)
-read_status refusal.PdnTooManyGames plies source before after cause e = (let k : ◌≡◌ {A = Status} Input Read = e in absurd cc)
-read_status (refusal.OtherGame game) plies source before after cause e = (let k : ◌≡◌ {A = Status} Input Read = e in absurd cc)
-read_status (refusal.Fen game fault) plies source before after cause e = (let k : ◌≡◌ {A = Status} Input Read = e in absurd cc)
-read_status (refusal.Illegal game ply at) plies source before after cause e = (let k : ◌≡◌ {A = Status} Input Read = e in absurd cc)
-read_status (refusal.Ambiguous game ply at) plies source before after cause e = (let k : ◌≡◌ {A = Status} Input Read = e in absurd cc)
-read_status refusal.Memory plies source before after cause e = (let k : ◌≡◌ {A = Status} Memory Read = e in absurd cc)
-read_status refusal.Read plies source before after cause e = cause
+-- a refusal with this status is that of a fault of the source
+pub read_refusal_only : (r : Refusal) → status_of r ≡ Read → r ≡ refusal.Read
+read_refusal_only (refusal.Words at) e = (let k : ◌≡◌ {A = Status} Words Read = e in absurd cc)
+read_refusal_only refusal.TooLong e = (let k : ◌≡◌ {A = Status} Input Read = e in absurd cc)
+read_refusal_only (refusal.PdnBadByte at) e = (let k : ◌≡◌ {A = Status} Input Read = e in absurd cc)
+read_refusal_only (refusal.PdnOpenTag at) e = (let k : ◌≡◌ {A = Status} Input Read = e in absurd cc)
+read_refusal_only (refusal.PdnOpenComment at) e = (let k : ◌≡◌ {A = Status} Input Read = e in absurd cc)
+read_refusal_only (refusal.PdnOpenVariation at) e = (let k : ◌≡◌ {A = Status} Input Read = e in absurd cc)
+read_refusal_only (refusal.PdnBadMove at) e = (let k : ◌≡◌ {A = Status} Input Read = e in absurd cc)
+read_refusal_only refusal.PdnTooManyGames e = (let k : ◌≡◌ {A = Status} Input Read = e in absurd cc)
+read_refusal_only (refusal.OtherGame game) e = (let k : ◌≡◌ {A = Status} Input Read = e in absurd cc)
+read_refusal_only (refusal.Fen game fault) e = (let k : ◌≡◌ {A = Status} Input Read = e in absurd cc)
+read_refusal_only (refusal.Illegal game ply at) e = (let k : ◌≡◌ {A = Status} Input Read = e in absurd cc)
+read_refusal_only (refusal.Ambiguous game ply at) e = (let k : ◌≡◌ {A = Status} Input Read = e in absurd cc)
+read_refusal_only refusal.TableBadHead e = (let k : ◌≡◌ {A = Status} Input Read = e in absurd cc)
+read_refusal_only (refusal.TableWrongLength found due) e = (let k : ◌≡◌ {A = Status} Input Read = e in absurd cc)
+read_refusal_only (refusal.TableBadEntry index kept) e = (let k : ◌≡◌ {A = Status} Input Read = e in absurd cc)
+read_refusal_only refusal.Memory e = (let k : ◌≡◌ {A = Status} Memory Read = e in absurd cc)
+read_refusal_only refusal.Read e = refl
+
+pub read_status : (r : Refusal) (command : Command) (source : Option (List ℕ)) (before after : ℕ) → IsCommandRefusal command source before after r → status_of r ≡ Read → Rose before after
+read_status r (Solve options) source before after cause e = subst (IsSourceRefusal options.plies source before after) (read_refusal_only r e) cause
+read_status r (MakeTable pieces) source before after cause e = (let k : ◌≡◌ {A = Status} Memory Read = ap status_of (sym cause) ∙ e in absurd cc)
+read_status r TableCheck source before after cause e = subst (IsTableRefusal source before after) (read_refusal_only r e) cause
 
 pub input_status : (text : List ℕ) (r : Refusal) → IsReadFor text r → length text ≤ 16777216 → status_of r ≢ Input
 input_status text r (inl e) l is = (let k : ◌≡◌ {A = Status} Memory Input = ap status_of (sym e) ∙ is in absurd cc)
@@ -134,22 +150,25 @@ input_status text r (inr (inr long)) l is = (let k = long.1 in absurd (omega (ar
 
 -- ---- the cause of a refusal
 
-pub cause_of : (words : List (List ℕ)) (source : Option (List ℕ)) (before after : ℕ) (options : Options) (r : Refusal) → IsOfSource r → Says words (Solve options)
-    → IsSourceRefusal options.plies source before after r → HasCause words source before after r
-cause_of words source before after options (refusal.Words at) of said cause = absurd of
-cause_of words source before after options refusal.TooLong of said cause = (options, (said, cause))
-cause_of words source before after options (refusal.PdnBadByte at) of said cause = (options, (said, cause))
-cause_of words source before after options (refusal.PdnOpenTag at) of said cause = (options, (said, cause))
-cause_of words source before after options (refusal.PdnOpenComment at) of said cause = (options, (said, cause))
-cause_of words source before after options (refusal.PdnOpenVariation at) of said cause = (options, (said, cause))
-cause_of words source before after options (refusal.PdnBadMove at) of said cause = (options, (said, cause))
-cause_of words source before after options refusal.PdnTooManyGames of said cause = (options, (said, cause))
-cause_of words source before after options (refusal.OtherGame game) of said cause = (options, (said, cause))
-cause_of words source before after options (refusal.Fen game fault) of said cause = (options, (said, cause))
-cause_of words source before after options (refusal.Illegal game ply at) of said cause = (options, (said, cause))
-cause_of words source before after options (refusal.Ambiguous game ply at) of said cause = (options, (said, cause))
-cause_of words source before after options refusal.Memory of said cause = (options, (said, cause))
-cause_of words source before after options refusal.Read of said cause = (options, (said, cause))
+pub cause_of : (words : List (List ℕ)) (source : Option (List ℕ)) (before after : ℕ) (command : Command) (r : Refusal) → IsOfSource r → Says words command
+    → IsCommandRefusal command source before after r → HasCause words source before after r
+cause_of words source before after command (refusal.Words at) of said cause = absurd of
+cause_of words source before after command refusal.TooLong of said cause = (command, (said, cause))
+cause_of words source before after command (refusal.PdnBadByte at) of said cause = (command, (said, cause))
+cause_of words source before after command (refusal.PdnOpenTag at) of said cause = (command, (said, cause))
+cause_of words source before after command (refusal.PdnOpenComment at) of said cause = (command, (said, cause))
+cause_of words source before after command (refusal.PdnOpenVariation at) of said cause = (command, (said, cause))
+cause_of words source before after command (refusal.PdnBadMove at) of said cause = (command, (said, cause))
+cause_of words source before after command refusal.PdnTooManyGames of said cause = (command, (said, cause))
+cause_of words source before after command (refusal.OtherGame game) of said cause = (command, (said, cause))
+cause_of words source before after command (refusal.Fen game fault) of said cause = (command, (said, cause))
+cause_of words source before after command (refusal.Illegal game ply at) of said cause = (command, (said, cause))
+cause_of words source before after command (refusal.Ambiguous game ply at) of said cause = (command, (said, cause))
+cause_of words source before after command refusal.TableBadHead of said cause = (command, (said, cause))
+cause_of words source before after command (refusal.TableWrongLength found due) of said cause = (command, (said, cause))
+cause_of words source before after command (refusal.TableBadEntry index kept) of said cause = (command, (said, cause))
+cause_of words source before after command refusal.Memory of said cause = (command, (said, cause))
+cause_of words source before after command refusal.Read of said cause = (command, (said, cause))
 
 pub read_is_of_source : (r : ReadRefusal) → IsOfSource (read_refusal r)
 read_is_of_source read.TooLong = tt
@@ -187,6 +206,9 @@ text_is_of_source plies text r (inr h) = by r h
     by (refusal.Fen game fault) k = tt
     by (refusal.Illegal game ply at) k = tt
     by (refusal.Ambiguous game ply at) k = tt
+    by refusal.TableBadHead k = tt
+    by (refusal.TableWrongLength found due) k = tt
+    by (refusal.TableBadEntry index kept) k = tt
     by refusal.Memory k = tt
     by refusal.Read k = tt
 
@@ -212,6 +234,9 @@ text_cause plies source bytes before after r is ok (inr h) = by r h
     by (refusal.Fen game fault) k = (if_text source bytes (λ text. IsTextRefusal plies text (refusal.Fen game fault)) is k, ok)
     by (refusal.Illegal game ply at) k = (if_text source bytes (λ text. IsTextRefusal plies text (refusal.Illegal game ply at)) is k, ok)
     by (refusal.Ambiguous game ply at) k = (if_text source bytes (λ text. IsTextRefusal plies text (refusal.Ambiguous game ply at)) is k, ok)
+    by refusal.TableBadHead k = absurd k
+    by (refusal.TableWrongLength found due) k = absurd k
+    by (refusal.TableBadEntry index kept) k = absurd k
     by refusal.Memory k = absurd k
     by refusal.Read k = absurd k
 

@@ -1,11 +1,14 @@
 -- How a run ends, for which cause, and what it leaves.
 use Rattle.std.specs.Prelude.{◌≡◌, ◌≢◌, ℕ, ◌<◌, ◌⊎◌, List, ◌++◌, length, Option, None, IfSome, Contains}
 use Rattle.std.specs.Io.KnownBytes.{Appends}
+use Rattle.endgame_table.specs.Bytes.{bytes_of}
+use Rattle.endgame_table.specs.Entries.{IsTable}
 use Rattle.bench_edges.specs.Faults.{Rose}
 use Rattle.bench_edges.specs.Words.{Says, IsRefusedAt}
 use Rattle.bench_edges.specs.declared.status.Status.{Status}
 use Rattle.bench_edges.specs.declared.status.Status.TheVariants.{Done, Unsolved, Words, Input, Memory, Read, Write}
-use Rattle.bench_edges.specs.declared.words.Command.TheVariants.{Solve}
+use Rattle.bench_edges.specs.declared.words.Command.{Command}
+use Rattle.bench_edges.specs.declared.words.Command.TheVariants.{Solve, MakeTable, TableCheck}
 use Rattle.bench_edges.specs.declared.words.Options.{Options}
 use Rattle.pdn_openings.specs.declared.opening.Opening.{Opening}
 use Rattle.opening_report.specs.declared.roots.Root.{Root}
@@ -13,16 +16,18 @@ use Rattle.opening_report.specs.declared.refusals.Refusal.{Refusal}
 use Rattle.opening_report.specs.declared.refusals.Refusal.TheVariants as refusal
 use Rattle.opening_report.specs.Report.{report_of, StandsOnce}
 use Rattle.opening_report.specs.Refusals.{refusal_text}
+use Rattle.opening_report.specs.Findings.{sound_text}
 use Rattle.opening_bench.specs.Solving.{OpeningsOf, root_positions, AreRootsOf, IsTextRefusal}
+use Rattle.opening_bench.specs.Tables.{IsTableRefusal}
 
--- the run came to its report: it was written, or the sink failed at it
+-- the run came to what it has to write: it was written, or the sink failed at it
 abbrev pub Reports : Status → Type 0
 Reports Done = Unit {0}
 Reports Unsolved = Unit {0}
 Reports Write = Unit {0}
 Reports status = ⊥
 
--- the whole report was written
+-- the whole of it was written
 abbrev pub Finishes : Status → Type 0
 Finishes Done = Unit {0}
 Finishes Unsolved = Unit {0}
@@ -55,18 +60,47 @@ Takes Unsolved roots before after = ((r : Root) × (Contains roots r × (r.value
 Takes Write roots before after = TakesFront before after (report_of roots)
 Takes status roots before after = ⊥
 
--- What a run does that comes to its report: the words say `solve`, the source has openings, the roots are their distinct
--- positions, each with the value that looking ahead shows, and what is written is the report on them.
-pub record Solves (words : List (List ℕ)) (source before after : Option (List ℕ)) (status : Status) : Type 0 where
-  pub options : Options
-  pub said : Says words (Solve options)
+-- What `solve` does that comes to its report: the source has openings, the roots are their distinct positions, each with
+-- the value that looking ahead shows, and what is written is the report on them.
+pub record Solves (options : Options) (source before after : Option (List ℕ)) (status : Status) : Type 0 where
   pub openings : List Opening
   pub read : IfSome source (λ text. OpeningsOf options.plies text openings)
   pub roots : List Root
   pub are_roots : AreRootsOf options.depth (root_positions openings) roots
   pub taken : Takes status roots before after
 
--- why a run that says `solve` with these plies was refused: its source is too long, or its text has no openings; or it
+-- With status 0 the sink took the whole text, with status 8 a front of it.
+abbrev pub TakesText : Status → List ℕ → Option (List ℕ) → Option (List ℕ) → Type 0
+TakesText Done text before after = Appends before after text
+TakesText Write text before after = TakesFront before after text
+TakesText status text before after = ⊥
+
+-- What `table K` does that comes to its bytes: they are those of a sound table of so many pieces.
+pub record MakesTable (pieces : ℕ) (before after : Option (List ℕ)) (status : Status) : Type 0 where
+  pub numbers : List ℕ
+  pub table : IsTable pieces numbers
+  pub taken : TakesText status (bytes_of pieces numbers) before after
+
+-- What `table-check` does that comes to its line: the source is the bytes of a sound table, and the line names its pieces
+-- and how many entries it has.
+pub record FindsSound (source before after : Option (List ℕ)) (status : Status) : Type 0 where
+  pub pieces : ℕ
+  pub numbers : List ℕ
+  pub table : IsTable pieces numbers
+  pub read : IfSome source (λ text. text ≡ bytes_of pieces numbers)
+  pub taken : TakesText status (sound_text pieces (length numbers)) before after
+
+-- What a run does that comes to what it has to write, by its command.
+abbrev pub Does : Command → Option (List ℕ) → Option (List ℕ) → Option (List ℕ) → Status → Type 0
+Does (Solve options) source before after status = Solves options source before after status
+Does (MakeTable pieces) source before after status = MakesTable pieces before after status
+Does TableCheck source before after status = FindsSound source before after status
+
+-- the same by the words
+abbrev pub DoesAsSaid : List (List ℕ) → Option (List ℕ) → Option (List ℕ) → Option (List ℕ) → Status → Type 0
+DoesAsSaid words source before after status = (command : Command) × (Says words command × Does command source before after status)
+
+-- why `solve` with these plies was refused: its source is too long, or its text has no openings; or it
 -- failed; or memory ran out
 abbrev pub IsSourceRefusal : ℕ → Option (List ℕ) → ℕ → ℕ → Refusal → Type 0
 IsSourceRefusal plies source before after refusal.TooLong = IfSome source (λ text. 16777216 < length text) × (after ≡ before)
@@ -74,10 +108,16 @@ IsSourceRefusal plies source before after refusal.Memory = Unit {0}
 IsSourceRefusal plies source before after refusal.Read = Rose before after
 IsSourceRefusal plies source before after other = IfSome source (λ text. IsTextRefusal plies text other) × (after ≡ before)
 
--- The cause of a refusal: words that are not in the grammar, or what is wrong with the source.
+-- why a command was refused; only want of memory refuses `table K`
+abbrev pub IsCommandRefusal : Command → Option (List ℕ) → ℕ → ℕ → Refusal → Type 0
+IsCommandRefusal (Solve options) source before after r = IsSourceRefusal options.plies source before after r
+IsCommandRefusal (MakeTable pieces) source before after r = r ≡ refusal.Memory
+IsCommandRefusal TableCheck source before after r = IsTableRefusal source before after r
+
+-- The cause of a refusal: words that are not in the grammar, or what is wrong with the source of the command.
 abbrev pub HasCause : List (List ℕ) → Option (List ℕ) → ℕ → ℕ → Refusal → Type 0
 HasCause words source before after (refusal.Words at) = IsRefusedAt words at
-HasCause words source before after other = (options : Options) × (Says words (Solve options) × IsSourceRefusal options.plies source before after other)
+HasCause words source before after other = (command : Command) × (Says words command × IsCommandRefusal command source before after other)
 
 -- The sink took exactly the refusal's line; or a front of it, where the sink's faults rose.
 abbrev pub TakesLine : Refusal → Option (List ℕ) → Option (List ℕ) → ℕ → ℕ → Type 0

@@ -1,19 +1,25 @@
--- What the two ways to write do, which the private functions answer for.
-use Rattle.std.specs.Prelude.{ℕ, List, Option}
+-- What the ways to write do, which the private functions answer for.
+use Rattle.std.specs.Prelude.{◌≡◌, ℕ, Bool, true, false, List, ◌++◌, Option}
+use Rattle.std.specs.Io.KnownBytes.{Appends}
 use Rattle.bench_edges.specs.declared.status.Status.{Status}
-use Rattle.bench_edges.specs.declared.status.Status.TheVariants.{Memory}
-use Rattle.opening_report.specs.declared.roots.Root.{Root}
+use Rattle.bench_edges.specs.declared.status.Status.TheVariants.{Done, Unsolved, Write}
 use Rattle.opening_report.specs.declared.refusals.Refusal.{Refusal}
-use Rattle.opening_report.specs.declared.refusals.Refusal.TheVariants as refusal
 use Rattle.opening_report.specs.Lines.{IsLine}
 use Rattle.opening_report.specs.Refusals.{refusal_text}
-use Rattle.opening_bench.specs.Bench.{Takes, TakesLine}
+use Rattle.opening_report.specs.Report.{ValuesAreTrue}
+use Rattle.opening_bench.specs.Bench.{TakesFront}
 
 -- the refusal's text is one line
 abbrev pub IsLineOf : Refusal → Type 0
 IsLineOf r = IsLine (refusal_text r)
 
--- the report was written, or memory was refused
-abbrev pub IsWritten : Status → List Root → Option (List ℕ) → Option (List ℕ) → ℕ → ℕ → Type 0
-IsWritten Memory roots before after faults_before faults_after = TakesLine refusal.Memory before after faults_before faults_after × IsLineOf refusal.Memory
-IsWritten status roots before after faults_before faults_after = Takes status roots before after
+-- the whole text was written, with status 0 where it settles all and 1 elsewhere, or a front of it with status 8
+abbrev pub TakesOutput : Status → List ℕ → Bool → Option (List ℕ) → Option (List ℕ) → Type 0
+TakesOutput Done text settled before after = (settled ≡ true) × Appends before after text
+TakesOutput Unsolved text settled before after = (settled ≡ false) × Appends before after text
+TakesOutput Write text settled before after = TakesFront before after text
+TakesOutput status text settled before after = ⊥
+
+-- the text has true values alone, and so has each front of it
+abbrev pub SaysTrue : List ℕ → Type 0
+SaysTrue text = (front back : List ℕ) → text ≡ front ++ back → ValuesAreTrue front

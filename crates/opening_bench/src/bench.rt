@@ -1,19 +1,24 @@
 //! The top call: from the words and the source's bytes to the sink's bytes and a status.
-ghost use Rattle.std.specs.Prelude.{◌≡◌, ◌≢◌, ◌↔◌, ◌≤◌, List, All, IsTrue, IsSome, IfSome, length};
+ghost use Rattle.std.specs.Prelude.{◌≡◌, ◌≢◌, ◌↔◌, ◌≤◌, ℕ, List, IfOk, IfErr, IfSome, length};
 ghost use Rattle.std.specs.Io.KnownBytes.{IsAtEnd};
 ghost use Rattle.bench_edges.specs.Faults.{Rose};
 ghost use Rattle.bench_edges.specs.Words.{Says, texts};
 ghost use Rattle.bench_edges.specs.declared.words.Command.{Command};
 ghost use Rattle.bench_edges.specs.declared.words.Options.{Options};
+ghost use Rattle.endgame_table.specs.Bytes.{bytes_of};
+ghost use Rattle.endgame_table.specs.Entries.{IsTable};
 ghost use Rattle.pdn_openings.specs.declared.opening.Opening.{Opening};
 ghost use Rattle.opening_report.specs.Report.{ValuesAreTrue};
-ghost use Rattle.opening_bench.specs.Bench.{Reports, Finishes, Refuses, Solves, IsRefused, TakesLine, WritesOnly, HoldsOpenings, status_of};
+ghost use Rattle.opening_bench.specs.Bench.{Reports, Finishes, Refuses, DoesAsSaid, IsRefused, IsCommandRefusal, TakesLine, WritesOnly, HoldsOpenings, status_of};
 ghost use Rattle.opening_bench.specs.Solving.{OpeningsOf};
-ghost use Rattle.opening_bench.specs.Writing.{IsWritten, IsLineOf};
+ghost use Rattle.opening_bench.specs.Steps.{Produces, IsWithin, IsOfSource, IsGoodFor};
+ghost use Rattle.opening_bench.specs.Writing.{IsLineOf, SaysTrue};
 
-use crate::solve::solve;
-use bench_edges::{Command, Options, Sink, Source, Status, read_words, write_all};
-use opening_report::{Refusal, Root, refusal_line, report};
+use crate::output::{Output, write_output};
+use crate::solve::solve_output;
+use crate::tables::{check_output, table_output};
+use bench_edges::{Command, Sink, Source, Status, read_words, write_all};
+use opening_report::{Refusal, refusal_line};
 use std::alloc::Global;
 
 /// The status of a refused run.
@@ -39,43 +44,33 @@ fn refuse<K: Sink>(refusal: Refusal, sink: &mut K) -> Status
     status_of(&refusal)
 }
 
-/// The options of the command.
-fn options_of(command: Command) -> Options
-    ensures { command ≡ Command.Solve result }
+/// What the command has to write.
+fn output_of<S: Source>(alloc: Global, command: Command, source: &mut S) -> Result<Output, Refusal>
+    requires { IsWithin command }
+    ensures produced { IfOk result (λ output. Produces command (S.left source.old) (S.left source.new) output.text.items output.is_settled) }
+    ensures says { IfOk result (λ output. SaysTrue output.text.items) }
+    ensures refused { IfErr result (λ r. IsCommandRefusal command (S.left source.old) (S.faults source.old) (S.faults source.new) r) }
+    ensures of_source { IfErr result IsOfSource }
+    ensures accepted { IfErr result (λ r. IsGoodFor command (S.left source.old) r) }
+    ensures unread { (pieces : ℕ) → command ≡ Command.MakeTable pieces → source.new ≡ source.old }
 {
-    let Command::Solve(options) = command;
-    options
-}
-
-/// Every root has a value.
-fn all_settled(roots: &[Root]) -> bool
-    ensures { IsTrue result ↔ All (λ root. IsSome root.value) roots.now }
-{
-    roots.iter().all(|root| root.value.is_some())
-}
-
-/// Writes the report on the roots. Where the report finds no memory, that is the refusal; where the sink fails, the status
-/// is `Write`; else it is `Done` where every root has a value, and `Unsolved` where one has none.
-fn write_report<K: Sink>(alloc: Global, roots: &[Root], sink: &mut K) -> Status
-    ensures written { IsWritten result roots.now (K.taken sink.old) (K.taken sink.new) (K.faults sink.old) (K.faults sink.new) }
-    ensures write { result ≡ Status.Write → Rose (K.faults sink.old) (K.faults sink.new) }
-{
-    let Ok(text) = report(alloc, roots) else {
-        return refuse(Refusal::Memory, sink);
-    };
-    match write_all(sink, &text) {
-        Err(_) => Status::Write,
-        Ok(()) if all_settled(roots) => Status::Done,
-        Ok(()) => Status::Unsolved,
+    match command {
+        Command::Solve(options) => solve_output(alloc, &options, source),
+        Command::MakeTable(pieces) => table_output(alloc, pieces),
+        Command::TableCheck => check_output(alloc, source),
     }
 }
 
-/// Does what the words say: reads the games of the source, takes the position of each after its first plies, looks ahead
-/// from the distinct ones, and writes a line for each and a summary. A refused run writes one line that says why.
+/// Does what the words say. A refused run writes one line that says why.
 ///
-/// `words` are those of the command line without the program's name: a path, `solve`, and its options `--depth` and
-/// `--plies`. The order of trial is words, source, its length, its PDN, the openings. Every call returns. Want of memory
-/// is answered by the status `Memory`.
+/// `words` are those of the command line without the program's name: a path, a command, and its options.
+/// - `solve`, with `--depth` and `--plies`, reads the games of the source, takes the position of each after its first
+///   plies, looks ahead from the distinct ones, and writes a line for each and a summary.
+/// - `table K` writes the bytes of the endgame table of K pieces, 2 or 3, and reads nothing.
+/// - `table-check` reads the bytes of an endgame table, and writes a line where they are sound.
+///
+/// The order of trial is words, source, its length, its form, what it says. Every call returns. Want of memory is
+/// answered by the status `Memory`.
 pub fn bench<S: Source, K: Sink>(
     alloc: Global,
     words: &[&str],
@@ -88,8 +83,8 @@ pub fn bench<S: Source, K: Sink>(
     // With status 0 or 1 each position of the openings of the source stands in exactly one root line.
     ensures openings { Finishes result → WritesOnly (K.taken sink.old) (K.taken sink.new) (HoldsOpenings (texts words.now) (S.left source.old)) }
 
-    // What a run reports, or why it was refused.
-    ensures solves { Reports result → Solves (texts words.now) (S.left source.old) (K.taken sink.old) (K.taken sink.new) result }
+    // What a run does, or why it was refused.
+    ensures does { Reports result → DoesAsSaid (texts words.now) (S.left source.old) (K.taken sink.old) (K.taken sink.new) result }
     ensures refused { Refuses result → IsRefused (texts words.now) (S.left source.old) (S.faults source.old) (S.faults source.new)
         (K.taken sink.old) (K.taken sink.new) (K.faults sink.old) (K.faults sink.new) result }
 
@@ -97,19 +92,23 @@ pub fn bench<S: Source, K: Sink>(
     ensures words { (result ≡ Status.Words) ↔ ((command : Command) → ¬ Says (texts words.now) command) }
     ensures accepted { (options : Options) → Says (texts words.now) (Command.Solve options) → IfSome (S.left source.old)
         (λ text. length text ≤ 16777216 → (all : List Opening) → OpeningsOf options.plies text all → result ≢ Status.Input) }
+    ensures accepted_tables { Says (texts words.now) Command.TableCheck → IfSome (S.left source.old)
+        (λ bytes. (k : ℕ) (numbers : List ℕ) → IsTable k numbers → bytes ≡ bytes_of k numbers → result ≢ Status.Input) }
     ensures read { result ≡ Status.Read → Rose (S.faults source.old) (S.faults source.new) }
     ensures write { result ≡ Status.Write → Rose (K.faults sink.old) (K.faults sink.new) }
     ensures never { (result ≢ Status.Disk) × (result ≢ Status.Journal) }
 
-    // What is left of the source.
-    ensures all_read { Reports result → IsAtEnd (S.left source.new) }
+    // What is left of the source: nothing, or all of it where the command reads none.
+    ensures all_read { Reports result → ((k : ℕ) → ¬ Says (texts words.now) (Command.MakeTable k)) → IsAtEnd (S.left source.new) }
+    ensures unread { (k : ℕ) → Says (texts words.now) (Command.MakeTable k) → source.new ≡ source.old }
+    ensures unread_by_words { result ≡ Status.Words → source.new ≡ source.old }
 {
-    let options = match read_words(words) {
-        Ok(command) => options_of(command),
+    let command = match read_words(words) {
+        Ok(command) => command,
         Err(refusal) => return refuse(Refusal::Words(refusal.at), sink),
     };
-    match solve(alloc, &options, source) {
-        Ok(roots) => write_report(alloc, &roots, sink),
+    match output_of(alloc, command, source) {
+        Ok(output) => write_output(&output, sink),
         Err(refusal) => refuse(refusal, sink),
     }
 }

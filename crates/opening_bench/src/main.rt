@@ -7,7 +7,11 @@
 
 mod bench;
 mod look_ahead;
+mod output;
 mod solve;
+#[cfg(test)]
+mod table_tests;
+mod tables;
 #[cfg(test)]
 mod tests;
 mod text;
@@ -25,6 +29,8 @@ const USAGE: &str = "opening_bench: what openings of English draughts are worth,
 
 Usage:
   opening_bench PATH solve [--depth N] [--plies N] < GAMES.pdn
+  opening_bench PATH table K > TABLE
+  opening_bench PATH table-check < TABLE
   opening_bench --help
   opening_bench --version
 
@@ -32,14 +38,18 @@ PATH       the journal's; no journal is kept yet, and `-` will do
 --depth N  how many plies are looked ahead, 0 to 12 (4 where it is not given)
 --plies N  how many plies of each game are its opening, 0 to 200 (200 where it is not given)
 
-The games are PDN, of at most 16777216 bytes and 4096 games. Written are a line `root NUMBER FEN VALUE` for each distinct
-position after an opening, VALUE being black-wins, white-wins or unsolved, and a line that counts them.
+K          how many pieces an endgame table has at most, 2 or 3
+
+`solve`: the games are PDN, of at most 16777216 bytes and 4096 games. Written are a line `root NUMBER FEN VALUE` for each
+distinct position after an opening, VALUE being black-wins, white-wins or unsolved, and a line that counts them.
+`table` writes the bytes of the endgame table of K pieces. `table-check` reads such bytes, at most 4194304, and writes
+`sound table K entries E` where each entry is right, or else which is not.
 
 Exit status:
-  0  each position has a value
+  0  each position has a value; the table was written, or is sound
   1  some position is unsolved
   2  the words are not of the form above
-  3  the games cannot be read, or have no openings
+  3  the games cannot be read, or have no openings; the bytes are no sound table
   6  no memory
   7  standard input failed
   8  standard output failed

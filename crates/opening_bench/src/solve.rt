@@ -1,17 +1,19 @@
 //! From the source to the roots.
-ghost use Rattle.std.specs.Prelude.{◌≡◌, [], ◌∷◌, ◌++◌, cond, List, IfOk, IfErr, IfSome, OnOk};
+ghost use Rattle.std.specs.Prelude.{◌≡◌, ◌↔◌, [], ◌∷◌, ◌++◌, cond, List, All, IsTrue, IsSome, IfOk, IfErr, IfSome, OnOk};
 ghost use Rattle.std.specs.List.{list_any};
 ghost use Rattle.draughts_board.specs.Board.{same_board};
 ghost use Rattle.opening_bench.specs.Bench.{IsSourceRefusal};
 ghost use Rattle.opening_bench.specs.Solving.{OpeningsOf, IsShown, AreRootsOf, root_positions, won_by};
-ghost use Rattle.opening_bench.specs.Steps.{read_refusal, IsOfSource, IsReadFor, IsSolvedTo};
+ghost use Rattle.opening_bench.specs.Steps.{read_refusal, IsOfSource, IsReadFor, IsSolvedTo, IsReport};
+ghost use Rattle.opening_bench.specs.Writing.{SaysTrue};
 ghost use Rattle.pdn_openings.specs.declared.opening.Opening.{Opening};
 
 use crate::look_ahead::shown_winner;
+use crate::output::Output;
 use crate::text::openings_of;
 use bench_edges::{Options, ReadRefusal, Source, read_to_limit};
 use draughts_board::{Position, Side, Value};
-use opening_report::{Refusal, Root};
+use opening_report::{Refusal, Root, report};
 use pdn_openings::Opening;
 use std::alloc::{AllocError, Global};
 
@@ -84,7 +86,7 @@ fn roots_of(alloc: Global, openings: &[Opening], depth: u8) -> Result<Vec<Root>,
 }
 
 /// The refusal of a source that was not read to its end.
-fn of_read(refusal: ReadRefusal) -> Refusal
+pub(crate) fn of_read(refusal: ReadRefusal) -> Refusal
     ensures { result ≡ read_refusal refusal }
 {
     match refusal {
@@ -95,11 +97,7 @@ fn of_read(refusal: ReadRefusal) -> Refusal
 }
 
 /// Reads the source, takes the openings of its games, and looks at their distinct positions.
-pub(crate) fn solve<S: Source>(
-    alloc: Global,
-    options: &Options,
-    source: &mut S,
-) -> Result<Vec<Root>, Refusal>
+fn solve<S: Source>(alloc: Global, options: &Options, source: &mut S) -> Result<Vec<Root>, Refusal>
     ensures solved { IfOk result (λ roots. IsSolvedTo options.now.plies options.now.depth (S.left source.old) (S.left source.new) roots.items) }
     ensures refused { IfErr result (λ r. IsSourceRefusal options.now.plies (S.left source.old) (S.faults source.old) (S.faults source.new) r) }
     ensures of_source { IfErr result IsOfSource }
@@ -115,6 +113,38 @@ pub(crate) fn solve<S: Source>(
     };
     match roots_of(alloc, &found, options.depth) {
         Ok(roots) => Ok(roots),
+        Err(AllocError) => Err(Refusal::Memory),
+    }
+}
+
+/// Every root has a value.
+fn all_settled(roots: &[Root]) -> bool
+    ensures { IsTrue result ↔ All (λ root. IsSome root.value) roots.now }
+{
+    roots.iter().all(|root| root.value.is_some())
+}
+
+/// The report on the openings of the source.
+pub(crate) fn solve_output<S: Source>(
+    alloc: Global,
+    options: &Options,
+    source: &mut S,
+) -> Result<Output, Refusal>
+    ensures solved { IfOk result (λ output. IsReport options.now (S.left source.old) (S.left source.new) output.text.items output.is_settled) }
+    ensures says { IfOk result (λ output. SaysTrue output.text.items) }
+    ensures refused { IfErr result (λ r. IsSourceRefusal options.now.plies (S.left source.old) (S.faults source.old) (S.faults source.new) r) }
+    ensures of_source { IfErr result IsOfSource }
+    ensures accepted { IfErr result (λ r. IfSome (S.left source.old) (λ text. (all : List Opening) → OpeningsOf options.now.plies text all → IsReadFor text r)) }
+{
+    let roots = match solve(alloc, options, source) {
+        Ok(roots) => roots,
+        Err(refusal) => return Err(refusal),
+    };
+    match report(alloc, &roots) {
+        Ok(text) => Ok(Output {
+            text,
+            is_settled: all_settled(&roots),
+        }),
         Err(AllocError) => Err(Refusal::Memory),
     }
 }

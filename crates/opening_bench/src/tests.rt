@@ -22,11 +22,11 @@ fn expect(
     status: Status,
     written: &[u8],
 ) -> Result<(), Fail> {
-    let mut source = MemorySource::new(alloc, Vec::from_slice(alloc, text)?);
-    let mut sink = MemorySink::new(alloc);
+    let mut source = MemorySource::new(Vec::from_slice(alloc, text)?, Vec::new(alloc));
+    let mut sink = MemorySink::new(alloc, Vec::new(alloc));
     let ended = bench(alloc, words, &mut source, &mut sink);
     assert_eq!(rt; ended, status);
-    assert_eq!(rt; sink.taken(), written);
+    assert_eq!(rt; sink.bytes(), written);
     Ok(())
 }
 
@@ -311,39 +311,39 @@ fn words_out_of_the_grammar(rt: HostRuntime) -> Result<(), Fail> {
 #[test]
 fn a_source_that_fails(rt: HostRuntime) -> Result<(), Fail> {
     let bytes = Vec::from_slice(rt.alloc(), BLOCKING)?;
-    let mut source = MemorySource::new(rt.alloc(), bytes).failing_at(vec![in rt.alloc(); 0]?);
-    let mut sink = MemorySink::new(rt.alloc());
+    let mut source = MemorySource::new(bytes, vec![in rt.alloc(); 0]?);
+    let mut sink = MemorySink::new(rt.alloc(), Vec::new(rt.alloc()));
     assert_eq!(rt;
         bench(rt.alloc(), &ONE_PLY, &mut source, &mut sink),
         Status::Read
     );
-    assert_eq!(rt; sink.taken(), b"refused read\n".as_slice());
+    assert_eq!(rt; sink.bytes(), b"refused read\n".as_slice());
     Ok(())
 }
 
 #[test]
 fn a_sink_that_fails(rt: HostRuntime) -> Result<(), Fail> {
-    let mut source = MemorySource::new(rt.alloc(), Vec::from_slice(rt.alloc(), BLOCKING)?);
-    let mut sink = MemorySink::new(rt.alloc()).failing_at(vec![in rt.alloc(); 0]?);
+    let bytes = Vec::from_slice(rt.alloc(), BLOCKING)?;
+    let mut source = MemorySource::new(bytes, Vec::new(rt.alloc()));
+    let mut sink = MemorySink::new(rt.alloc(), vec![in rt.alloc(); 0]?);
     assert_eq!(rt;
         bench(rt.alloc(), &ONE_PLY, &mut source, &mut sink),
         Status::Write
     );
-    assert_eq!(rt; sink.taken().len(), 0);
+    assert_eq!(rt; sink.bytes().len(), 0);
     assert_eq!(rt; source.left().len(), 0);
     Ok(())
 }
 
 #[test]
 fn one_byte_at_a_time(rt: HostRuntime) -> Result<(), Fail> {
-    let mut source = MemorySource::new(rt.alloc(), Vec::from_slice(rt.alloc(), BLOCKING)?).at_most(
-        1,
-    );
-    let mut sink = MemorySink::new(rt.alloc()).at_most(1);
+    let bytes = Vec::from_slice(rt.alloc(), BLOCKING)?;
+    let mut source = MemorySource::new(bytes, Vec::new(rt.alloc())).at_most(1);
+    let mut sink = MemorySink::new(rt.alloc(), Vec::new(rt.alloc())).at_most(1);
     assert_eq!(rt;
         bench(rt.alloc(), &ONE_PLY, &mut source, &mut sink),
         Status::Done
     );
-    assert_eq!(rt; sink.taken(), BLOCKING_WON);
+    assert_eq!(rt; sink.bytes(), BLOCKING_WON);
     Ok(())
 }

@@ -1,8 +1,8 @@
 -- The lines of refusals are lines.
-use Rattle.std.proofs.Common.{◌≡◌, ℕ, ◌<◌, ◌^◌, List, [], ◌∷◌, ◌++◌, refl, sym, ◌∙◌, ap, arith, append_assoc, lit<}
+use Rattle.std.proofs.Common.{◌≡◌, ℕ, ◌<◌, ◌^◌, List, [], ◌∷◌, ◌++◌, refl, ◌∙◌, ap, append_assoc, lit<}
 use Rattle.std.specs.Prelude.{codes, decimal}
 use Rattle.opening_report.specs.Lines.{Lacks, IsLine}
-use Rattle.opening_report.specs.Refusals.{numbered, of_game, move_words}
+use Rattle.opening_report.specs.Refusals.{numbered, numbered_twice, of_game, move_words}
 use Rattle.opening_report.proofs.LineLemmas.{Lacks-append, Lacks-decimal, IsLine-append}
 
 number_line : (n : ℕ) (line : List ℕ) → n < 2 ^ 64 → IsLine line → IsLine (decimal n ++ line)
@@ -13,6 +13,10 @@ end_is_line = ([], (refl, refl))
 
 pub numbered_is_line : (label : List ℕ) (n : ℕ) → Lacks 10 label → n < 2 ^ 64 → IsLine (numbered label n)
 numbered_is_line label n bare small = IsLine-append label (decimal n ++ 10 ∷ []) bare (number_line n (10 ∷ []) small end_is_line)
+
+pub numbered_twice_is_line : (first : List ℕ) (a : ℕ) (second : List ℕ) (b : ℕ) → Lacks 10 first → a < 2 ^ 64 → Lacks 10 second → b < 2 ^ 64 → IsLine (numbered_twice first a second b)
+numbered_twice_is_line first a second b bare small bare_too small_too =
+    IsLine-append first (decimal a ++ numbered second b) bare (number_line a (numbered second b) small (numbered_is_line second b bare_too small_too))
 
 pub game_is_bare : (game : ℕ) → game < 2 ^ 64 → Lacks 10 (codes "refused input game " ++ decimal game)
 game_is_bare game small = Lacks-append 10 (codes "refused input game ") (decimal game) refl (Lacks-decimal 10 game (lit< tt) small)

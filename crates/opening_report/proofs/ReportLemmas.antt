@@ -1,26 +1,25 @@
 -- What stands in a report is true of its roots.
-use Rattle.std.proofs.Common.{◌≡◌, ◌≢◌, ℕ, zero, suc, ◌+◌, ◌-◌, ◌<◌, ◌≤◌, ◌^◌, ◌⊎◌, inl, inr, Bool, true, false, List, [], ◌∷◌, ◌++◌, Option, None, Some, refl, sym, ◌∙◌, ap, subst, arith, length, get_or, drop, append_assoc, lit<}
-use Rattle.std.specs.Prelude.{Contains, decimal, codes, is_some, count_by}
-use Rattle.std.specs.List.{flat_map, AllByRecursion}
+use Rattle.std.proofs.Common.{◌≡◌, ◌≢◌, ℕ, ◌+◌, ◌-◌, ◌<◌, ◌^◌, inl, inr, List, [], ◌∷◌, ◌++◌, Option, None, Some, refl, sym, ◌∙◌, ap, subst, arith, length, get_or, take, drop, append_assoc, lit<}
+use Rattle.std.specs.Prelude.{Contains, decimal, codes, is_some}
+use Rattle.std.specs.List.{AllByRecursion}
 use Rattle.std.proofs.lemmas.List.Elements.{Contains-push_cases, Contains-append_left}
 use Rattle.std.proofs.lemmas.List.Sums.{count_by-le-length}
-use Rattle.draughts_board.specs.declared.pieces.Side.{Side}
-use Rattle.draughts_board.specs.declared.pieces.Side.TheVariants.{Black, White}
 use Rattle.draughts_board.specs.declared.pieces.Value.{Value}
 use Rattle.draughts_board.specs.declared.pieces.Value.TheVariants.{BlackWins, WhiteWins, Draw}
 use Rattle.draughts_board.specs.Board.{Board, IsLawful}
-use Rattle.draughts_board.specs.Game.{HasValue, Wins}
+use Rattle.draughts_board.specs.Game.{HasValue}
 use Rattle.draughts_board.specs.Draughts.{draughts}
 use Rattle.draughts_board.proofs.Members.{Contains-nil, Contains-cons_cases, Contains-head, Contains-tail, only_one}
 use Rattle.fen_text.specs.Printed.{fen_of}
 use Rattle.opening_report.specs.declared.roots.Root.{Root}
-use Rattle.opening_report.specs.Lines.{Lacks, IsLine, EndsLine, HasLine}
-use Rattle.opening_report.specs.Report.{word_of, root_line, root_lines, settled_count, summary_line, report_lines, report_of, ValuesAreTrue, StandsOnce, IsTrueRoot, AreTrueRoots, AreApart}
+use Rattle.opening_report.specs.Lines.{Lacks, IsLine, HasLine}
+use Rattle.opening_report.specs.Report.{word_of, root_line, root_lines, settled_count, summary_line, report_lines, report_of, ValuesAreTrue, StandsOnce, AreTrueRoots, AreApart}
 use Rattle.opening_report.specs.declared.refusals.Refusal.{Refusal}
 use Rattle.opening_report.specs.declared.refusals.Refusal.TheVariants as refusal
 use Rattle.opening_report.specs.Refusals.{refusal_text}
 use Rattle.std.proofs.lemmas.Fmt.{decimal_injective}
 use Rattle.std.proofs.lemmas.List.{append-nil}
+use Rattle.std.proofs.lemmas.Grind.{common_steps}
 use Rattle.opening_report.proofs.LineLemmas.{fields_agree, line_among, line_stands, Lacks-decimal, Lacks-append}
 use Rattle.opening_report.proofs.FenFacts.{Lacks-fen}
 use Rattle.fen_text.proofs.Plain.{printed_tells_apart}
@@ -240,6 +239,21 @@ roots_stand_once roots r few right apart h =
 
 -- ---- refusals
 
+-- a whole line of a text that is one line is that line
+pub other_line_says_no_value : (text front back : List ℕ) → IsLine text → take 5 text ≢ codes "root " → text ≡ front ++ back → ValuesAreTrue front
+other_line_says_no_value text front back one other whole n p v small lawful has =
+    let line : List ℕ = root_line n p (Some v) in
+    let stands : has.before ++ (line ++ (has.after ++ back)) ≡ text ++ [] =
+    ap (λ t. has.before ++ t) (sym (append_assoc line has.after back)) ∙ sym (append_assoc has.before (line ++ has.after) back) ∙ ap (λ t. t ++ back) (sym has.split) ∙ sym whole ∙ sym (append-nil text) in
+    let among = line_among (text ∷ []) has.before line (has.after ++ back) (one, tt) (root_line-is_line n p (Some v) small lawful) has.begins stands in
+    let same : take 5 text ≡ take 5 line = ap (λ t. take 5 t) (only_one text line among) in
+    absurd (other same)
+
+pub text_without_roots_says_no_value : (text : List ℕ) → ((before after : List ℕ) → text ≢ before ++ (codes "root " ++ after)) → ValuesAreTrue text
+text_without_roots_says_no_value text without n p v small lawful has =
+    let rest : List ℕ = decimal n ++ 32 ∷ (fen_of p ++ 32 ∷ (word_of (Some v) ++ 10 ∷ [])) in
+    absurd (without has.before (rest ++ has.after) (has.split ∙ ap (λ t. has.before ++ t) (append_assoc (codes "root ") rest has.after)))
+
 second_byte : (r : Refusal) → get_or (refusal_text r) 1 0 ≡ 101
 second_byte (refusal.Words at) = refl
 second_byte refusal.TooLong = refl
@@ -253,14 +267,17 @@ second_byte (refusal.OtherGame game) = refl
 second_byte (refusal.Fen game fault) = refl
 second_byte (refusal.Illegal game ply at) = refl
 second_byte (refusal.Ambiguous game ply at) = refl
+second_byte refusal.TableBadHead = refl
+second_byte (refusal.TableWrongLength found due) = refl
+second_byte (refusal.TableBadEntry index kept) = refl
 second_byte refusal.Memory = refl
 second_byte refusal.Read = refl
 
 pub refusal_says_no_value : (r : Refusal) (front back : List ℕ) → IsLine (refusal_text r) → refusal_text r ≡ front ++ back → ValuesAreTrue front
-refusal_says_no_value r front back one whole n p v small lawful has =
-    let line : List ℕ = root_line n p (Some v) in
-    let stands : has.before ++ (line ++ (has.after ++ back)) ≡ refusal_text r ++ [] =
-    ap (λ t. has.before ++ t) (sym (append_assoc line has.after back)) ∙ sym (append_assoc has.before (line ++ has.after) back) ∙ ap (λ t. t ++ back) (sym has.split) ∙ sym whole ∙ sym (append-nil (refusal_text r)) in
-    let among = line_among (refusal_text r ∷ []) has.before line (has.after ++ back) (one, tt) (root_line-is_line n p (Some v) small lawful) has.begins stands in
-    let h : ◌≡◌ {A = ℕ} 101 111 = sym (second_byte r) ∙ ap (λ t. get_or t 1 0) (only_one (refusal_text r) line among) in
-    absurd (omega (arith, h))
+refusal_says_no_value r front back one whole = other_line_says_no_value (refusal_text r) front back one other whole
+  where
+    other : take 5 (refusal_text r) ≢ codes "root "
+    other same =
+        let second : get_or (take 5 (refusal_text r)) 1 0 ≡ get_or (refusal_text r) 1 0 = grind (arith, common_steps) in
+        let h : ◌≡◌ {A = ℕ} 101 111 = sym (second_byte r) ∙ sym second ∙ ap (λ t. get_or t 1 0) same in
+        omega (arith, h)

@@ -1,5 +1,5 @@
 -- What is believed of a text that is written.
-use Rattle.std.specs.Prelude.{◌≡◌, ℕ, ◌+◌, ◌<◌, ◌^◌, List, ◌++◌, length, Contains}
+use Rattle.std.specs.Prelude.{◌≡◌, ◌≢◌, ℕ, ◌+◌, ◌<◌, ◌^◌, List, ◌++◌, length, take, codes, Contains}
 use Rattle.opening_report.specs.declared.roots.Root.{Root}
 use Rattle.opening_report.specs.declared.refusals.Refusal.{Refusal}
 use Rattle.opening_report.specs.Lines.{IsLine}
@@ -22,3 +22,13 @@ RootsStandOnce =
 abbrev pub RefusalsSayNoValue : Type 0
 RefusalsSayNoValue =
     (r : Refusal) (front back : List ℕ) → IsLine (refusal_text r) → refusal_text r ≡ front ++ back → ValuesAreTrue front
+
+-- A line that does not begin with `root `, and each front of it, has no value in it.
+abbrev pub OtherLinesSayNoValue : Type 0
+OtherLinesSayNoValue =
+    (line front back : List ℕ) → IsLine line → take 5 line ≢ codes "root " → line ≡ front ++ back → ValuesAreTrue front
+
+-- A text in which `root ` stands nowhere has no value in it.
+abbrev pub TextsWithoutRootsSayNoValue : Type 0
+TextsWithoutRootsSayNoValue =
+    (text : List ℕ) → ((before after : List ℕ) → text ≢ before ++ (codes "root " ++ after)) → ValuesAreTrue text

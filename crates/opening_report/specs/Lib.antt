@@ -1,4 +1,5 @@
 pub mod Lines
 pub mod Report
 pub mod Refusals
+pub mod Findings
 pub mod Laws

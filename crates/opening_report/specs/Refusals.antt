@@ -10,6 +10,10 @@ use Rattle.opening_report.specs.declared.refusals.Refusal.TheVariants as refusal
 abbrev pub numbered : List ℕ → ℕ → List ℕ
 numbered label n = label ++ (decimal n ++ 10 ∷ [])
 
+-- a label and a number, twice, and the line end
+abbrev pub numbered_twice : List ℕ → ℕ → List ℕ → ℕ → List ℕ
+numbered_twice first a second b = first ++ (decimal a ++ numbered second b)
+
 -- `refused input game G` and what follows
 abbrev pub of_game : ℕ → List ℕ → List ℕ
 of_game game rest = codes "refused input game " ++ (decimal game ++ rest)
@@ -41,5 +45,8 @@ refusal_text (refusal.OtherGame game) = of_game game (codes " other-game\n")
 refusal_text (refusal.Fen game fault) = of_game game (fen_words fault)
 refusal_text (refusal.Illegal game ply at) = of_game game (move_words ply at (codes " illegal\n"))
 refusal_text (refusal.Ambiguous game ply at) = of_game game (move_words ply at (codes " ambiguous\n"))
+refusal_text refusal.TableBadHead = codes "refused input table bad-head\n"
+refusal_text (refusal.TableWrongLength found due) = numbered_twice (codes "refused input table wrong-length found ") found (codes " due ") due
+refusal_text (refusal.TableBadEntry index kept) = numbered_twice (codes "refused input table bad-entry ") index (codes " kept ") kept
 refusal_text refusal.Memory = codes "refused memory\n"
 refusal_text refusal.Read = codes "refused read\n"

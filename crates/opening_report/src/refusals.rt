@@ -2,7 +2,7 @@
 ghost use Rattle.std.specs.Prelude.{◌≡◌, ◌+◌, ◌≤◌, ◌++◌, IsTrue, length, decimal, codes};
 ghost use Rattle.arrayvec.specs.ArrayString.{array_string_len};
 ghost use Rattle.opening_report.specs.Lines.{IsLine, Lacks, is_line};
-ghost use Rattle.opening_report.specs.Refusals.{numbered, of_game, fen_words, move_words, refusal_text};
+ghost use Rattle.opening_report.specs.Refusals.{numbered, numbered_twice, of_game, fen_words, move_words, refusal_text};
 
 use arrayvec::ArrayString;
 use draughts_board::Side;
@@ -36,6 +36,12 @@ pub enum Refusal {
     Illegal { game: u32, ply: u32, at: usize },
     /// The move at this byte may mean two that differ.
     Ambiguous { game: u32, ply: u32, at: usize },
+    /// The bytes do not begin as a table's do.
+    TableBadHead,
+    /// The table has so many bytes, and not as many as its head asks for.
+    TableWrongLength { found: usize, due: usize },
+    /// The table is not right at this index, counted from 0, where this number stands.
+    TableBadEntry { index: u32, kept: u32 },
     /// Memory ran out.
     Memory,
     /// The source failed.
@@ -87,6 +93,31 @@ fn numbered(label: &str, n: usize) -> ArrayString<128>
     push_number(&mut line, n);
     line.push_str("\n");
     line
+}
+
+/// A label, a number, another label, another number and the line end.
+pub(crate) fn numbered_twice(first: &str, a: usize, second: &str, b: usize) -> ArrayString<128>
+    requires short { (length first.now ≤ 50) × (length second.now ≤ 20) }
+    requires bare { Lacks 10 first.now × Lacks 10 second.now }
+    ensures bytes { result.bytes ≡ numbered_twice first.now a second.now b }
+    ensures line { IsLine (numbered_twice first.now a second.now b) }
+{
+    let mut line = ArrayString::new();
+    line.push_str(first);
+    push_number(&mut line, a);
+    line.push_str(second);
+    push_number(&mut line, b);
+    line.push_str("\n");
+    line
+}
+
+/// The line on a table that is not right at an index.
+fn entry_line(index: u32, kept: u32) -> ArrayString<128>
+    ensures bytes { result.bytes ≡ numbered_twice (codes "refused input table bad-entry ") index (codes " kept ") kept }
+    ensures line { IsLine (numbered_twice (codes "refused input table bad-entry ") index (codes " kept ") kept) }
+{
+    let label = "refused input table bad-entry ";
+    numbered_twice(label, index as usize, " kept ", kept as usize)
 }
 
 /// The front of a line on a game.
@@ -193,6 +224,14 @@ pub fn refusal_line(r: &Refusal) -> ArrayString<128>
         Refusal::Fen(game, fault) => fen_line(game, fault),
         Refusal::Illegal { game, ply, at } => move_line(game, ply, at, " illegal\n"),
         Refusal::Ambiguous { game, ply, at } => move_line(game, ply, at, " ambiguous\n"),
+        Refusal::TableBadHead => plain("refused input table bad-head\n"),
+        Refusal::TableWrongLength { found, due } => numbered_twice(
+            "refused input table wrong-length found ",
+            found,
+            " due ",
+            due,
+        ),
+        Refusal::TableBadEntry { index, kept } => entry_line(index, kept),
         Refusal::Memory => plain("refused memory\n"),
         Refusal::Read => plain("refused read\n"),
     }

@@ -1,5 +1,5 @@
 //! Texts as the formats say them, written out by hand.
-use crate::{Refusal, Root, refusal_line, report};
+use crate::{Refusal, Root, refusal_line, report, sound_line};
 use draughts_board::{Position, Side, Square, Value};
 use fen_text::{FenRefusal, read_fen};
 use std::test::Fail;
@@ -132,4 +132,40 @@ fn refusals_of_a_fen(rt: HostRuntime) {
     ] {
         assert_eq!(rt; refusal_line(&Refusal::Fen(4096, fault)).as_str(), line);
     }
+}
+
+#[test]
+fn refusals_of_tables(rt: HostRuntime) {
+    for (refusal, line) in [
+        (Refusal::TableBadHead, "refused input table bad-head\n"),
+        (
+            Refusal::TableWrongLength {
+                found: 64_527,
+                due: 64_528,
+            },
+            "refused input table wrong-length found 64527 due 64528\n",
+        ),
+        (
+            Refusal::TableBadEntry {
+                index: 1073,
+                kept: 0,
+            },
+            "refused input table bad-entry 1073 kept 0\n",
+        ),
+        (
+            Refusal::TableBadEntry {
+                index: 651_009,
+                kept: u32::MAX,
+            },
+            "refused input table bad-entry 651009 kept 4294967295\n",
+        ),
+    ] {
+        assert_eq!(rt; refusal_line(&refusal).as_str(), line);
+    }
+}
+
+#[test]
+fn a_sound_table_has_a_line(rt: HostRuntime) {
+    let line = sound_line(2, 16_130);
+    assert_eq!(rt; line.as_str(), "sound table 2 entries 16130\n");
 }

@@ -1,7 +1,8 @@
 use Rattle.std.proofs.Common.{◌≡◌, ◌≢◌, ◌<◌, ◌+◌, ℕ, [], ◌∷◌, ◌++◌, List, get_or, length, decimal, codes, None, refl, sym, ◌∙◌, subst, inl, inr, arith, rules}
 use Rattle.std.proofs.lemmas.Grind.{common_steps}
 use Rattle.bench_edges.specs.Words.{Setting, IsSetting, IsNew, IsRefusedAt, texts}
-use Rattle.bench_edges.proofs.Grammar.{IsNew-from_none, depth_is_not_plies, depth_limit, plies_limit, number_for-new, number_for-same, number_for-other, read_on, refused_name, refused_value}
+use Rattle.bench_edges.proofs.Settings.{IsNew-from_none, depth_is_not_plies, depth_limit, plies_limit, number_for-new, number_for-same, number_for-other}
+use Rattle.bench_edges.proofs.SolveWords.{read_on, refused_name, refused_value}
 use Rattle.bench_edges.proofs.Texts.{text_eq, text_ne}
 use Rattle.bench_edges.proofs.words.read_solve.Goals as goal
 use Rattle.bench_edges.proofs.words.read_solve.Goals.{then-eq+then-is_none+in_ok-number_at, else-eq+then-eq-2+then-is_none-2+in_ok-number_at-2, else-eq-via-then-eq+else-is_none, else-eq-via-else-eq, else-eq-2-via-then-eq-2+else-is_none-2, else-eq-2-via-else-eq-2}
@@ -17,7 +18,7 @@ returns-in_err-number_at-clause-refused c =
     let new : IsNew (codes "--depth") so_far.given = IsNew-from_none (codes "--depth") so_far.given (so_far.depth ∙ none) in
     let some : Setting = record { name = codes "--depth"; value = 0 } in
     let other : at + 1 < length words → (s : Setting) → IsSetting s → s.name ≡ codes "--depth" → get_or words (at + 1) [] ≢ decimal s.value =
-    λ inside s setting same. c.in_err-number_at.ensures.other (grind (arith, common_steps)) s.value (depth_limit s setting same) in
+    λ inside s setting same. c.in_err-number_at.ensures.other (grind (arith, common_steps)) s.value (omega arith) (depth_limit s setting same) in
     let refused : IsRefusedAt words c.in_err-number_at.field-0.0.at =
     subst (λ (at : ℕ). IsRefusedAt words at) (sym c.in_err-number_at.ensures.place) (refused_value words at so_far.given some so_far.read (inl (refl, omega arith)) new within name other) in
     search (rules, refused)
@@ -33,7 +34,7 @@ returns-in_err-number_at-2-clause-refused c =
     let new : IsNew (codes "--plies") so_far.given = IsNew-from_none (codes "--plies") so_far.given (so_far.plies ∙ none) in
     let some : Setting = record { name = codes "--plies"; value = 0 } in
     let other : at + 1 < length words → (s : Setting) → IsSetting s → s.name ≡ codes "--plies" → get_or words (at + 1) [] ≢ decimal s.value =
-    λ inside s setting same. c.in_err-number_at-2.ensures.other (grind (arith, common_steps)) s.value (plies_limit s setting same) in
+    λ inside s setting same. c.in_err-number_at-2.ensures.other (grind (arith, common_steps)) s.value (omega arith) (plies_limit s setting same) in
     let refused : IsRefusedAt words c.in_err-number_at-2.field-0.0.at =
     subst (λ (at : ℕ). IsRefusedAt words at) (sym c.in_err-number_at-2.ensures.place) (refused_value words at so_far.given some so_far.read (inr (refl, omega arith)) new within name other) in
     search (rules, refused)

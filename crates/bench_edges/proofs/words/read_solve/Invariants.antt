@@ -1,6 +1,6 @@
 use Rattle.std.proofs.Common.{◌≡◌, List, length, codes, ◌-◌}
 use Rattle.bench_edges.specs.Words.{Setting, number_for, texts}
-use Rattle.bench_edges.proofs.Grammar.{IsReadTo}
+use Rattle.bench_edges.proofs.SolveWords.{IsReadTo}
 use Rattle.bench_edges.proofs.words.read_solve.Given as goal
 
 abbrev pub invariant-loop-at : goal.invariant-loop-at

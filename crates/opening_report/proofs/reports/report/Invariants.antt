@@ -1,4 +1,4 @@
-use Rattle.std.proofs.Common.{◌≡◌, ◌++◌, ◌+◌, take, drop}
+use Rattle.std.proofs.Common.{◌≡◌, ◌++◌, ◌+◌, drop}
 use Rattle.std.specs.List.{flat_map}
 use Rattle.opening_report.specs.Report.{root_lines}
 use Rattle.opening_report.proofs.reports.report.Given as goal

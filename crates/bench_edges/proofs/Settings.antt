@@ -1,0 +1,129 @@
+-- Options with their numbers, as words and as what they give.
+use Rattle.std.proofs.Common.{◌≡◌, ◌≢◌, ℕ, ◌<◌, ◌≤◌, ◌^◌, List, [], ◌∷◌, ◌++◌, length, drop, get_or, Option, Some, None, inl, inr, codes, decimal, Bool, true, false, cond, Decides, refl, ap, sym, ◌∙◌, arith, rules}
+use Rattle.std.proofs.lemmas.Fmt.{decimal_injective}
+use Rattle.std.proofs.lemmas.Slice.Eq.{bytes_eq-Decides}
+use Rattle.std.specs.List.{flat_map}
+use Rattle.std.specs.Str.{bytes_eq}
+use Rattle.bench_edges.specs.Words.{Setting, setting_words, IsSetting, IsNew, AreSettings, number_for}
+
+-- lists of words
+
+pub cons_head : {A : Type 0} (x y : A) (xs ys : List A) → x ∷ xs ≡ y ∷ ys → x ≡ y
+cons_head x y xs ys e = ap (λ l. get_or l 0 x) e
+
+pub cons_tail : {A : Type 0} (x y : A) (xs ys : List A) → x ∷ xs ≡ y ∷ ys → xs ≡ ys
+cons_tail x y xs ys e = ap (λ l. drop 1 l) e
+
+pub not_nil : {A : Type 0} (x : A) (xs : List A) → [] ≡ x ∷ xs → ⊥
+not_nil x xs e = let long = ap length e in omega arith
+
+-- settings
+
+small : (s : Setting) → IsSetting s → s.value < 2 ^ 64
+small s (inl one) = omega arith
+small s (inr one) = omega arith
+
+same_setting : (s t : Setting) → IsSetting s → IsSetting t → s.name ≡ t.name → decimal s.value ≡ decimal t.value → s ≡ t
+same_setting s t first second name digits =
+    let value : s.value ≡ t.value = decimal_injective s.value t.value (small s first) (small t second) digits in
+    ap (λ (n : List ℕ). record { name = n; value = s.value }) name ∙ ap (λ (v : ℕ). record { name = t.name; value = v }) value
+
+-- the options' names differ
+pub depth_is_not_plies : ◌≢◌ {A = List ℕ} (codes "--depth") (codes "--plies")
+depth_is_not_plies same = let third : ◌≡◌ {A = ℕ} 100 112 = ap (λ (name : List ℕ). get_or name 2 0) same in omega arith
+
+-- the largest number of each
+pub depth_limit : (s : Setting) → IsSetting s → s.name ≡ codes "--depth" → s.value ≤ 12
+depth_limit s (inl one) same = one.1
+depth_limit s (inr one) same = absurd (depth_is_not_plies (sym same ∙ one.0))
+
+pub plies_limit : (s : Setting) → IsSetting s → s.name ≡ codes "--plies" → s.value ≤ 200
+plies_limit s (inl one) same = absurd (depth_is_not_plies (sym one.0 ∙ same))
+plies_limit s (inr one) same = one.1
+
+-- the settings that stand behind others in the same words
+pub record Splits (given whole : List Setting) (word : List ℕ) (rest : List (List ℕ)) : Type 0 where
+  pub next : Setting
+  pub more : List Setting
+  pub split : whole ≡ given ++ next ∷ more
+  pub name : next.name ≡ word
+  pub value : decimal next.value ∷ flat_map setting_words more ≡ rest
+
+pub splits : (given whole : List Setting) (word : List ℕ) (rest : List (List ℕ)) → AreSettings given → AreSettings whole → flat_map setting_words whole ≡ flat_map setting_words given ++ word ∷ rest → Splits given whole word rest
+splits [] [] word rest first second e = absurd (not_nil _ _ e)
+splits [] (s ∷ ss) word rest first second e = record { next = s; more = ss; split = refl; name = cons_head _ _ _ _ e; value = cons_tail _ _ _ _ e }
+splits (g ∷ gs) [] word rest first second e = absurd (not_nil _ _ e)
+splits (g ∷ gs) (s ∷ ss) word rest first second e =
+    let behind = cons_tail _ _ _ _ e in
+    let same : s ≡ g = same_setting s g second.0 first.0 (cons_head _ _ _ _ e) (cons_head _ _ _ _ behind) in
+    let r = splits gs ss word rest first.2 second.2 (cons_tail _ _ _ _ behind) in
+    record { next = r.next; more = r.more; split = ap (λ t. t ∷ ss) same ∙ ap (λ l. g ∷ l) r.split; name = r.name; value = r.value }
+
+-- words are those of one list of settings
+pub same_settings : (given whole : List Setting) → AreSettings given → AreSettings whole → flat_map setting_words whole ≡ flat_map setting_words given → whole ≡ given
+same_settings [] [] first second e = refl
+same_settings [] (s ∷ ss) first second e = absurd (not_nil _ _ (sym e))
+same_settings (g ∷ gs) [] first second e = absurd (not_nil _ _ e)
+same_settings (g ∷ gs) (s ∷ ss) first second e =
+    let behind = cons_tail _ _ _ _ e in
+    let same : s ≡ g = same_setting s g second.0 first.0 (cons_head _ _ _ _ e) (cons_head _ _ _ _ behind) in
+    ap (λ t. t ∷ ss) same ∙ ap (λ l. g ∷ l) (same_settings gs ss first.2 second.2 (cons_tail _ _ _ _ behind))
+
+-- behind others, a setting has a name of its own and is one that there is
+pub new_before : (given : List Setting) (next : Setting) (more : List Setting) → AreSettings (given ++ next ∷ more) → IsSetting next × IsNew next.name given
+new_before [] next more all = (all.0, tt)
+new_before (g ∷ gs) next more all =
+    let r = new_before gs next more all.2 in
+    (r.0, ((λ same. other_name gs next more g.name all.1 (sym same)), r.1))
+  where
+    other_name : (given : List Setting) (next : Setting) (more : List Setting) (name : List ℕ) → IsNew name (given ++ next ∷ more) → next.name ≢ name
+    other_name [] next more name new = new.0
+    other_name (g ∷ gs) next more name new = other_name gs next more name new.1
+
+-- a setting with a new name may stand behind others
+pub IsNew-more : (name : List ℕ) (given : List Setting) (next : Setting) → IsNew name given → next.name ≢ name → IsNew name (given ++ next ∷ [])
+IsNew-more name [] next new other = (other, tt)
+IsNew-more name (g ∷ gs) next new other = (new.0, IsNew-more name gs next new.1 other)
+
+pub AreSettings-more : (given : List Setting) (next : Setting) → AreSettings given → IsSetting next → IsNew next.name given → AreSettings (given ++ next ∷ [])
+AreSettings-more [] next all one new = (one, tt, tt)
+AreSettings-more (g ∷ gs) next all one new = (all.0, IsNew-more g.name gs next all.1 (λ same. new.0 (sym same)), AreSettings-more gs next all.2 one new.1)
+
+-- which number an option has
+
+skipped : (b : Bool) (P : Type 0) (x rest : Option ℕ) → Decides b P → ¬ P → cond b x rest ≡ rest
+skipped true P x rest d none = absurd (none (d.0 refl))
+skipped false P x rest d none = refl
+
+taken : (b : Bool) (P : Type 0) (x rest : Option ℕ) → Decides b P → P → cond b x rest ≡ x
+taken true P x rest d one = refl
+taken false P x rest d one = let wrong : false ≡ true = d.1 one in search rules
+
+some_none : {A : Type 0} (n : A) → Some n ≡ None → ⊥
+some_none n e = search rules
+
+unnamed : (b : Bool) (P : Type 0) (n : ℕ) (rest : Option ℕ) → Decides b P → cond b (Some n) rest ≡ None → (¬ P) × (rest ≡ None)
+unnamed true P n rest d e = absurd (some_none n e)
+unnamed false P n rest d e = ((λ p. let wrong : false ≡ true = d.1 p in search rules), e)
+
+-- a new name has no number
+pub number_for-new : (name : List ℕ) (given : List Setting) → IsNew name given → number_for name given ≡ None
+number_for-new name [] new = refl
+number_for-new name (g ∷ gs) new =
+    skipped (bytes_eq g.name name) (g.name ≡ name) (Some g.value) (number_for name gs) (bytes_eq-Decides g.name name) new.0 ∙ number_for-new name gs new.1
+
+pub IsNew-from_none : (name : List ℕ) (given : List Setting) → number_for name given ≡ None → IsNew name given
+IsNew-from_none name [] e = tt
+IsNew-from_none name (g ∷ gs) e =
+    let u = unnamed (bytes_eq g.name name) (g.name ≡ name) g.value (number_for name gs) (bytes_eq-Decides g.name name) e in
+    (u.0, IsNew-from_none name gs u.1)
+
+-- one setting more gives its name its number, and no other name one
+pub number_for-same : (given : List Setting) (next : Setting) → IsNew next.name given → number_for next.name (given ++ next ∷ []) ≡ Some next.value
+number_for-same [] next new = taken (bytes_eq next.name next.name) (next.name ≡ next.name) (Some next.value) None (bytes_eq-Decides next.name next.name) refl
+number_for-same (g ∷ gs) next new =
+    skipped (bytes_eq g.name next.name) (g.name ≡ next.name) (Some g.value) (number_for next.name (gs ++ next ∷ [])) (bytes_eq-Decides g.name next.name) new.0 ∙ number_for-same gs next new.1
+
+pub number_for-other : (name : List ℕ) (given : List Setting) (next : Setting) → next.name ≢ name → number_for name (given ++ next ∷ []) ≡ number_for name given
+number_for-other name [] next other = skipped (bytes_eq next.name name) (next.name ≡ name) (Some next.value) None (bytes_eq-Decides next.name name) other
+number_for-other name (g ∷ gs) next other = ap (λ (r : Option ℕ). cond (bytes_eq g.name name) (Some g.value) r) (number_for-other name gs next other)

@@ -1,0 +1,6 @@
+pub mod Numbers
+pub mod Entries
+pub mod Bytes
+pub mod Laws
+pub mod Rows
+pub mod Rounds

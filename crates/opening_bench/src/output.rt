@@ -1,0 +1,27 @@
+//! What a run has to write, and how it is written.
+ghost use Rattle.std.specs.Prelude.{◌≡◌};
+ghost use Rattle.bench_edges.specs.Faults.{Rose};
+ghost use Rattle.opening_bench.specs.Writing.{TakesOutput};
+
+use bench_edges::{Sink, Status, write_all};
+
+/// What a run has to write, whole in memory.
+#[derive(Drop)]
+pub(crate) struct Output {
+    pub text: Vec<u8>,
+    /// Nothing in it is unsettled.
+    pub is_settled: bool,
+}
+
+/// Writes the output. Where the sink fails, the status is `Write`; else it is `Done` where the output is settled, and
+/// `Unsolved` where it is not.
+pub(crate) fn write_output<K: Sink>(output: &Output, sink: &mut K) -> Status
+    ensures taken { TakesOutput result output.now.text.items output.now.is_settled (K.taken sink.old) (K.taken sink.new) }
+    ensures write { result ≡ Status.Write → Rose (K.faults sink.old) (K.faults sink.new) }
+{
+    match write_all(sink, &output.text) {
+        Err(_) => Status::Write,
+        Ok(()) if output.is_settled => Status::Done,
+        Ok(()) => Status::Unsolved,
+    }
+}

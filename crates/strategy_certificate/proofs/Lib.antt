@@ -1,0 +1,6 @@
+pub mod Tables
+pub mod PartLemmas
+pub mod MergeLemmas
+pub mod GoodMerges
+pub mod RowLemmas
+pub mod WinInOne

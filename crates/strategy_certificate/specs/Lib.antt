@@ -1,0 +1,5 @@
+pub mod Tables
+pub mod Parts
+pub mod Certificates
+pub mod Laws
+pub mod Examples

@@ -1,0 +1,4 @@
+pub mod Fitting
+pub mod Kept
+pub mod Faults
+pub mod Laws

@@ -1,0 +1,47 @@
+//! Whether bytes are an endgame table.
+ghost use Rattle.std.specs.Prelude.{◌≡◌, IfOk, IfErr};
+ghost use Rattle.endgame_table.specs.Bytes.{bytes_of};
+ghost use Rattle.endgame_table.specs.Entries.{IsTable, IsTableSize};
+ghost use Rattle.table_checker.specs.Faults.{IsTableFault, due_length};
+
+use crate::bytes::{pieces_of_head, read_numbers};
+use crate::entries::first_bad_entry;
+use crate::refusal::TableRefusal;
+use endgame_table::Table;
+use std::alloc::Global;
+use table_index::entry_count;
+
+/// How many bytes a table of so many pieces has.
+fn due_length(pieces: u8) -> usize
+    requires { IsTableSize pieces }
+    ensures { result ≡ due_length pieces }
+{
+    8 + 4 * entry_count(pieces) as usize
+}
+
+/// The table that these bytes are: the head, the numbers of the indices in 4 bytes each, the most significant first,
+/// and the rule of tables at each index.
+///
+/// Refused exactly where they are none, for what fails first: the head, the length, an index; or where memory is wanting.
+pub fn check_table(alloc: Global, bytes: &[u8]) -> Result<Table, TableRefusal>
+    ensures bytes { IfOk result (λ t. bytes.now ≡ bytes_of t.pieces t.numbers) }
+    ensures sound { IfOk result (λ t. IsTable t.pieces t.numbers) }
+    ensures refused { IfErr result (IsTableFault bytes.now) }
+{
+    let pieces = pieces_of_head(bytes).ok_or(TableRefusal::BadHead)?;
+    let due = due_length(pieces);
+    if bytes.len() != due {
+        return Err(TableRefusal::WrongLength {
+            found: bytes.len(),
+            due,
+        });
+    }
+    let numbers = read_numbers(alloc, &bytes[8..])?;
+    match first_bad_entry(alloc, pieces, &numbers)? {
+        None => Ok(Table::of_sound(pieces, numbers)),
+        Some(index) => Err(TableRefusal::BadEntry {
+            index,
+            kept: numbers[index as usize],
+        }),
+    }
+}
