@@ -1,0 +1,5 @@
+pub mod DueLemmas
+pub mod ListLemmas
+pub mod LeastLemmas
+pub mod FaultLemmas
+pub mod RefusalLemmas

@@ -1,0 +1,72 @@
+-- A certificate that is refused is not good, and has one refusal, but for want of memory.
+use Rattle.std.proofs.Common.{◌≡◌, ◌⊎◌, inl, inr, ℕ, List, Option, refl, sym, ◌∙◌, ap, subst}
+use Rattle.draughts_board.specs.Board.{Board}
+use Rattle.strategy_certificate.specs.declared.oracle.Answer.{Answer}
+use Rattle.strategy_certificate.specs.declared.certificates.Part.{Part}
+use Rattle.strategy_certificate.specs.declared.certificates.Certificate.{Certificate}
+use Rattle.strategy_certificate.specs.Certificates.{IsGoodPart, IsGoodBy}
+use Rattle.certificate_checker.specs.declared.faults.EntryFault.TheVariants as fault
+use Rattle.certificate_checker.specs.declared.faults.PartFault.{PartFault}
+use Rattle.certificate_checker.specs.declared.faults.PartFault.TheVariants as wrong
+use Rattle.certificate_checker.specs.declared.refusals.CheckRefusal.{CheckRefusal}
+use Rattle.certificate_checker.specs.declared.refusals.CheckRefusal.TheVariants.{BadRank, BadMove, Missing, StuckHolder, NoRoot, ClaimNotMet, Memory}
+use Rattle.certificate_checker.specs.Faults.{HasPartFault}
+use Rattle.certificate_checker.specs.Refusals.{HasFaultAt, HasDueParts, IsPartRefused, IsRefusal, IsMemory, refusal_at}
+use Rattle.certificate_checker.specs.Laws.{RefusedIsNotGood, OneRefusal}
+use Rattle.certificate_checker.proofs.ListLemmas.{All-nth, one_failure}
+use Rattle.certificate_checker.proofs.FaultLemmas.{faulty_part_is_not_good, one_part_fault}
+
+module _ (answer : Board → Option Answer) where
+  one_fault : (p : Board) (parts : List Part) (m n : ℕ) (f g : PartFault) → HasFaultAt answer p parts m f → HasFaultAt answer p parts n g → (m ≡ n) × (f ≡ g)
+  one_fault p parts m n f g a b =
+      let same = one_failure (IsGoodPart answer p) parts m n a.0 b.0 a.1.0 b.1.0
+      (faulty_part_is_not_good answer p a.0 f a.1.1) (faulty_part_is_not_good answer p b.0 g b.1.1) in
+      (same.0, one_part_fault answer p a.0 f g a.1.1 (subst (λ one. HasPartFault answer p one g) (sym same.1) b.1.1))
+
+  module _ (c : Certificate) where
+    -- why a certificate is refused, but for want of memory: for its claim or for a part
+    abbrev IsForClaim : CheckRefusal → Type 0
+    IsForClaim refusal = (refusal ≡ ClaimNotMet) × (HasDueParts c → ⊥)
+
+    abbrev IsForPart : CheckRefusal → Type 0
+    IsForPart refusal = (n : ℕ) × ((f : PartFault) × ((refusal ≡ refusal_at n f) × IsPartRefused answer c n f))
+
+    cause : (refusal : CheckRefusal) → IsRefusal answer c refusal → (IsMemory refusal → ⊥) → IsForClaim refusal ⊎ IsForPart refusal
+    cause ClaimNotMet because other = inl (refl, because)
+    cause (StuckHolder n entry) because other = inr (n, (wrong.Entry entry fault.StuckHolder, (refl, because)))
+    cause (BadMove n entry) because other = inr (n, (wrong.Entry entry fault.BadMove, (refl, because)))
+    cause (Missing n entry q) because other = inr (n, (wrong.Entry entry (fault.Missing q), (refl, because)))
+    cause (BadRank n entry) because other = inr (n, (wrong.Entry entry fault.BadRank, (refl, because)))
+    cause (NoRoot n) because other = inr (n, (wrong.NoRoot, (refl, because)))
+    cause (Memory e) because other = absurd (other because)
+
+    -- the refusal that is made of a fault is due
+    pub refusal_at-due : (n : ℕ) (f : PartFault) → IsPartRefused answer c n f → IsRefusal answer c (refusal_at n f)
+    refusal_at-due n (wrong.Entry entry fault.StuckHolder) because = because
+    refusal_at-due n (wrong.Entry entry fault.BadMove) because = because
+    refusal_at-due n (wrong.Entry entry (fault.Missing q)) because = because
+    refusal_at-due n (wrong.Entry entry fault.BadRank) because = because
+    refusal_at-due n wrong.NoRoot because = because
+
+    not_good : (refusal : CheckRefusal) → IsForClaim refusal ⊎ IsForPart refusal → IsGoodBy answer c → ⊥
+    not_good refusal (inl claim) good = claim.1 good.due
+    not_good refusal (inr at) good =
+        let found = at.1.1.1.1 in
+        faulty_part_is_not_good answer c.position found.0 at.1.0 found.1.1 (All-nth (IsGoodPart answer c.position) c.parts at.0 found.0 found.1.0 good.parts)
+
+    pub faulty_is_not_good : (n : ℕ) (f : PartFault) → IsPartRefused answer c n f → IsGoodBy answer c → ⊥
+    faulty_is_not_good n f because good = not_good (refusal_at n f) (inr (n, (f, (refl, because)))) good
+
+    same : (one another : CheckRefusal) → IsForClaim one ⊎ IsForPart one → IsForClaim another ⊎ IsForPart another → one ≡ another
+    same one another (inl a) (inl b) = a.0 ∙ sym b.0
+    same one another (inl a) (inr b) = absurd (a.1 b.1.1.1.0)
+    same one another (inr a) (inl b) = absurd (b.1 a.1.1.1.0)
+    same one another (inr a) (inr b) =
+        let equal = one_fault c.position c.parts a.0 b.0 a.1.0 b.1.0 a.1.1.1.1 b.1.1.1.1 in
+        a.1.1.0 ∙ ap (λ n. refusal_at n a.1.0) equal.0 ∙ ap (refusal_at b.0) equal.1 ∙ sym b.1.1.0
+
+pub refused_is_not_good : RefusedIsNotGood
+refused_is_not_good answer c refusal because other good = not_good answer c refusal (cause answer c refusal because other) good
+
+pub one_refusal : OneRefusal
+one_refusal answer c one another a x b y = same answer c one another (cause answer c one a x) (cause answer c another b y)

@@ -1,0 +1,4 @@
+pub mod Ranks
+pub mod Faults
+pub mod Refusals
+pub mod Laws
