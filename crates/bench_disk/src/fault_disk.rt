@@ -17,13 +17,13 @@ pub struct FaultDisk<D: Disk> {
 impl<D: Disk> FaultDisk<D> {
     ghost use Rattle.bench_disk.specs.FaultDisk.{IsFresh, CountsCall};
 
-    /// Fails the calls with these numbers, the first of which is 0.
-    pub fn new(disk: D, numbers: Vec<u64>) -> FaultDisk<D>
-        ensures { IsFresh result disk numbers }
+    /// Fails the calls whose numbers are in `fail`. The first call has number 0.
+    pub fn new(disk: D, fail: Vec<u64>) -> FaultDisk<D>
+        ensures { IsFresh result disk fail }
     {
         FaultDisk {
             disk,
-            numbers,
+            numbers: fail,
             calls: 0,
             refused: 0,
         }

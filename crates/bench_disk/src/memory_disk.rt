@@ -38,9 +38,10 @@ impl MemoryDisk {
         }
     }
 
-    /// A disk that holds these bytes, with nothing pending. More than 2^62 bytes are answered as want of memory.
-    pub fn of(alloc: Global, bytes: &[u8]) -> Result<MemoryDisk, AllocError>
-        ensures { IfOk result (λ disk. IsNew disk bytes.now) }
+    /// A disk that holds these bytes, with nothing pending. It takes them over, and makes one copy for what it held at
+    /// first. More than 2^62 bytes are answered as want of memory.
+    pub fn of(alloc: Global, bytes: Vec<u8>) -> Result<MemoryDisk, AllocError>
+        ensures { IfOk result (λ disk. IsNew disk bytes.items) }
     {
         if bytes.len() as u64 > MAX_LEN {
             return Err(AllocError);
@@ -49,7 +50,7 @@ impl MemoryDisk {
             alloc,
             start: bytes.to_vec(alloc)?,
             calls: Vec::new(alloc),
-            bytes: bytes.to_vec(alloc)?,
+            bytes,
             faults: 0,
         })
     }
@@ -73,7 +74,7 @@ impl MemoryDisk {
     {
         match choice {
             0 => self.without_pending(),
-            1 => MemoryDisk::of(self.alloc, &self.bytes),
+            1 => MemoryDisk::of(self.alloc, self.bytes.to_vec(self.alloc)?),
             _ => self.with_torn(Picks::new(choice)),
         }
     }
@@ -94,7 +95,7 @@ impl MemoryDisk {
                 }
             }
         }
-        MemoryDisk::of(self.alloc, &synced)
+        MemoryDisk::of(self.alloc, synced)
     }
 
     // The bytes of the last sync, torn by each write since.
@@ -114,7 +115,7 @@ impl MemoryDisk {
                 }
             }
         }
-        MemoryDisk::of(self.alloc, &image)
+        MemoryDisk::of(self.alloc, image)
     }
 
     // Writes and keeps the call. It takes its memory first.

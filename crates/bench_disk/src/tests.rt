@@ -38,7 +38,7 @@ fn memory_disk_reads_what_was_written(rt: HostRuntime) -> Result<(), Fail> {
 
 // Eight bytes, and three writes behind the last sync, one of which ends two bytes past the end.
 fn with_three_pending(alloc: Global) -> Result<MemoryDisk, Fail> {
-    let mut disk = MemoryDisk::of(alloc, &[10, 11, 12, 13, 14, 15, 16, 17])?;
+    let mut disk = MemoryDisk::of(alloc, [10, 11, 12, 13, 14, 15, 16, 17].to_vec(alloc)?)?;
     disk.sync()?;
     disk.write_at(0, &[20])?;
     disk.write_at(2, &[22, 23, 24])?;
@@ -118,7 +118,7 @@ fn fuse_disk_passes_its_calls(rt: HostRuntime) -> Result<(), Fail> {
     assert_eq!(rt; (disk.moment(), disk.faults()), (2, 3));
     assert_eq!(rt; disk.into_inner().moment(), 2);
 
-    let mut disk = FuseDisk::new(MemoryDisk::of(rt.alloc(), &[1, 2])?, 3);
+    let mut disk = FuseDisk::new(MemoryDisk::of(rt.alloc(), [1, 2].to_vec(rt.alloc())?)?, 3);
     let mut into = [0; 8];
     assert_eq!(rt; write_and_read(&mut disk, &[7], &mut into), Ok(1));
     assert_eq!(rt; write_and_read(&mut disk, &[8], &mut into), Err(DiskFault));
@@ -130,8 +130,11 @@ fn fuse_disk_passes_its_calls(rt: HostRuntime) -> Result<(), Fail> {
 
 #[test]
 fn fault_disk_fails_given_calls(rt: HostRuntime) -> Result<(), Fail> {
-    let numbers = [3, 0, 3].to_vec(rt.alloc())?;
-    let mut disk = FaultDisk::new(MemoryDisk::of(rt.alloc(), &[1, 2])?, numbers);
+    let fail = [3, 0, 3].to_vec(rt.alloc())?;
+    let mut disk = FaultDisk::new(
+        MemoryDisk::of(rt.alloc(), [1, 2].to_vec(rt.alloc())?)?,
+        fail,
+    );
     let mut outcomes = [9; 5];
     syncs(&mut disk, &mut outcomes);
     assert_eq!(rt; outcomes, [0, 1, 1, 0, 1]);

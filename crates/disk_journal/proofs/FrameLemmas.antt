@@ -2,10 +2,9 @@
 use Rattle.std.specs.Prelude.{◌≡◌, ◌≢◌, ◌⊎◌, ℕ, ◌^◌, ◌<◌, ◌≤◌, List, [], ◌∷◌, ◌++◌, get_or, length, refl}
 use Rattle.std.specs.Int.{from_be_bytes, w64}
 use Rattle.std.proofs.Common.{sym, ◌∙◌, ap, ⊎_elim, arith, append_assoc, length-append}
-use Rattle.std.proofs.lemmas.List.{flat_map_more}
 use Rattle.std.proofs.lemmas.Nat.{be_bytes_8, from_be_bytes-to_be_bytes_8}
 use Rattle.disk_journal.specs.Refusals.{IsNoBody, IsNoFrame}
-use Rattle.disk_journal.specs.Format.{behind_gate, body, body_length, frame, front, head, payload_length, payload_text}
+use Rattle.disk_journal.specs.Format.{behind_gate, body, body_length, payload_length, payload_text}
 use Rattle.disk_journal.specs.FormatLaws.{cut, length-body_length, length-payload_length, body_length_once}
 
 -- a body is at least as long as it has payloads
@@ -40,10 +39,3 @@ no_frame text more behind small e none ps rest is h =
 pub field_is : (field : List ℕ) (n : ℕ) → length field ≡ 8 → ((i : ℕ) → get_or field i 0 < 256) → n ≡ from_be_bytes w64 field → body_length n ≡ field
 unfolding body_length
 field_is field n eight fits number = be_bytes_8 field n eight fits number
-
--- one frame more
-pub front_more : (pieces : ℕ) (frames : List (List (List ℕ))) (payloads : List (List ℕ)) (behind more bytes : List ℕ) → bytes ≡ front pieces frames ++ 1 ∷ behind → behind ≡ body_length (length (body payloads)) ++ (body payloads ++ more) → bytes ≡ front pieces (frames ++ payloads ∷ []) ++ more
-front_more pieces frames payloads behind more bytes e h =
-    e ∙ ap (λ (l : List ℕ). front pieces frames ++ 1 ∷ l) (h ∙ sym (append_assoc (body_length (length (body payloads))) (body payloads) more))
-    ∙ sym (append_assoc (front pieces frames) (frame payloads) more)
-    ∙ ap (λ (l : List ℕ). l ++ more) (flat_map_more frame (head pieces) frames payloads)

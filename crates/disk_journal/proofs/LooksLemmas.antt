@@ -1,7 +1,7 @@
 -- Calls that only look, one after another.
-use Rattle.std.specs.Prelude.{ℕ, ◌≤◌, List, refl}
+use Rattle.std.specs.Prelude.{ℕ, ◌≤◌, List}
 use Rattle.std.proofs.Common.{◌∙◌}
-use Rattle.bench_disk.specs.Runs.{leaves_none, leaves_then, leaves_weaker}
+use Rattle.bench_disk.specs.Runs.{leaves_then, leaves_weaker}
 use Rattle.disk_journal.specs.Looks.{OnlyLooks}
 
 module _ {D : Type 0} (reads : D → List ℕ) (images : D → List ℕ → Type 0) (images_since : D → ℕ → List ℕ → Type 0) (moment : D → ℕ)
@@ -14,12 +14,3 @@ module _ {D : Type 0} (reads : D → List ℕ) (images : D → List ℕ → Type
         (leaves_weaker moment images_since mid new (images mid) (images old) (λ image now. first.run.each image (now_counts mid (moment old) image first.run.later now)) second.run);
     stays = λ image was. second.stays image (first.stays image was);
   }
-
--- no call
-pub looks_none : {D : Type 0} (reads : D → List ℕ) (images : D → List ℕ → Type 0) (images_since : D → ℕ → List ℕ → Type 0) (moment : D → ℕ)
-    → ((disk : D) (image : List ℕ) → images_since disk (moment disk) image → images disk image) → (disk : D) → OnlyLooks reads images images_since moment disk disk
-looks_none reads images images_since moment only_now disk = record {
-  same = refl;
-  run = leaves_none moment images_since disk (images disk) (λ image since. only_now disk image since);
-  stays = λ image was. was;
-}

@@ -1,12 +1,12 @@
 -- One frame after another is read.
 use Rattle.std.specs.Prelude.{◌≡◌, ℕ, ◌+◌, ◌^◌, ◌<◌, List, [], ◌∷◌, ◌++◌, All, length, map, take, drop, refl}
 use Rattle.std.specs.List.{flat_map}
-use Rattle.std.proofs.Common.{sym, ◌∙◌, ap, subst, arith, append_assoc, length-append, length-drop, take-append-drop}
+use Rattle.std.proofs.Common.{sym, ◌∙◌, ap, subst, arith, append_assoc, length-append, take-append-drop}
 use Rattle.std.proofs.lemmas.List.{append-nil, drop-drop, flat_map_more}
-use Rattle.std.proofs.lemmas.List.Elements.{All-nil, All-push}
-use Rattle.disk_journal.specs.Format.{body, body_length, frame, front, head, places_in_body, places_in_frames, IsFrame, IsPayload, IsTable}
-use Rattle.disk_journal.specs.Refusals.{HasHead, IsBroken, IsDamagedAt, IsNoBody}
-use Rattle.disk_journal.specs.Rest.{AddsFrame, HasRead, HoldsFrames, IsClosed, IsOpen}
+use Rattle.std.proofs.lemmas.List.Elements.{All-push}
+use Rattle.disk_journal.specs.Format.{body, body_length, frame, front, head, places_in_body, places_in_frames, IsFrame, IsPayload}
+use Rattle.disk_journal.specs.Refusals.{IsBroken, IsNoBody}
+use Rattle.disk_journal.specs.Rest.{AddsFrame, HasRead, IsOpen}
 use Rattle.disk_journal.specs.declared.payload.Payload.{Payload}
 use Rattle.disk_journal.specs.FormatLaws.{length-body_length}
 use Rattle.disk_journal.proofs.FrameLemmas.{no_frame}
@@ -20,10 +20,6 @@ split_open gate size file text at_gate is =
     ∙ ap (λ (l : List ℕ). l ++ drop 9 (drop gate file)) at_gate.is
     ∙ ap (λ (l : List ℕ). (1 ∷ body_length size) ++ l)
     (behind ∙ sym (take-append-drop size (drop (gate + 9) file)) ∙ ap (λ (l : List ℕ). l ++ drop size (drop (gate + 9) file)) (sym is) ∙ ap (λ (l : List ℕ). text ++ l) after)
-
--- the body is not there
-pub missing_body : (gate size : ℕ) (file : List ℕ) → IsOpen size (drop gate file) → length (drop (gate + 9) file) < size → ⊥
-missing_body gate size file at_gate short = omega (arith, at_gate.within, short, length-drop gate file, length-drop (gate + 9) file)
 
 -- the body is no payloads
 pub bad_body : (gate size : ℕ) (file text : List ℕ) → IsOpen size (drop gate file) → size < 2 ^ 64 → text ≡ take size (drop (gate + 9) file) → length text ≡ size → IsNoBody text → IsBroken (drop gate file)
@@ -51,17 +47,6 @@ good_body gate size file text old new at_gate small is long payloads each spelle
       places = places;
     }
 
--- no frame was read yet
-pub read_none : (pieces : ℕ) (file : List ℕ) → HasHead pieces file → HasRead pieces file 8 []
-read_none pieces file has = record {
-  frames = [];
-  each = All-nil IsFrame;
-  text = sym (take-append-drop 8 file) ∙ ap (λ (l : List ℕ). l ++ drop 8 file) (has.1 ∙ sym (append-nil (head pieces)));
-  place = refl;
-  bytes = refl;
-  places = refl;
-}
-
 places_more_frames : (gate : ℕ) (frames : List (List (List ℕ))) (payloads : List (List ℕ)) → places_in_frames gate (frames ++ payloads ∷ []) ≡ places_in_frames gate frames ++ places_in_body (gate + length (flat_map frame frames) + 9) payloads
 places_more_frames gate [] payloads = append-nil (places_in_body (gate + 9) payloads) ∙ ap (λ n. places_in_body n payloads) (omega arith)
 places_more_frames gate (f ∷ frames) payloads =
@@ -84,26 +69,3 @@ read_more pieces gate next file old new read adds =
           ∙ ap (λ n. places_in_frames 8 read.frames ++ places_in_body (n + 9) adds.payloads) (read.place ∙ length-append (head pieces) (flat_map frame read.frames))
           ∙ sym (places_more_frames 8 read.frames adds.payloads);
     }
-
--- behind the frames the gate is closed
-pub read_all : (pieces gate : ℕ) (file : List ℕ) (payloads : List Payload) → IsTable pieces → HasRead pieces file gate payloads → IsClosed (drop gate file) → HoldsFrames pieces file gate payloads
-read_all pieces gate file payloads table read closed = record {
-  frames = read.frames;
-  journal = record { gate = closed.0; rest = closed.1; text = read.text ∙ ap (λ (l : List ℕ). front pieces read.frames ++ l) closed.2; closed = closed.3; each = read.each; table = table };
-  place = read.place;
-  bytes = read.bytes;
-  places = read.places;
-}
-
--- behind the frames the file is broken
-pub read_broken : (pieces gate : ℕ) (file : List ℕ) (payloads : List Payload) → IsTable pieces → 9 < length file → HasRead pieces file gate payloads → IsBroken (drop gate file) → IsDamagedAt pieces gate file
-read_broken pieces gate file payloads table long read broken = record {
-  frames = read.frames;
-  rest = drop gate file;
-  text = read.text;
-  place = read.place;
-  each = read.each;
-  broken = broken;
-  table = table;
-  long = long;
-}

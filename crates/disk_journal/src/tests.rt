@@ -32,7 +32,7 @@ fn attach_to(
 ) -> Result<Result<usize, JournalRefusal>, Fail>
     requires { IsTable pieces }
 {
-    match Journal::attach(alloc, MemoryDisk::of(alloc, bytes)?, pieces) {
+    match Journal::attach(alloc, MemoryDisk::of(alloc, bytes.to_vec(alloc)?)?, pieces) {
         Ok((journal, payloads)) => {
             assert_eq!(rt; journal.count(), payloads.len() as u64);
             assert_eq!(rt; (journal.staged(), journal.is_failed()), (0, false));
@@ -170,10 +170,13 @@ fn payloads_of_images(
 #[test]
 fn crash_leaves_what_was_acknowledged(rt: HostRuntime) -> Result<(), Fail> {
     let alloc = rt.alloc();
-    let (probe, _) = journal_on(&rt, alloc, MemoryDisk::of(alloc, &TWO)?);
+    let (probe, _) = journal_on(&rt, alloc, MemoryDisk::of(alloc, TWO.to_vec(alloc)?)?);
     let calls = probe.disk().moment();
     for passed in 0..5u64 {
-        let fuse = FuseDisk::new(MemoryDisk::of(alloc, &TWO)?, calls.saturating_add(passed));
+        let fuse = FuseDisk::new(
+            MemoryDisk::of(alloc, TWO.to_vec(alloc)?)?,
+            calls.saturating_add(passed),
+        );
         let (mut journal, _) = journal_on(&rt, alloc, fuse);
         journal.stage(&[3])?;
         let number = journal.commit().ok().map(|receipt| receipt.number);
@@ -256,7 +259,7 @@ fn reads_each_prefix_by_the_format(rt: HostRuntime) -> Result<(), Fail> {
         let found = attach_to(&rt, rt.alloc(), &FIVE[..end], 3)?;
         assert_eq!(rt; found, expected, "{end} bytes");
 
-        let mut disk = MemoryDisk::of(rt.alloc(), &FIVE[..end])?;
+        let mut disk = MemoryDisk::of(rt.alloc(), FIVE[..end].to_vec(rt.alloc())?)?;
         let read = read_journal(rt.alloc(), &mut disk).map(|read| (read.0, read.1.len()));
         let pieces = if end <= 9 { 2 } else { 3 };
         assert_eq!(rt; read, expected.map(|count| (pieces, count)), "{end} bytes");
@@ -267,7 +270,7 @@ fn reads_each_prefix_by_the_format(rt: HostRuntime) -> Result<(), Fail> {
 
 #[test]
 fn tells_payloads_and_places(rt: HostRuntime) -> Result<(), Fail> {
-    let mut disk = MemoryDisk::of(rt.alloc(), &FIVE)?;
+    let mut disk = MemoryDisk::of(rt.alloc(), FIVE.to_vec(rt.alloc())?)?;
     let (pieces, payloads) = read_journal(rt.alloc(), &mut disk)?;
     assert_eq!(rt; pieces, 3);
     let want: [(u64, &[u8]); 5] = [
@@ -319,10 +322,13 @@ fn refuses_what_is_no_journal(rt: HostRuntime) -> Result<(), Fail> {
 #[test]
 fn counts_each_fault(rt: HostRuntime) -> Result<(), Fail> {
     let alloc = rt.alloc();
-    let (probe, _) = journal_on(&rt, alloc, MemoryDisk::of(alloc, &TWO)?);
+    let (probe, _) = journal_on(&rt, alloc, MemoryDisk::of(alloc, TWO.to_vec(alloc)?)?);
     let calls = probe.disk().moment();
     for number in 0..calls {
-        let disk = FaultDisk::new(MemoryDisk::of(alloc, &TWO)?, [number].to_vec(alloc)?);
+        let disk = FaultDisk::new(
+            MemoryDisk::of(alloc, TWO.to_vec(alloc)?)?,
+            [number].to_vec(alloc)?,
+        );
         let (disk, refusal) = match Journal::attach(alloc, disk, 2) {
             Ok((_journal, _payloads)) => panic!(rt; "call {number} is not missed"),
             Err(refused) => refused,
@@ -332,7 +338,10 @@ fn counts_each_fault(rt: HostRuntime) -> Result<(), Fail> {
         assert_eq!(rt; inner.bytes(), TWO.as_slice());
     }
     for number in calls..calls + 4 {
-        let disk = FaultDisk::new(MemoryDisk::of(alloc, &TWO)?, [number].to_vec(alloc)?);
+        let disk = FaultDisk::new(
+            MemoryDisk::of(alloc, TWO.to_vec(alloc)?)?,
+            [number].to_vec(alloc)?,
+        );
         let (mut journal, _) = journal_on(&rt, alloc, disk);
         journal.stage(&[3])?;
         assert!(rt; journal.commit().is_err());
