@@ -14,9 +14,6 @@ Knows-map f P x iff b = (
   λ h. let e : x ≡ h.0 = (let some = (iff h.0).1 h.1.0 in cc) in ap Some (ap f e) ∙ ap Some h.1.1,
 )
 
-pub Knows-none : {A B : Type 0} (f : A → B) (P : A → Type 0) → (let o : Option A = None in Knows o P) → (let o : Option B = None in Knows o (λ b. (a : A) × (P a × (f a ≡ b))))
-Knows-none f P iff b = (λ is. cc, λ h. let some = (iff h.0).1 h.1.0 in cc)
-
 module _ (A B : ℕ → Type 0) where
   pub IsLeast-either : (a b : Option ℕ) → Knows a A → Knows b B → IsLeast (λ r. A r ⊎ B r) (lesser_of a b)
   IsLeast-either None None f g = λ r h. elim h [ inl h ↦ (let e = (f r).1 h in cc) | inr h ↦ (let e = (g r).1 h in cc) ]

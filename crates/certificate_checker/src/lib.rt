@@ -6,7 +6,7 @@ mod checking;
 mod due;
 mod faults;
 mod holds;
-mod laws;
+pub mod laws;
 mod parts;
 mod refusals;
 mod shown;

@@ -1,16 +1,11 @@
 -- Paths with one more square, and with any squares more.
-use Rattle.std.proofs.Common.{◌≡◌, ℕ, zero, suc, ◌+◌, ◌≤◌, Bool, true, false, cond, ◌||◌, List, [], ◌∷◌, ◌++◌, length, get_or, refl, sym, ◌∙◌, ap, arith, ◌==◌, inl, inr}
+use Rattle.std.proofs.Common.{◌≡◌, ℕ, zero, suc, ◌+◌, Bool, true, false, cond, ◌||◌, List, [], ◌∷◌, ◌++◌, length, get_or, refl, sym, ◌∙◌, ap, arith, ◌==◌, inl, inr}
 use Rattle.std.specs.Cmp.{first_so, second_so}
 use Rattle.std.specs.Cmp.Derive.{both_true}
 use Rattle.std.proofs.lemmas.Bool.{not-true, not_from_false, or_from, true≢false, eq-eqb}
 use Rattle.std.proofs.lemmas.Bool.Decides.{eqb_tells}
 use Rattle.draughts_board.specs.Geometry.{are_jump_apart, between}
-use Rattle.draughts_board.specs.Rules.{first_square, last_square, all_following, all_but_last, jumped, contains, are_distinct}
-
-pub last-push : (path : List ℕ) (z : ℕ) → last_square (path ++ z ∷ []) ≡ z
-last-push [] z = refl
-last-push (x ∷ []) z = refl
-last-push (x ∷ y ∷ rest) z = last-push (y ∷ rest) z
+use Rattle.draughts_board.specs.Rules.{last_square, all_following, all_but_last, jumped, contains, are_distinct}
 
 pub following-push : (test : ℕ → ℕ → Bool) (x : ℕ) (rest : List ℕ) (z : ℕ) → all_following test (x ∷ rest) ≡ true → test (last_square (x ∷ rest)) z ≡ true → all_following test ((x ∷ rest) ++ z ∷ []) ≡ true
 following-push test x [] z h g = both_true g refl
@@ -65,10 +60,6 @@ distinct-push [] y h g = refl
 distinct-push (x ∷ xs) y h g =
     both_true (not_from_false _ (contains-push xs y x (not-true _ (first_so _ _ h)) (eqb_flip y x (or_first _ _ g))))
     (distinct-push xs y (second_so _ _ h) (or_second (x == y) _ g))
-
-pub get_or-first : (path : List ℕ) (d : ℕ) → 1 ≤ length path → get_or path 0 d ≡ first_square path
-get_or-first [] d h = absurd (omega arith)
-get_or-first (x ∷ rest) d h = refl
 
 pub get_or-last : (path : List ℕ) (k d : ℕ) → k + 1 ≡ length path → get_or path k d ≡ last_square path
 get_or-last [] k d h = absurd (omega arith)

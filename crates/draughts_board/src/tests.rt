@@ -71,6 +71,17 @@ fn a_game_starts_with_twelve_men_a_side(rt: HostRuntime) -> Result<(), Fail> {
 }
 
 #[test]
+fn a_position_is_made_of_its_cells(rt: HostRuntime) -> Result<(), Fail> {
+    let start = Position::start();
+    let cells = start.cells();
+    assert_eq!(rt; cells[11], Cell::Man(Side::Black));
+    assert_eq!(rt; cells[12], Cell::Empty);
+    assert_eq!(rt; cells[20], Cell::Man(Side::White));
+    assert!(rt; Position::of_lawful(cells, start.to_move()) == start);
+    Ok(())
+}
+
+#[test]
 fn thirteen_pieces_and_misplaced_men_are_refused(rt: HostRuntime) -> Result<(), Fail> {
     let mut cells = [Cell::Empty; 32];
     cells[0] = Cell::King(Side::White);

@@ -5,8 +5,6 @@ use Rattle.std.specs.Prelude.{Ok, Err}
 use Rattle.std.proofs.lemmas.List.{append-nil}
 use Rattle.std.proofs.lemmas.List.Concat.{flat_map-append}
 use Rattle.std.proofs.lemmas.List.Elements.{filter_more}
-use Rattle.std.proofs.lemmas.List.FromFn.{get_or-range_with_len}
-use Rattle.draughts_board.specs.Geometry.{squares}
 
 if_one : {X Y : Type 0} (f : X → List Y) (b : Bool) (x : X) → flat_map f (cond b (x ∷ []) []) ≡ cond b (f x) []
 if_one f true x = append-nil (f x)
@@ -25,8 +23,3 @@ filter_turn {X} f test before now xs i d l h =
 pub if_ok_map : {A E : Type 0} (P Q : A → Type 0) (r : Result A E) → ((a : A) → P a → Q a) → IfOk r P → IfOk r Q
 if_ok_map P Q (Ok a) f h = f a h
 if_ok_map P Q (Err e) f h = h
-
--- the square at a place of the list of all squares
-pub square-at : (xs : List ℕ) (i d : ℕ) → xs ≡ squares → i < 32 → get_or xs i d ≡ 1 + i
-unfolding squares
-square-at xs i d e h = ap (λ l. get_or l i d) e ∙ get_or-range_with_len 1 32 i d h

@@ -60,12 +60,6 @@ number_of_answer n =
 pub number_of-loss : (n r : ℕ) → answer_of n ≡ Some (Loss r) → n ≡ 2 * r + 1
 number_of-loss n r is = subst (IsNumberOf n) is (number_of_answer n)
 
-pub number_of-win : (n r : ℕ) → answer_of n ≡ Some (Win r) → n ≡ 2 * r + 2
-number_of-win n r is = subst (IsNumberOf n) is (number_of_answer n)
-
-pub number_of-draw : (n : ℕ) → answer_of n ≡ Some Draw → n ≡ 0
-number_of-draw n is = subst (IsNumberOf n) is (number_of_answer n)
-
 -- two numbers with the same answer are one
 pub same_number : (m n : ℕ) → answer_of m ≡ answer_of n → m ≡ n
 same_number m n same = by (answer_of n) (subst (IsNumberOf m) same (number_of_answer m)) (number_of_answer n)

@@ -4,7 +4,7 @@ use Rattle.std.specs.Prelude.{slice_index, slice_index_or, slice_range}
 use Rattle.std.proofs.lemmas.List.{length-append, length-drop, drop-append-le, take-append-le, drop_at, take_all, get_or_append_left, get_or_at}
 use borrow.Author.Count.{below_more}
 use Rattle.table_index.specs.Order.{position_at}
-use Rattle.endgame_table.specs.Rows.{rows_of, AreStarts, indices_after, first_number, ListsMoves}
+use Rattle.endgame_table.specs.Rows.{rows_of, AreStarts, indices_after, first_number}
 
 pub starts-some : (starts targets : List ℕ) → AreStarts starts targets → length starts ≡ length (rows_of starts targets) + 1
 unfolding rows_of AreStarts
@@ -148,13 +148,4 @@ listed-more index starts targets numbers starts' targets' numbers' number listed
           (λ i below. let inside : i < length numbers = omega arith in
           ap (λ ns. slice_index ns i) is_numbers ∙ (get_or_append_left numbers (number ∷ []) 0 i inside ∙ listed.numbers_at i below))
           (ap (λ ns. slice_index ns index) is_numbers ∙ (get_or_at numbers number [] 0 index old_numbers ∙ is_number));
-    }
-
-pub listed-all : (count : ℕ) (starts targets numbers : List ℕ) → Listed count starts targets numbers → ListsMoves count (rows_of starts targets) numbers
-listed-all count starts targets numbers listed =
-    record {
-      rows_count = listed.rows_count;
-      numbers_count = listed.numbers_count;
-      rows_at = listed.rows_at;
-      numbers_at = listed.numbers_at;
     }

@@ -6,7 +6,6 @@ use borrow.Author.Tests.{leb-true}
 use Rattle.draughts_board.specs.Board.{Board, IsLawful, piece_count, is_lawful}
 use Rattle.draughts_board.specs.Draughts.{draughts}
 use Rattle.draughts_board.proofs.Successors.{is_lawful-true, lawful-from_test}
-use Rattle.strategy_certificate.specs.declared.oracle.Answer.{Answer}
 use Rattle.strategy_certificate.specs.Tables.{IsRight}
 use Rattle.table_index.specs.Order.{entry_count, index_of, position_at}
 use Rattle.table_index.specs.Laws.{IsPositionOf}
@@ -104,14 +103,6 @@ index-inside k numbers table p lawful few =
 -- a table answers each position with at most k pieces
 pub answers-few : (k : ℕ) (numbers : List ℕ) → IsTable k numbers → (p : Board) → IsLawful p → piece_count p ≤ k → IsSome (answers k numbers p)
 answers-few k numbers table p lawful few = (table.sound.answered p).1 (is_lawful-true p lawful, few)
-
--- and none with more
-pub answers-many : (k : ℕ) (numbers : List ℕ) (p : Board) → k < piece_count p → answers k numbers p ≡ None
-answers-many k numbers p many = by (answers k numbers p) refl
-  where
-    by : (o : Option Answer) → answers k numbers p ≡ o → answers k numbers p ≡ None
-    by None is = is
-    by (Some a) is = absurd (let covered = answered-few k numbers p (subst IsSome (sym is) refl) in omega arith)
 
 pub not_both : {A : Type 0} (o : Option A) → IsSome o → IsNone o → ⊥
 not_both None some none = false≢true some

@@ -36,10 +36,6 @@ pub first_digit : (n : Numeral) → are_digits n ≡ true → is_digit (tens n) 
 first_digit (one a) d = d
 first_digit (two a b) d = (and_parts _ _ d).0
 
-numeral_text-is : (n : Numeral) (rest : List ℕ) → numeral_text n ++ rest ≡ tens n ∷ (behind_first n ++ rest)
-numeral_text-is (one a) rest = refl
-numeral_text-is (two a b) rest = refl
-
 -- a number in front, whether or not it is a square's
 pub square_at-number : (least : ℕ) (n : Numeral) (rest : List ℕ) → are_digits n ≡ true → ends_before n rest ≡ true
     → square_at least (numeral_text n ++ rest) ≡ cond (leb least (value n) && leb (value n) 32) (Ok (value n, rest)) (Err (Number (length (numeral_text n ++ rest))))

@@ -172,7 +172,3 @@ last_item i [] all = ([], i, refl, tt, all.0)
 last_item i (j ∷ items) all =
     let rest = last_item j items all.1 in
     (i ∷ rest.0, rest.1, ap (λ t. i ∷ t) rest.2, (all.0, rest.3), rest.4)
-
-pub AreItems-append : (items : List Item) (item : Item) → AreItems items → IsItem item → AreItems (items ++ item ∷ [])
-AreItems-append [] item all is = (is, tt)
-AreItems-append (i ∷ items) item all is = (all.0, AreItems-append items item all.1 is)

@@ -287,10 +287,6 @@ games_len : (p : Progress) (o : Bool) → is_open p ≡ o → length (games_of p
 games_len p true e = rw e (length-append p.games (record { tags = p.tags; moves = p.moves } ∷ []))
 games_len p false e = rw e (omega arith)
 
-games_least : (p : Progress) (o : Bool) → is_open p ≡ o → length p.games ≤ length (games_of p)
-games_least p true e = omega (arith, games_len p true e)
-games_least p false e = omega (arith, games_len p false e)
-
 games_most : (p : Progress) (o : Bool) → is_open p ≡ o → length (games_of p) ≤ length p.games + 1
 games_most p true e = omega (arith, games_len p true e)
 games_most p false e = omega (arith, games_len p false e)

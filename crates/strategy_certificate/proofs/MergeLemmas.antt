@@ -90,9 +90,6 @@ merged_holds-step into row rest none = by (is_none (entry_of into row.0))
 pub merged_holds-new : (into : List (Board × Option (List ℕ))) (row : Board × Option (List ℕ)) → HasNone into row.0 → into ++ row ∷ [] ≡ merged_holds into (row ∷ [])
 merged_holds-new into row none = ap (λ o. into ++ cond (is_none o) (row ∷ []) []) (sym none)
 
-pub merged_holds-there : (into : List (Board × Option (List ℕ))) (row : Board × Option (List ℕ)) (kept : Option (List ℕ)) → entry_of into row.0 ≡ Some kept → into ≡ merged_holds into (row ∷ [])
-merged_holds-there into row kept is = sym (append-nil into) ∙ ap (λ o. into ++ cond (is_none o) (row ∷ []) []) (sym is)
-
 -- ---- wins
 
 -- the entry, or the one beside it where that has the smaller rank
@@ -252,9 +249,6 @@ merged_wins-kept into row kept distinct is below = map_improved-kept row kept in
 
 pub merged_wins-nil : (into : List (Board × WinEntry)) → merged_wins into [] ≡ into
 merged_wins-nil into = append-nil (map (improved []) into) ∙ map-id into
-
-pub merged_holds-nil : (into : List (Board × Option (List ℕ))) → merged_holds into [] ≡ into
-merged_holds-nil into = append-nil into
 
 -- ---- a list without its ranks
 

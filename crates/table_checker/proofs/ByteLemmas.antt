@@ -27,9 +27,6 @@ length-bytes_of k numbers = length-append (head k) (flat_map number_bytes number
 pub head-bytes_of : (k : ℕ) (numbers : List ℕ) → take 8 (bytes_of k numbers) ≡ head k
 head-bytes_of k numbers = refl
 
-pub rest-bytes_of : (k : ℕ) (numbers : List ℕ) → drop 8 (bytes_of k numbers) ≡ flat_map number_bytes numbers
-rest-bytes_of k numbers = refl
-
 -- ---- reading
 
 -- the number that four bytes write

@@ -86,10 +86,6 @@ first-right p (x ∷ xs) ys h =
 abbrev pub place_in : List ℕ → List ℕ → ℕ
 place_in all choice = position_or_len (λ other. pointwise eqb other choice) (choices (length choice) all)
 
-pub place-nil : (all : List ℕ) → place_in all [] ≡ 0
-unfolding choices
-place-nil all = refl
-
 -- a choice that begins with the first square
 pub place-with : (n : ℕ) (all choice : List ℕ) → place_in all choice < length (choices (length choice) all) → place_in (n ∷ all) (n ∷ choice) ≡ place_in all choice
 unfolding choices

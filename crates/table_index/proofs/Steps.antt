@@ -1,5 +1,5 @@
 -- What one more cell adds, for the loops that go over the cells by their places.
-use Rattle.std.proofs.Common.{◌≡◌, ℕ, zero, suc, ◌+◌, ◌-◌, ◌*◌, ◌^◌, ◌<◌, ◌≤◌, true, false, cond, List, [], ◌∷◌, length, drop, get_or, refl, sym, ap, ap₂, subst, subst₂, ◌∙◌, arith, length-drop, pow-suc}
+use Rattle.std.proofs.Common.{◌≡◌, ℕ, zero, suc, ◌+◌, ◌-◌, ◌*◌, ◌^◌, ◌<◌, ◌≤◌, false, cond, List, [], ◌∷◌, length, drop, get_or, refl, sym, ap, ap₂, subst, subst₂, ◌∙◌, arith, length-drop, pow-suc}
 use Rattle.std.proofs.lemmas.List.{drop_more, drop_all}
 use Rattle.draughts_board.specs.declared.pieces.Cell.{Cell}
 use Rattle.draughts_board.specs.declared.pieces.Cell.TheVariants.{Empty, Man, King}
@@ -19,16 +19,6 @@ pub record IsTally (cells : List Cell) (a b k w : ℕ) : Type 0 where
 
 pub tally-nil : IsTally [] 0 0 0 1
 tally-nil = record { count = refl; behind = refl; kinds = refl; weight = refl }
-
-pub tally-empty : (cells : List Cell) (i a b k w : ℕ) → i < length cells → is_empty (get_or cells i Empty) ≡ true → IsTally (drop (i + 1) cells) a b k w → IsTally (drop i cells) a b k w
-tally-empty cells i a b k w h none t =
-    let rest = drop (i + 1) cells in
-    subst (λ all. IsTally all a b k w) (sym (drop_more cells i Empty h)) (record {
-      count = t.count ∙ sym (ap (λ e. cond e (held rest) (suc (held rest))) none);
-      behind = t.behind ∙ sym (ap (λ e. cond e (later rest) (later rest + choose (suc (held rest)) (length rest))) none);
-      kinds = t.kinds ∙ sym (ap (λ e. cond e (digits rest) (kind (get_or cells i Empty) * 4 ^ held rest + digits rest)) none);
-      weight = t.weight ∙ sym (ap (λ e. 4 ^ cond e (held rest) (suc (held rest))) none);
-    })
 
 pub tally-piece : (cells : List Cell) (i a b k w : ℕ) → i < length cells → is_empty (get_or cells i Empty) ≡ false → IsTally (drop (i + 1) cells) a b k w
     → IsTally (drop i cells) (a + 1) (b + choose (a + 1) (length cells - (i + 1))) (k + kind (get_or cells i Empty) * w) (w * 4)
@@ -62,13 +52,6 @@ pub held-drop : (i : ℕ) (cells : List Cell) → held (drop i cells) ≤ held c
 held-drop zero cells = omega arith
 held-drop (suc i) [] = omega arith
 held-drop (suc i) (c ∷ cells) = let a = held-drop i cells in let b = held-cons c cells in omega arith
-
-pub held-drop_piece : (cells : List Cell) (i : ℕ) → i < length cells → is_empty (get_or cells i Empty) ≡ false → held (drop (i + 1) cells) + 1 ≤ held cells
-held-drop_piece cells i h some =
-    let rest = drop (i + 1) cells in
-    let e : held (drop i cells) ≡ suc (held rest) = ap held (drop_more cells i Empty h) ∙ ap (λ e. cond e (held rest) (suc (held rest))) some in
-    let most = held-drop i cells in
-    omega arith
 
 -- ---- sizes that fit
 
@@ -133,11 +116,6 @@ step-piece cells i a b k w fits h l some t =
       weight = omega (arith, tally.weight, fit.weight);
       tally = tally;
     }
-
-pub step-none : (cells : List Cell) (i a b k w : ℕ) → IsLawfulFew cells → 0 < i → i ≤ 32 → is_empty (get_or cells (i - 1) Empty) ≡ true → IsTally (drop i cells) a b k w → IsTally (drop (i - 1) cells) a b k w
-step-none cells i a b k w fits h l none t =
-    let long = fits.long in
-    tally-empty cells (i - 1) a b k w (omega arith) none (tally-at cells i a b k w h t)
 
 pub tally-start : (cells : List Cell) → IsLawfulFew cells → IsTally (drop 32 cells) 0 0 0 1
 tally-start cells fits = let long = fits.long in subst (λ all. IsTally all 0 0 0 1) (sym (drop_all 32 cells (omega arith))) tally-nil
