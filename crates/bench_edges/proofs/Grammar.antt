@@ -7,7 +7,7 @@ use Rattle.std.proofs.lemmas.Slice.Eq.{bytes_eq-Decides}
 use Rattle.std.specs.List.{flat_map}
 use Rattle.std.specs.Str.{bytes_eq}
 use Rattle.bench_edges.specs.declared.words.Command.{Command}
-use Rattle.bench_edges.specs.declared.words.Command.TheVariants.{Solve, MakeTable, TableCheck}
+use Rattle.bench_edges.specs.declared.words.Command.TheVariants.{Solve, Verify, MakeTable, TableCheck}
 use Rattle.bench_edges.specs.declared.words.Options.{Options}
 use Rattle.bench_edges.specs.declared.words.WordsRefusal.{WordsRefusal}
 use Rattle.bench_edges.specs.Words.{setting_words, number_for, SaysSolve, SaysTable, SaysPlain, Says, IsPlain, Begins, IsRefusedAt}
@@ -18,14 +18,16 @@ use Rattle.bench_edges.proofs.Settings.{cons_head, cons_tail, same_settings}
 -- the word that says which command it is
 abbrev pub name_of : Command → List ℕ
 name_of (Solve options) = codes "solve"
+name_of Verify = codes "verify"
 name_of (MakeTable pieces) = codes "table"
 name_of TableCheck = codes "table-check"
 
 -- a word that is no command's name
-pub no_name : (word : List ℕ) → word ≢ codes "solve" → word ≢ codes "table" → word ≢ codes "table-check" → (command : Command) → word ≢ name_of command
-no_name word solve table table_check (Solve options) = solve
-no_name word solve table table_check (MakeTable pieces) = table
-no_name word solve table table_check TableCheck = table_check
+pub no_name : (word : List ℕ) → word ≢ codes "solve" → word ≢ codes "verify" → word ≢ codes "table" → word ≢ codes "table-check" → (command : Command) → word ≢ name_of command
+no_name word solve verify table table_check (Solve options) = solve
+no_name word solve verify table table_check Verify = verify
+no_name word solve verify table table_check (MakeTable pieces) = table
+no_name word solve verify table table_check TableCheck = table_check
 
 differ : (one other : List ℕ) → bytes_eq one other ≡ false → one ≢ other
 differ one other apart same =
@@ -42,6 +44,7 @@ pub record IsCalled (words : List (List ℕ)) (name : List ℕ) : Type 0 where
 -- they stand in front of a command's words
 pub called : (words : List (List ℕ)) (command : Command) → Says words command → IsCalled words (name_of command)
 called words (Solve options) says = record { path = says.path; rest = flat_map setting_words says.given; spelling = says.spelling; named = says.named }
+called words Verify says = record { path = says.path; rest = []; spelling = says.spelling; named = says.named }
 called words (MakeTable pieces) says = record { path = says.path; rest = decimal pieces ∷ []; spelling = says.spelling; named = says.named }
 called words TableCheck says = record { path = says.path; rest = []; spelling = says.spelling; named = says.named }
 
@@ -53,24 +56,32 @@ name_said words path name rest command spelling says =
 
 pub only_solve : (words : List (List ℕ)) (command : Command) → Says words command → name_of command ≡ codes "solve" → (options : Options) × ((command ≡ Solve options) × SaysSolve words options)
 only_solve words (Solve options) says same = (options, (refl, says))
+only_solve words Verify says same = absurd (differ (codes "verify") (codes "solve") refl same)
 only_solve words (MakeTable pieces) says same = absurd (differ (codes "table") (codes "solve") refl same)
 only_solve words TableCheck says same = absurd (differ (codes "table-check") (codes "solve") refl same)
 
 pub only_table : (words : List (List ℕ)) (command : Command) → Says words command → name_of command ≡ codes "table" → (pieces : ℕ) × ((command ≡ MakeTable pieces) × SaysTable words pieces)
 only_table words (Solve options) says same = absurd (differ (codes "solve") (codes "table") refl same)
+only_table words Verify says same = absurd (differ (codes "verify") (codes "table") refl same)
 only_table words (MakeTable pieces) says same = (pieces, (refl, says))
 only_table words TableCheck says same = absurd (differ (codes "table-check") (codes "table") refl same)
 
 pub only_plain : (command other : Command) → IsPlain command → name_of other ≡ name_of command → other ≡ command
 only_plain (Solve options) other plain same = absurd plain
+only_plain Verify (Solve options) plain same = absurd (differ (codes "solve") (codes "verify") refl same)
+only_plain Verify Verify plain same = refl
+only_plain Verify (MakeTable pieces) plain same = absurd (differ (codes "table") (codes "verify") refl same)
+only_plain Verify TableCheck plain same = absurd (differ (codes "table-check") (codes "verify") refl same)
 only_plain (MakeTable pieces) other plain same = absurd plain
 only_plain TableCheck (Solve options) plain same = absurd (differ (codes "solve") (codes "table-check") refl same)
+only_plain TableCheck Verify plain same = absurd (differ (codes "verify") (codes "table-check") refl same)
 only_plain TableCheck (MakeTable pieces) plain same = absurd (differ (codes "table") (codes "table-check") refl same)
 only_plain TableCheck TableCheck plain same = refl
 
 -- how a plain command is said
 pub plain_said : (words : List (List ℕ)) (command : Command) → IsPlain command → Says words command → SaysPlain (name_of command) words
 plain_said words (Solve options) plain says = absurd plain
+plain_said words Verify plain says = says
 plain_said words (MakeTable pieces) plain says = absurd plain
 plain_said words TableCheck plain says = says
 
@@ -103,6 +114,8 @@ pub one_command : (words : List (List ℕ)) (first second : Command) → Says wo
 one_command words (Solve options) second one two =
     let other = only_solve words second two (one_name words (Solve options) second one two) in
     ap (λ o. Solve o) (same_options words options other.0 one other.1.1) ∙ sym other.1.0
+one_command words Verify second one two =
+    sym (only_plain Verify second tt (one_name words Verify second one two))
 one_command words (MakeTable pieces) second one two =
     let other = only_table words second two (one_name words (MakeTable pieces) second one two) in
     ap (λ p. MakeTable p) (same_pieces words pieces other.0 one other.1.1) ∙ sym other.1.0

@@ -1,7 +1,6 @@
 -- `solve`, read so far, and where its options are refused.
 use Rattle.std.proofs.Common.{◌≡◌, ◌≢◌, ℕ, ◌+◌, ◌<◌, ◌≤◌, List, [], ◌∷◌, ◌++◌, length, take, get_or, unwrap_or, codes, decimal, refl, ap, sym, ◌∙◌, subst, append_assoc, append-nil, arith}
 use Rattle.std.proofs.lemmas.Grind.{common_steps, flat_map-append}
-use Rattle.std.proofs.lemmas.List.{take_all}
 use Rattle.std.specs.List.{flat_map}
 use Rattle.bench_edges.specs.declared.words.Command.{Command}
 use Rattle.bench_edges.specs.declared.words.Command.TheVariants.{Solve}
@@ -36,9 +35,6 @@ said words path given spelling named settings = record {
   depth = refl;
   plies = refl;
 }
-
-pub said_all : (words : List (List ℕ)) (at : ℕ) (given : List Setting) → IsReadTo words at given → length words ≤ at → SaysSolve words (options_of given)
-said_all words at given r end = said words r.path given (sym (take_all at words end) ∙ r.front) r.named r.settings
 
 begins_with : (front rest : List (List ℕ)) (path : List ℕ) (given : List Setting) → front ++ rest ≡ solve_words path given → path ≢ [] → AreSettings given → Begins front
 begins_with front rest path given spelling named settings = (rest, Solve (options_of given), said (front ++ rest) path given spelling named settings)
@@ -122,10 +118,6 @@ refused_value words at given some r setting new within name other =
     none end command says =
         let g = value_of [] command (subst (λ (ws : List (List ℕ)). Says ws command) (sym (append-nil (take (at + 1) words))) says) in
         not_nil _ _ (sym g.value)
-
--- a path and `solve` are read
-pub read_front : (words : List (List ℕ)) (path : List ℕ) → 1 < length words → path ≢ [] → take 2 words ≡ path ∷ codes "solve" ∷ [] → IsReadTo words 2 []
-read_front words path within named front = record { path = path; front = front; named = named; settings = tt; within = within }
 
 -- nothing but `solve` stands behind the path
 pub solve_says : (path : List ℕ) → path ≢ [] → SaysSolve (path ∷ codes "solve" ∷ []) (options_of [])

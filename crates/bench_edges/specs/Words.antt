@@ -1,6 +1,7 @@
 -- The words that the program is called with, as the manual has them.
 --
 --   PATH solve [--depth N] [--plies N]
+--   PATH verify
 --   PATH table K
 --   PATH table-check
 --
@@ -11,7 +12,7 @@ use Rattle.std.specs.Borrow.{Bor}
 use Rattle.std.specs.List.{flat_map}
 use Rattle.std.specs.Str.{bytes_eq}
 use Rattle.bench_edges.specs.declared.words.Command.{Command}
-use Rattle.bench_edges.specs.declared.words.Command.TheVariants.{Solve, MakeTable, TableCheck}
+use Rattle.bench_edges.specs.declared.words.Command.TheVariants.{Solve, Verify, MakeTable, TableCheck}
 use Rattle.bench_edges.specs.declared.words.Options.{Options}
 
 -- the bytes of each word
@@ -76,12 +77,14 @@ pub record SaysPlain (name : List ℕ) (words : List (List ℕ)) : Type 0 where
 -- the words say this command: they are in the grammar
 abbrev pub Says : List (List ℕ) → Command → Type 0
 Says words (Solve options) = SaysSolve words options
+Says words Verify = SaysPlain (codes "verify") words
 Says words (MakeTable pieces) = SaysTable words pieces
 Says words TableCheck = SaysPlain (codes "table-check") words
 
 -- the commands that are said by their name alone
 abbrev pub IsPlain : Command → Type 0
 IsPlain (Solve options) = ⊥
+IsPlain Verify = Unit {0}
 IsPlain (MakeTable pieces) = ⊥
 IsPlain TableCheck = Unit {0}
 

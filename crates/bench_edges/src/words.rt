@@ -9,6 +9,8 @@ use thiserror::Error;
 pub enum Command {
     /// Solve the openings of the source.
     Solve(Options),
+    /// Check the text of a certificate, which the source holds.
+    Verify,
     /// Write the endgame table of so many pieces, 2 or 3.
     MakeTable(u8),
     /// Check the endgame table that the source holds.
@@ -136,6 +138,7 @@ fn read_plain(words: &[&str], command: Command) -> Result<Command, WordsRefusal>
 ///
 /// - `solve` and its options in any order, each at most once, with its number in the next word:
 ///   `--depth`, 0 to 12 and by default 4, and `--plies`, 0 to 200 and by default 200.
+/// - `verify`.
 /// - `table` and the number of pieces, 2 or 3.
 /// - `table-check`.
 ///
@@ -157,6 +160,7 @@ pub fn read_words(words: &[&str]) -> Result<Command, WordsRefusal>
     }
     match words[1] {
         "solve" => read_solve(words),
+        "verify" => read_plain(words, Command::Verify),
         "table" => read_table(words),
         "table-check" => read_plain(words, Command::TableCheck),
         _ => Err(WordsRefusal { at: 1 }),
@@ -198,6 +202,12 @@ mod tests {
     }
 
     #[test]
+    fn reads_verify(rt: HostRuntime) {
+        expect_command(&rt, &["-", "verify"], Command::Verify);
+        expect_command(&rt, &["verify", "verify"], Command::Verify);
+    }
+
+    #[test]
     fn reads_table_and_table_check(rt: HostRuntime) {
         expect_command(&rt, &["-", "table", "2"], Command::MakeTable(2));
         expect_command(&rt, &["table", "table", "3"], Command::MakeTable(3));
@@ -225,6 +235,21 @@ mod tests {
             6,
         );
         expect_refused(&rt, &["-", "solve", "--depth", "1", "--depth", "1"], 4);
+    }
+
+    #[test]
+    fn refuses_words_that_are_near_verify(rt: HostRuntime) {
+        for name in [
+            "Verify", "verify ", " verify", "verif", "verifys", "--verify",
+        ] {
+            expect_refused(&rt, &["-", name], 1);
+            expect_refused(&rt, &["-", name, "x"], 1);
+        }
+        expect_refused(&rt, &["-", "verify", "x"], 2);
+        expect_refused(&rt, &["-", "verify", ""], 2);
+        expect_refused(&rt, &["-", "verify", "verify"], 2);
+        expect_refused(&rt, &["", "verify"], 0);
+        expect_refused(&rt, &["verify"], 1);
     }
 
     #[test]

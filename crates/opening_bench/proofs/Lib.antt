@@ -3,3 +3,4 @@ pub mod RootLemmas
 pub mod RefusalLemmas
 pub mod RunLemmas
 mod TableLemmas
+mod CertificateLemmas

@@ -1,5 +1,5 @@
 -- What one ply of looking ahead adds.
-use Rattle.std.proofs.Common.{◌≡◌, ℕ, zero, suc, ◌+◌, ◌<◌, ◌≤◌, ◌⊎◌, inl, inr, Bool, true, false, ◌||◌, List, [], ◌∷◌, Option, None, Some, refl, sym, ◌∙◌, ap, subst, arith, get_or, take, length, ◌==◌}
+use Rattle.std.proofs.Common.{◌≡◌, ℕ, suc, ◌+◌, ◌<◌, ◌≤◌, ◌⊎◌, inl, inr, Bool, true, false, ◌||◌, List, [], ◌∷◌, Option, None, Some, refl, sym, ◌∙◌, ap, subst, arith, get_or, take, length, ◌==◌}
 use Rattle.std.specs.Prelude.{Contains, nat_le}
 use Rattle.std.specs.Cmp.{first_so, second_so}
 use Rattle.std.proofs.lemmas.Bool.{false≢true, true≢false, leb-true}
@@ -52,11 +52,6 @@ not_at_sight p q lawful h =
     nil [] x h = absurd (Contains-nil x h)
     nil (y ∷ ys) x h = refl
 
--- whoever has no successor has lost
-pub lost_at_sight : (p : Board) (d : ℕ) → successors_of p ≡ [] → ShowsWin draughts 0 (other p.to_move) d p
-lost_at_sight p zero h = (ap (λ (next : List Board). is_nil next || nat_le (piece_count p) 0) h, (0, (sym (other-other p.to_move), h)))
-lost_at_sight p (suc d) h = inl (ap (λ (next : List Board). is_nil next || nat_le (piece_count p) 0) h, (0, (sym (other-other p.to_move), h)))
-
 -- at depth 0 nothing is shown of a position that is not decided at sight
 pub nothing_at_once : (p q : Board) → IsLawful p → Contains (successors_of p) q → ShowsWinner p 0 None
 nothing_at_once p q lawful h s shown = true≢false (sym shown.0 ∙ not_at_sight p q lawful h)
@@ -94,9 +89,6 @@ pub record LookedAt (d : ℕ) (p : Board) (next seen : List Board) (all_lost : B
   pub none : (q : Board) → Contains seen q → ShowsWin draughts 0 p.to_move d q → ⊥
   pub lost : all_lost ≡ true → (q : Board) → Contains seen q → ShowsWin draughts 0 (other p.to_move) d q
   pub held : all_lost ≡ false → (q : Board) × (Contains next q × (ShowsWin draughts 0 (other p.to_move) d q → ⊥))
-
-pub looked_at_none : (d : ℕ) (p : Board) (next : List Board) → LookedAt d p next [] true
-looked_at_none d p next = record { none = λ q h. absurd (Contains-nil q h); lost = λ e q h. absurd (Contains-nil q h); held = λ e. absurd (true≢false e) }
 
 pub some_member : (xs : List Board) → (length xs == 0) ≡ false → (q : Board) × Contains xs q
 some_member [] h = absurd (true≢false h)

@@ -9,10 +9,9 @@ use Rattle.bench_edges.specs.Words.{Says}
 use Rattle.bench_edges.specs.declared.status.Status.{Status}
 use Rattle.bench_edges.specs.declared.status.Status.TheVariants.{Done, Unsolved, Words, Input, Disk, Journal, Memory, Read, Write}
 use Rattle.bench_edges.specs.declared.words.Command.{Command}
-use Rattle.bench_edges.specs.declared.words.Command.TheVariants.{Solve, MakeTable, TableCheck}
+use Rattle.bench_edges.specs.declared.words.Command.TheVariants.{Solve, Verify, MakeTable, TableCheck}
 use Rattle.endgame_table.specs.Bytes.{bytes_of}
-use Rattle.endgame_table.specs.Entries.{IsTable}
-use Rattle.opening_report.specs.Findings.{sound_text}
+use Rattle.opening_report.specs.Findings.{verified_text, sound_text}
 use Rattle.bench_edges.specs.declared.words.Options.{Options}
 use Rattle.pdn_openings.specs.declared.opening.Opening.{Opening}
 use Rattle.draughts_board.specs.declared.pieces.Value.{Value}
@@ -20,10 +19,10 @@ use Rattle.opening_report.specs.declared.refusals.Refusal.{Refusal}
 use Rattle.opening_report.specs.declared.roots.Root.{Root}
 use Rattle.opening_report.specs.Report.{report_of, ValuesAreTrue, StandsOnce, AreTrueRoots, AreApart}
 use Rattle.opening_report.proofs.ReportLemmas.{report-is_true, roots_stand_once}
-use Rattle.opening_bench.specs.Bench.{Finishes, Refuses, Takes, TakesFront, TakesText, Does, WritesOnly, HoldsOpenings, status_of}
+use Rattle.opening_bench.specs.Bench.{Finishes, Takes, TakesFront, TakesText, Does, WritesOnly, HoldsOpenings, status_of}
 use Rattle.draughts_board.specs.Board.{IsLawful}
 use Rattle.opening_bench.specs.Solving.{OpeningsOf, AreRootsOf, root_positions}
-use Rattle.opening_bench.specs.Steps.{IsSolvedTo, IsReport, Produces, IsGoodFor, IsTableReadFor}
+use Rattle.opening_bench.specs.Steps.{IsSolvedTo, IsReport, Produces, IsGoodFor}
 use Rattle.opening_bench.specs.Writing.{TakesOutput, SaysTrue}
 use Rattle.opening_bench.proofs.RefusalLemmas.{input_status, if_text}
 use Rattle.opening_bench.proofs.RootLemmas.{true_roots, apart_roots, counted, root_of, settled_or_open}
@@ -63,18 +62,6 @@ output_whole text settled before after Input f h = absurd f
 output_whole text settled before after Disk f h = absurd f
 output_whole text settled before after Journal f h = absurd f
 output_whole text settled before after Read f h = absurd f
-
--- a refused run has another status
-pub output_refuses_not : (text : List ℕ) (settled : Bool) (before after : Option (List ℕ)) (status : Status) → Refuses status → TakesOutput status text settled before after → ⊥
-output_refuses_not text settled before after Done f h = f
-output_refuses_not text settled before after Unsolved f h = f
-output_refuses_not text settled before after Write f h = f
-output_refuses_not text settled before after Memory f h = h
-output_refuses_not text settled before after Words f h = h
-output_refuses_not text settled before after Input f h = h
-output_refuses_not text settled before after Disk f h = h
-output_refuses_not text settled before after Journal f h = h
-output_refuses_not text settled before after Read f h = h
 
 -- none of these statuses is answered of an output
 abbrev pub Unwritten : Status → Type 0
@@ -142,6 +129,14 @@ does (Solve options) source rest text settled before after status p h = record {
   are_roots = p.solved.are_roots;
   taken = report_taken p.roots text settled before after p.text_is p.all.0 p.all.1 status h;
 }
+does Verify source rest text settled before after status p h = record {
+  certificate = p.certificate;
+  printed = p.printed;
+  read = p.read;
+  good = p.good;
+  right = p.right;
+  taken = text_taken text (verified_text p.certificate.position p.certificate.claim) settled before after p.text_is p.all status h;
+}
 does (MakeTable pieces) source rest text settled before after status p h = record {
   numbers = p.numbers;
   table = p.table;
@@ -159,6 +154,7 @@ does TableCheck source rest text settled before after status p h = record {
 pub all_read : (command : Command) (source rest : Option (List ℕ)) (text : List ℕ) (settled : Bool) → Produces command source rest text settled → ((k : ℕ) → command ≢ MakeTable k) → IsAtEnd rest
 all_read (Solve options) source rest text settled p reads = p.solved.end
 all_read (MakeTable pieces) source rest text settled p reads = absurd (reads pieces refl)
+all_read Verify source rest text settled p reads = p.end
 all_read TableCheck source rest text settled p reads = p.end
 
 -- ---- the words say one command
@@ -204,6 +200,7 @@ output_holds words command source rest text settled before after status finished
         subst (HoldsOpenings words source) (sym p.text_is)
         (holds_openings words options source rest p.roots p.solved (λ other said. let e : Solve options ≡ Solve other = only (Solve other) said in cc))
     holds (MakeTable pieces) p only = λ options said. (let e : MakeTable pieces ≡ Solve options = only (Solve options) said in absurd cc)
+    holds Verify p only = λ options said. (let e : Verify ≡ Solve options = only (Solve options) said in absurd cc)
     holds TableCheck p only = λ options said. (let e : TableCheck ≡ Solve options = only (Solve options) said in absurd cc)
 
 -- the report on roots that were solved
@@ -232,20 +229,7 @@ not_refused_input source r command other s same e good = by source (subst (λ c.
   where
     by : (source : Option (List ℕ)) → IsGoodFor (Solve other) source r → IfSome source (λ text. length text ≤ 16777216 → (all : List Opening) → OpeningsOf other.plies text all → s ≢ Input)
     by None h = tt
-    by (Some text) h = λ short all reads is. input_status text r (h all reads) short (sym e ∙ is)
-
--- nor are the bytes of a table
-pub table_not_refused_input : (source : Option (List ℕ)) (r : Refusal) (command : Command) (s : Status) → command ≡ TableCheck → s ≡ status_of r
-    → IsGoodFor command source r → IfSome source (λ bytes. (k : ℕ) (numbers : List ℕ) → IsTable k numbers → bytes ≡ bytes_of k numbers → s ≢ Input)
-table_not_refused_input source r command s same e good = by source (subst (λ c. IsGoodFor c source r) same good)
-  where
-    not_input : IsTableReadFor r → s ≢ Input
-    not_input (inl m) is = (let k : ◌≡◌ {A = Status} Memory Input = ap status_of (sym m) ∙ sym e ∙ is in absurd cc)
-    not_input (inr m) is = (let k : ◌≡◌ {A = Status} Read Input = ap status_of (sym m) ∙ sym e ∙ is in absurd cc)
-
-    by : (source : Option (List ℕ)) → IsGoodFor TableCheck source r → IfSome source (λ bytes. (k : ℕ) (numbers : List ℕ) → IsTable k numbers → bytes ≡ bytes_of k numbers → s ≢ Input)
-    by None h = tt
-    by (Some bytes) h = λ k numbers table is_bytes. not_input (h k numbers table is_bytes)
+    by (Some text) h = λ short all reads is. input_status 16777216 text r (h all reads) short (sym e ∙ is)
 
 -- ---- what `solve` gives
 

@@ -1,9 +1,8 @@
 -- In the bytes of a table `root ` stands nowhere, so that they say no value.
-use Rattle.std.proofs.Common.{◌≡◌, ◌≢◌, ℕ, zero, suc, ◌<◌, ◌≤◌, ◌^◌, ◌⊎◌, inl, inr, true, List, [], ◌∷◌, ◌++◌, Option, None, Some, refl, sym, ◌∙◌, ap, subst, arith, length, get_or, take, append_assoc}
+use Rattle.std.proofs.Common.{◌≡◌, ◌≢◌, ℕ, zero, suc, ◌<◌, ◌≤◌, ◌^◌, ◌⊎◌, inl, inr, List, [], ◌∷◌, ◌++◌, Option, None, Some, refl, sym, ◌∙◌, ap, subst, arith, length, get_or, take, append_assoc}
 use Rattle.std.specs.Prelude.{codes, All, IfSome}
 use Rattle.std.specs.List.{flat_map}
 use Rattle.std.specs.Int.{byte_at}
-use Rattle.std.specs.Io.KnownBytes.{IsAtEnd}
 use Rattle.std.proofs.lemmas.List.Elements.{All-head, All-tail}
 use Rattle.bench_edges.specs.Reading.{IsRefusedFor}
 use Rattle.bench_edges.specs.declared.source.ReadRefusal.{ReadRefusal}
@@ -22,7 +21,7 @@ use Rattle.opening_report.specs.Findings.{sound_text}
 use Rattle.opening_report.specs.Lines.{IsLine}
 use Rattle.opening_report.specs.declared.refusals.Refusal.TheVariants as refusal
 use Rattle.opening_report.proofs.ReportLemmas.{other_line_says_no_value, text_without_roots_says_no_value}
-use Rattle.opening_bench.specs.Steps.{read_refusal, IsOfSource, IsTableReadFor, IsSoundLine}
+use Rattle.opening_bench.specs.Steps.{read_refusal, IsTableReadFor}
 use Rattle.opening_bench.specs.Tables.{IsWrongTable, IsTableRefusal, of_table}
 use Rattle.opening_bench.specs.Writing.{SaysTrue}
 use Rattle.opening_bench.proofs.RefusalLemmas.{if_text}
@@ -97,13 +96,6 @@ table_says k numbers text small is front back whole = text_without_roots_says_no
 
 -- ---- bytes that are no table
 
-pub read_table_cause : (limit : ℕ) (source : Option (List ℕ)) (before after : ℕ) (r : ReadRefusal) → limit ≡ 4194304 → IsRefusedFor limit source before after r
-    → IsTableRefusal source before after (read_refusal r)
-read_table_cause limit None before after read.TooLong is h = (tt, h.1)
-read_table_cause limit (Some bytes) before after read.TooLong is h = (subst (λ n. n < length bytes) is h.0, h.1)
-read_table_cause limit source before after (read.Fault f) is h = h
-read_table_cause limit source before after (read.Memory e) is h = tt
-
 -- a table is shorter than the limit
 short : (k : ℕ) (numbers bytes : List ℕ) → IsTable k numbers → bytes ≡ bytes_of k numbers → length bytes ≤ 4194304
 short k numbers bytes table is =
@@ -139,16 +131,6 @@ table_accepted source bytes r is fault =
     only (table.BadEntry index kept) h k numbers sound same = absurd (faulty_bytes_are_no_table bytes (table.BadEntry index kept) tt h k numbers sound same)
     only (table.Memory error) h k numbers sound same = inl refl
 
-pub table_is_of_source : (r : TableRefusal) → IsOfSource (of_table r)
-table_is_of_source table.BadHead = tt
-table_is_of_source (table.WrongLength found due) = tt
-table_is_of_source (table.BadEntry index kept) = tt
-table_is_of_source (table.Memory error) = tt
-
-pub memory_is_read_for : (source : Option (List ℕ)) → IfSome source (λ bytes. (k : ℕ) (numbers : List ℕ) → IsTable k numbers → bytes ≡ bytes_of k numbers → IsTableReadFor refusal.Memory)
-memory_is_read_for None = tt
-memory_is_read_for (Some bytes) = λ k numbers sound same. inl refl
-
 -- ---- the line on a sound table
 
 not_root : (k n : ℕ) → take 5 (sound_text k n) ≢ codes "root "
@@ -156,16 +138,3 @@ not_root k n same = let first : ◌≡◌ {A = ℕ} 115 114 = ap (λ t. get_or t
 
 pub sound_says : (k n : ℕ) (text : List ℕ) → IsLine (sound_text k n) → text ≡ sound_text k n → SaysTrue text
 sound_says k n text one is front back whole = other_line_says_no_value (sound_text k n) front back one (not_root k n) (sym is ∙ whole)
-
--- what `table-check` has to write
-pub sound_line_is : (source rest : Option (List ℕ)) (bytes text : List ℕ) (k : ℕ) (numbers line : List ℕ) → IfSome source (λ t. bytes ≡ t) → text ≡ bytes → IsAtEnd rest → IsTable k numbers
-    → text ≡ bytes_of k numbers → line ≡ sound_text k (length numbers) → IsSoundLine source rest line true
-sound_line_is source rest bytes text k numbers line left same end table is line_is = record {
-  pieces = k;
-  numbers = numbers;
-  table = table;
-  read = if_text source bytes (λ t. t ≡ bytes_of k numbers) left (sym same ∙ is);
-  text_is = line_is;
-  end = end;
-  all = refl;
-}

@@ -8,7 +8,7 @@ use Rattle.bench_edges.specs.Words.{Says, IsRefusedAt}
 use Rattle.bench_edges.specs.declared.status.Status.{Status}
 use Rattle.bench_edges.specs.declared.status.Status.TheVariants.{Done, Unsolved, Words, Input, Memory, Read, Write}
 use Rattle.bench_edges.specs.declared.words.Command.{Command}
-use Rattle.bench_edges.specs.declared.words.Command.TheVariants.{Solve, MakeTable, TableCheck}
+use Rattle.bench_edges.specs.declared.words.Command.TheVariants.{Solve, Verify, MakeTable, TableCheck}
 use Rattle.bench_edges.specs.declared.words.Options.{Options}
 use Rattle.pdn_openings.specs.declared.opening.Opening.{Opening}
 use Rattle.opening_report.specs.declared.roots.Root.{Root}
@@ -16,7 +16,11 @@ use Rattle.opening_report.specs.declared.refusals.Refusal.{Refusal}
 use Rattle.opening_report.specs.declared.refusals.Refusal.TheVariants as refusal
 use Rattle.opening_report.specs.Report.{report_of, StandsOnce}
 use Rattle.opening_report.specs.Refusals.{refusal_text}
-use Rattle.opening_report.specs.Findings.{sound_text}
+use Rattle.opening_report.specs.Findings.{verified_text, sound_text}
+use Rattle.strategy_certificate.specs.Certificates.{IsGood, IsTrueOf}
+use Rattle.strategy_certificate.specs.declared.certificates.Certificate.{Certificate}
+use Rattle.certificate_text.specs.Text.{text_of, IsPrinted}
+use Rattle.opening_bench.specs.Certificates.{IsCertificateRefusal}
 use Rattle.opening_bench.specs.Solving.{OpeningsOf, root_positions, AreRootsOf, IsTextRefusal}
 use Rattle.opening_bench.specs.Tables.{IsTableRefusal}
 
@@ -75,6 +79,16 @@ TakesText Done text before after = Appends before after text
 TakesText Write text before after = TakesFront before after text
 TakesText status text before after = ⊥
 
+-- What `verify` does that comes to its line: the source is the text of a certificate that is good by the table that it
+-- names, so that its claim is true of its position by the definition of who wins, and the line says both.
+pub record Verifies (source before after : Option (List ℕ)) (status : Status) : Type 0 where
+  pub certificate : Certificate
+  pub printed : IsPrinted certificate
+  pub read : IfSome source (λ text. text ≡ text_of certificate)
+  pub good : IsGood certificate
+  pub right : IsTrueOf certificate.claim certificate.position
+  pub taken : TakesText status (verified_text certificate.position certificate.claim) before after
+
 -- What `table K` does that comes to its bytes: they are those of a sound table of so many pieces.
 pub record MakesTable (pieces : ℕ) (before after : Option (List ℕ)) (status : Status) : Type 0 where
   pub numbers : List ℕ
@@ -93,6 +107,7 @@ pub record FindsSound (source before after : Option (List ℕ)) (status : Status
 -- What a run does that comes to what it has to write, by its command.
 abbrev pub Does : Command → Option (List ℕ) → Option (List ℕ) → Option (List ℕ) → Status → Type 0
 Does (Solve options) source before after status = Solves options source before after status
+Does Verify source before after status = Verifies source before after status
 Does (MakeTable pieces) source before after status = MakesTable pieces before after status
 Does TableCheck source before after status = FindsSound source before after status
 
@@ -111,6 +126,7 @@ IsSourceRefusal plies source before after other = IfSome source (λ text. IsText
 -- why a command was refused; only want of memory refuses `table K`
 abbrev pub IsCommandRefusal : Command → Option (List ℕ) → ℕ → ℕ → Refusal → Type 0
 IsCommandRefusal (Solve options) source before after r = IsSourceRefusal options.plies source before after r
+IsCommandRefusal Verify source before after r = IsCertificateRefusal source before after r
 IsCommandRefusal (MakeTable pieces) source before after r = r ≡ refusal.Memory
 IsCommandRefusal TableCheck source before after r = IsTableRefusal source before after r
 

@@ -5,7 +5,7 @@ use Rattle.draughts_board.specs.Board.{IsLawful}
 use Rattle.bench_edges.specs.declared.source.ReadRefusal.{ReadRefusal}
 use Rattle.bench_edges.specs.declared.source.ReadRefusal.TheVariants as read
 use Rattle.bench_edges.specs.declared.words.Command.{Command}
-use Rattle.bench_edges.specs.declared.words.Command.TheVariants.{Solve, MakeTable, TableCheck}
+use Rattle.bench_edges.specs.declared.words.Command.TheVariants.{Solve, Verify, MakeTable, TableCheck}
 use Rattle.bench_edges.specs.declared.words.Options.{Options}
 use Rattle.endgame_table.specs.Bytes.{bytes_of}
 use Rattle.endgame_table.specs.Entries.{IsTable}
@@ -13,8 +13,12 @@ use Rattle.pdn_openings.specs.declared.opening.Opening.{Opening}
 use Rattle.opening_report.specs.declared.roots.Root.{Root}
 use Rattle.opening_report.specs.declared.refusals.Refusal.{Refusal}
 use Rattle.opening_report.specs.declared.refusals.Refusal.TheVariants as refusal
-use Rattle.opening_report.specs.Findings.{sound_text}
+use Rattle.opening_report.specs.Findings.{verified_text, sound_text}
 use Rattle.opening_report.specs.Report.{report_of}
+use Rattle.strategy_certificate.specs.Certificates.{IsGood, IsTrueOf}
+use Rattle.strategy_certificate.specs.declared.certificates.Certificate.{Certificate}
+use Rattle.certificate_text.specs.Text.{text_of, IsPrinted}
+use Rattle.opening_bench.specs.Certificates.{IsTextOf}
 use Rattle.opening_bench.specs.Solving.{OpeningsOf, AreRootsOf, root_positions}
 
 abbrev pub read_refusal : ReadRefusal → Refusal
@@ -27,9 +31,9 @@ abbrev pub IsOfSource : Refusal → Type 0
 IsOfSource (refusal.Words at) = ⊥
 IsOfSource other = Unit {0}
 
--- a text that has openings is refused only for its length, for a fault of the source, or for want of memory
-abbrev pub IsReadFor : List ℕ → Refusal → Type 0
-IsReadFor text r = (r ≡ refusal.Memory) ⊎ ((r ≡ refusal.Read) ⊎ ((r ≡ refusal.TooLong) × (16777216 < length text)))
+-- a text that is good is refused only for its length, for a fault of the source, or for want of memory
+abbrev pub IsReadFor : ℕ → List ℕ → Refusal → Type 0
+IsReadFor limit text r = (r ≡ refusal.Memory) ⊎ ((r ≡ refusal.Read) ⊎ ((r ≡ refusal.TooLong) × (limit < length text)))
 
 -- the bytes of a table are refused only for a fault of the source, or for want of memory
 abbrev pub IsTableReadFor : Refusal → Type 0
@@ -69,20 +73,34 @@ pub record IsSoundLine (before after : Option (List ℕ)) (text : List ℕ) (set
   pub end : IsAtEnd after
   pub all : settled ≡ true
 
+-- the source was read to its end and is the text of a good certificate, whose claim is true, and the text says so
+pub record IsVerifiedLine (before after : Option (List ℕ)) (text : List ℕ) (settled : Bool) : Type 0 where
+  pub certificate : Certificate
+  pub printed : IsPrinted certificate
+  pub read : IfSome before (λ bytes. bytes ≡ text_of certificate)
+  pub good : IsGood certificate
+  pub right : IsTrueOf certificate.claim certificate.position
+  pub text_is : text ≡ verified_text certificate.position certificate.claim
+  pub end : IsAtEnd after
+  pub all : settled ≡ true
+
 -- what a command has to write
 abbrev pub Produces : Command → Option (List ℕ) → Option (List ℕ) → List ℕ → Bool → Type 0
 Produces (Solve options) before after text settled = IsReport options before after text settled
+Produces Verify before after text settled = IsVerifiedLine before after text settled
 Produces (MakeTable pieces) before after text settled = AreTableBytes pieces text settled
 Produces TableCheck before after text settled = IsSoundLine before after text settled
 
 -- the words of a command were read, so that its numbers are within their limits
 abbrev pub IsWithin : Command → Type 0
 IsWithin (Solve options) = Unit {0}
+IsWithin Verify = Unit {0}
 IsWithin (MakeTable pieces) = (pieces ≡ 2) ⊎ (pieces ≡ 3)
 IsWithin TableCheck = Unit {0}
 
 -- a source that is good for a command is refused only for its length, for a fault, or for want of memory
 abbrev pub IsGoodFor : Command → Option (List ℕ) → Refusal → Type 0
-IsGoodFor (Solve options) source r = IfSome source (λ text. (all : List Opening) → OpeningsOf options.plies text all → IsReadFor text r)
+IsGoodFor (Solve options) source r = IfSome source (λ text. (all : List Opening) → OpeningsOf options.plies text all → IsReadFor 16777216 text r)
+IsGoodFor Verify source r = IfSome source (λ bytes. (c : Certificate) → IsGood c → IsTextOf c bytes → IsReadFor 268435456 bytes r)
 IsGoodFor (MakeTable pieces) source r = Unit {0}
 IsGoodFor TableCheck source r = IfSome source (λ bytes. (k : ℕ) (numbers : List ℕ) → IsTable k numbers → bytes ≡ bytes_of k numbers → IsTableReadFor r)

@@ -8,12 +8,16 @@ ghost use Rattle.bench_edges.specs.declared.words.Options.{Options};
 ghost use Rattle.endgame_table.specs.Bytes.{bytes_of};
 ghost use Rattle.endgame_table.specs.Entries.{IsTable};
 ghost use Rattle.pdn_openings.specs.declared.opening.Opening.{Opening};
+ghost use Rattle.strategy_certificate.specs.Certificates.{IsGood};
+ghost use Rattle.strategy_certificate.specs.declared.certificates.Certificate.{Certificate};
 ghost use Rattle.opening_report.specs.Report.{ValuesAreTrue};
 ghost use Rattle.opening_bench.specs.Bench.{Reports, Finishes, Refuses, DoesAsSaid, IsRefused, IsCommandRefusal, TakesLine, WritesOnly, HoldsOpenings, status_of};
+ghost use Rattle.opening_bench.specs.Certificates.{IsTextOf};
 ghost use Rattle.opening_bench.specs.Solving.{OpeningsOf};
 ghost use Rattle.opening_bench.specs.Steps.{Produces, IsWithin, IsOfSource, IsGoodFor};
 ghost use Rattle.opening_bench.specs.Writing.{IsLineOf, SaysTrue};
 
+use crate::certificates::verify_output;
 use crate::output::{Output, write_output};
 use crate::solve::solve_output;
 use crate::tables::{check_output, table_output};
@@ -56,6 +60,7 @@ fn output_of<S: Source>(alloc: Global, command: Command, source: &mut S) -> Resu
 {
     match command {
         Command::Solve(options) => solve_output(alloc, &options, source),
+        Command::Verify => verify_output(alloc, source),
         Command::MakeTable(pieces) => table_output(alloc, pieces),
         Command::TableCheck => check_output(alloc, source),
     }
@@ -66,6 +71,8 @@ fn output_of<S: Source>(alloc: Global, command: Command, source: &mut S) -> Resu
 /// `words` are those of the command line without the program's name: a path, a command, and its options.
 /// - `solve`, with `--depth` and `--plies`, reads the games of the source, takes the position of each after its first
 ///   plies, looks ahead from the distinct ones, and writes a line for each and a summary.
+/// - `verify` reads the text of a certificate, fills the endgame table that it names, and writes the position and the
+///   claim where the certificate is good.
 /// - `table K` writes the bytes of the endgame table of K pieces, 2 or 3, and reads nothing.
 /// - `table-check` reads the bytes of an endgame table, and writes a line where they are sound.
 ///
@@ -92,6 +99,8 @@ pub fn bench<S: Source, K: Sink>(
     ensures words { (result ≡ Status.Words) ↔ ((command : Command) → ¬ Says (texts words.now) command) }
     ensures accepted { (options : Options) → Says (texts words.now) (Command.Solve options) → IfSome (S.left source.old)
         (λ text. length text ≤ 16777216 → (all : List Opening) → OpeningsOf options.plies text all → result ≢ Status.Input) }
+    ensures accepted_certificates { Says (texts words.now) Command.Verify → IfSome (S.left source.old)
+        (λ bytes. length bytes ≤ 268435456 → (c : Certificate) → IsGood c → IsTextOf c bytes → result ≢ Status.Input) }
     ensures accepted_tables { Says (texts words.now) Command.TableCheck → IfSome (S.left source.old)
         (λ bytes. (k : ℕ) (numbers : List ℕ) → IsTable k numbers → bytes ≡ bytes_of k numbers → result ≢ Status.Input) }
     ensures read { result ≡ Status.Read → Rose (S.faults source.old) (S.faults source.new) }

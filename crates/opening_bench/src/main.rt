@@ -6,6 +6,9 @@
 #![tactic(auto)]
 
 mod bench;
+#[cfg(test)]
+mod certificate_tests;
+mod certificates;
 mod look_ahead;
 mod output;
 mod solve;
@@ -29,6 +32,7 @@ const USAGE: &str = "opening_bench: what openings of English draughts are worth,
 
 Usage:
   opening_bench PATH solve [--depth N] [--plies N] < GAMES.pdn
+  opening_bench PATH verify < CERTIFICATE
   opening_bench PATH table K > TABLE
   opening_bench PATH table-check < TABLE
   opening_bench --help
@@ -42,14 +46,16 @@ K          how many pieces an endgame table has at most, 2 or 3
 
 `solve`: the games are PDN, of at most 16777216 bytes and 4096 games. Written are a line `root NUMBER FEN VALUE` for each
 distinct position after an opening, VALUE being black-wins, white-wins or unsolved, and a line that counts them.
-`table` writes the bytes of the endgame table of K pieces. `table-check` reads such bytes, at most 4194304, and writes
-`sound table K entries E` where each entry is right, or else which is not.
+`verify` reads the text of a certificate, of at most 268435456 bytes, fills the endgame table that it names, and writes
+`verified FEN CLAIM` where the certificate is good, or else why it is not. `table` writes the bytes of the endgame table
+of K pieces. `table-check` reads such bytes, at most 4194304, and writes `sound table K entries E` where each entry is
+right, or else which is not.
 
 Exit status:
-  0  each position has a value; the table was written, or is sound
+  0  each position has a value; the certificate is good; the table was written, or is sound
   1  some position is unsolved
   2  the words are not of the form above
-  3  the games cannot be read, or have no openings; the bytes are no sound table
+  3  the games cannot be read, or have no openings; the certificate is not good; the bytes are no sound table
   6  no memory
   7  standard input failed
   8  standard output failed

@@ -101,7 +101,7 @@ fn solve<S: Source>(alloc: Global, options: &Options, source: &mut S) -> Result<
     ensures solved { IfOk result (λ roots. IsSolvedTo options.now.plies options.now.depth (S.left source.old) (S.left source.new) roots.items) }
     ensures refused { IfErr result (λ r. IsSourceRefusal options.now.plies (S.left source.old) (S.faults source.old) (S.faults source.new) r) }
     ensures of_source { IfErr result IsOfSource }
-    ensures accepted { IfErr result (λ r. IfSome (S.left source.old) (λ text. (all : List Opening) → OpeningsOf options.now.plies text all → IsReadFor text r)) }
+    ensures accepted { IfErr result (λ r. IfSome (S.left source.old) (λ text. (all : List Opening) → OpeningsOf options.now.plies text all → IsReadFor 16777216 text r)) }
 {
     let text = match read_to_limit(alloc, source, SOURCE_LIMIT) {
         Ok(text) => text,
@@ -134,7 +134,7 @@ pub(crate) fn solve_output<S: Source>(
     ensures says { IfOk result (λ output. SaysTrue output.text.items) }
     ensures refused { IfErr result (λ r. IsSourceRefusal options.now.plies (S.left source.old) (S.faults source.old) (S.faults source.new) r) }
     ensures of_source { IfErr result IsOfSource }
-    ensures accepted { IfErr result (λ r. IfSome (S.left source.old) (λ text. (all : List Opening) → OpeningsOf options.now.plies text all → IsReadFor text r)) }
+    ensures accepted { IfErr result (λ r. IfSome (S.left source.old) (λ text. (all : List Opening) → OpeningsOf options.now.plies text all → IsReadFor 16777216 text r)) }
 {
     let roots = match solve(alloc, options, source) {
         Ok(roots) => roots,

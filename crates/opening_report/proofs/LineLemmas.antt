@@ -53,9 +53,6 @@ first_line_of (c ∷ front) = elim (bool_cases (c == 10)) [ inl t ↦ here t | i
     further : (c == 10) ≡ false → FirstLine (front ++ 10 ∷ []) → FirstLine (c ∷ (front ++ 10 ∷ []))
     further f l = record { body = c ∷ l.body; rest = l.rest; bare = ap (λ b. b || list_any (λ n. n == 10) l.body) f ∙ l.bare; ends = l.ends; split = ap (λ t. c ∷ t) l.split }
 
-concat : List (List ℕ) → List ℕ
-concat lines = flat_map (λ l. l) lines
-
 empty_split : (a b c : List ℕ) → IsLine b → a ++ (b ++ c) ≡ [] → ⊥
 empty_split [] b c line e = let f : (line.0 ++ 10 ∷ []) ++ c ≡ [] = ap (λ t. t ++ c) (sym line.1.1) ∙ e in nothing line.0 c f
   where
@@ -97,10 +94,6 @@ Lacks-decimal c (suc n) h l = subst (Lacks c) (sym (decimal-digits_of (suc n) (o
 pub Lacks-append : (c : ℕ) (a b : List ℕ) → Lacks c a → Lacks c b → Lacks c (a ++ b)
 Lacks-append c [] b h g = g
 Lacks-append c (x ∷ a) b h g = ap (λ t. t || list_any (λ n. n == c) (a ++ b)) (or_first (x == c) _ h) ∙ Lacks-append c a b (or_second (x == c) _ h) g
-
--- an empty text has no line
-pub no_line : (line : List ℕ) → IsLine line → HasLine [] line → ⊥
-no_line line one has = empty_split has.before line has.after one (sym has.split)
 
 -- ---- lines from their test, and lines of parts
 

@@ -2,13 +2,13 @@
 use Rattle.std.proofs.Common.{◌≡◌, ℕ, ◌<◌, ◌^◌, List, [], ◌∷◌, ◌++◌, refl, ◌∙◌, ap, append_assoc, lit<}
 use Rattle.std.specs.Prelude.{codes, decimal}
 use Rattle.opening_report.specs.Lines.{Lacks, IsLine}
-use Rattle.opening_report.specs.Refusals.{numbered, numbered_twice, of_game, move_words}
+use Rattle.opening_report.specs.Refusals.{numbered, numbered_twice, of_game, move_words, of_part, of_entry}
 use Rattle.opening_report.proofs.LineLemmas.{Lacks-append, Lacks-decimal, IsLine-append}
 
 number_line : (n : ℕ) (line : List ℕ) → n < 2 ^ 64 → IsLine line → IsLine (decimal n ++ line)
 number_line n line small one = IsLine-append (decimal n) line (Lacks-decimal 10 n (lit< tt) small) one
 
-end_is_line : IsLine (10 ∷ [])
+pub end_is_line : IsLine (10 ∷ [])
 end_is_line = ([], (refl, refl))
 
 pub numbered_is_line : (label : List ℕ) (n : ℕ) → Lacks 10 label → n < 2 ^ 64 → IsLine (numbered label n)
@@ -40,3 +40,19 @@ move_parts game ply place wrong =
     ∙ append_assoc front first (second ++ wrong)
     ∙ ap (λ t. front ++ t) (append_assoc (codes " ply ") (decimal ply) (second ++ wrong) ∙ ap (λ t. codes " ply " ++ (decimal ply ++ t)) (append_assoc (codes " byte ") (decimal place) wrong))
     ∙ append_assoc (codes "refused input game ") (decimal game) (move_words ply place wrong)
+
+pub of_part_is_line : (part : ℕ) (rest : List ℕ) → part < 2 ^ 64 → IsLine rest → IsLine (of_part part rest)
+of_part_is_line part rest small one = IsLine-append (codes "refused input check part ") (decimal part ++ rest) refl (number_line part rest small one)
+
+pub of_entry_is_line : (part entry : ℕ) (wrong : List ℕ) → part < 2 ^ 64 → entry < 2 ^ 64 → IsLine wrong → IsLine (of_entry part entry wrong)
+of_entry_is_line part entry wrong small small_entry one =
+    of_part_is_line part (codes " entry " ++ (decimal entry ++ wrong)) small
+    (IsLine-append (codes " entry ") (decimal entry ++ wrong) refl (number_line entry wrong small_entry one))
+
+pub entry_parts : (part entry : ℕ) (wrong : List ℕ)
+    → ((codes "refused input check part " ++ decimal part) ++ (codes " entry " ++ decimal entry)) ++ wrong ≡ of_entry part entry wrong
+entry_parts part entry wrong =
+    let front : List ℕ = codes "refused input check part " ++ decimal part in
+    append_assoc front (codes " entry " ++ decimal entry) wrong
+    ∙ ap (λ t. front ++ t) (append_assoc (codes " entry ") (decimal entry) wrong)
+    ∙ append_assoc (codes "refused input check part ") (decimal part) (codes " entry " ++ (decimal entry ++ wrong))

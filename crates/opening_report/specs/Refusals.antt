@@ -32,6 +32,14 @@ fen_words Truncated = codes " fen truncated\n"
 abbrev pub move_words : ℕ → ℕ → List ℕ → List ℕ
 move_words ply at wrong = codes " ply " ++ (decimal ply ++ (codes " byte " ++ (decimal at ++ wrong)))
 
+-- `refused input check part P` and what follows
+abbrev pub of_part : ℕ → List ℕ → List ℕ
+of_part part rest = codes "refused input check part " ++ (decimal part ++ rest)
+
+-- `refused input check part P entry E` and what is wrong with the entry
+abbrev pub of_entry : ℕ → ℕ → List ℕ → List ℕ
+of_entry part entry wrong = of_part part (codes " entry " ++ (decimal entry ++ wrong))
+
 abbrev pub refusal_text : Refusal → List ℕ
 refusal_text (refusal.Words at) = numbered (codes "refused words at ") at
 refusal_text refusal.TooLong = codes "refused input too-long\n"
@@ -45,6 +53,17 @@ refusal_text (refusal.OtherGame game) = of_game game (codes " other-game\n")
 refusal_text (refusal.Fen game fault) = of_game game (fen_words fault)
 refusal_text (refusal.Illegal game ply at) = of_game game (move_words ply at (codes " illegal\n"))
 refusal_text (refusal.Ambiguous game ply at) = of_game game (move_words ply at (codes " ambiguous\n"))
+refusal_text (refusal.TextBadLine n) = numbered (codes "refused input certificate bad-line ") n
+refusal_text (refusal.TextBadFen n) = numbered (codes "refused input certificate bad-fen ") n
+refusal_text (refusal.TextDoubled n) = numbered (codes "refused input certificate doubled ") n
+refusal_text refusal.TextTruncated = codes "refused input certificate truncated\n"
+refusal_text (refusal.TextAfterEnd n) = numbered (codes "refused input certificate after-end ") n
+refusal_text refusal.ClaimNotMet = codes "refused input check claim-not-met\n"
+refusal_text (refusal.BadRank part entry) = of_entry part entry (codes " bad-rank\n")
+refusal_text (refusal.BadMove part entry) = of_entry part entry (codes " bad-move\n")
+refusal_text (refusal.Missing part entry) = of_entry part entry (codes " missing\n")
+refusal_text (refusal.StuckHolder part entry) = of_entry part entry (codes " stuck-holder\n")
+refusal_text (refusal.NoRoot part) = of_part part (codes " no-root\n")
 refusal_text refusal.TableBadHead = codes "refused input table bad-head\n"
 refusal_text (refusal.TableWrongLength found due) = numbered_twice (codes "refused input table wrong-length found ") found (codes " due ") due
 refusal_text (refusal.TableBadEntry index kept) = numbered_twice (codes "refused input table bad-entry ") index (codes " kept ") kept

@@ -4,12 +4,13 @@ ghost use Rattle.arrayvec.specs.ArrayString.{array_string_len};
 ghost use Rattle.opening_report.specs.Lines.{IsLine, Lacks, is_line};
 ghost use Rattle.opening_report.specs.Refusals.{numbered, numbered_twice, of_game, fen_words, move_words, refusal_text};
 
+use crate::check_lines::{part_entry_line, part_line};
 use arrayvec::ArrayString;
 use draughts_board::Side;
 use fen_text::FenRefusal;
 use itoa::Buffer;
 
-/// Why a run was refused. Places of words and bytes count from 0, games and plies from 1.
+/// Why a run was refused. Places of words and bytes count from 0; games, plies, lines, parts and entries from 1.
 #[derive(Clone, Copy, Debug, PartialEq, Eq)]
 pub enum Refusal {
     /// The word at this place cannot stand there, or is missing.
@@ -36,6 +37,28 @@ pub enum Refusal {
     Illegal { game: u32, ply: u32, at: usize },
     /// The move at this byte may mean two that differ.
     Ambiguous { game: u32, ply: u32, at: usize },
+    /// This line of a certificate's text is none that may stand there.
+    TextBadLine(usize),
+    /// The position of this line of a certificate's text is no printed FEN.
+    TextBadFen(usize),
+    /// The position of this line of a certificate's text stands in its part already.
+    TextDoubled(usize),
+    /// A certificate's text ends too early.
+    TextTruncated,
+    /// This line stands behind the end of a certificate's text.
+    TextAfterEnd(usize),
+    /// The parts of a certificate are not those that its claim needs.
+    ClaimNotMet,
+    /// The rank of a successor of this entry is not below its own.
+    BadRank { part: usize, entry: usize },
+    /// This entry does not choose the move that is due.
+    BadMove { part: usize, entry: usize },
+    /// A successor of this entry is missing.
+    Missing { part: usize, entry: usize },
+    /// The holder has no move at this entry.
+    StuckHolder { part: usize, entry: usize },
+    /// The position of the certificate is missing from this part.
+    NoRoot(usize),
     /// The bytes do not begin as a table's do.
     TableBadHead,
     /// The table has so many bytes, and not as many as its head asks for.
@@ -61,7 +84,7 @@ fn plain(text: &str) -> ArrayString<128>
 }
 
 /// Appends a number in decimal.
-fn push_number(line: &mut ArrayString<128>, n: usize)
+pub(crate) fn push_number(line: &mut ArrayString<128>, n: usize)
     requires { array_string_len line.old + 20 ≤ 128 }
     ensures bytes { line.new.bytes ≡ line.old.bytes ++ decimal n }
     ensures len { array_string_len line.new ≤ array_string_len line.old + 20 }
@@ -71,11 +94,11 @@ fn push_number(line: &mut ArrayString<128>, n: usize)
 }
 
 /// Appends a label and a number in decimal.
-fn push_field(line: &mut ArrayString<128>, label: &str, n: usize)
-    requires short { length label.now ≤ 6 }
-    requires room { array_string_len line.old + 26 ≤ 128 }
+pub(crate) fn push_field(line: &mut ArrayString<128>, label: &str, n: usize)
+    requires short { length label.now ≤ 7 }
+    requires room { array_string_len line.old + 27 ≤ 128 }
     ensures bytes { line.new.bytes ≡ line.old.bytes ++ (label.now ++ decimal n) }
-    ensures len { array_string_len line.new ≤ array_string_len line.old + 26 }
+    ensures len { array_string_len line.new ≤ array_string_len line.old + 27 }
 {
     line.push_str(label);
     push_number(line, n);
@@ -109,6 +132,19 @@ pub(crate) fn numbered_twice(first: &str, a: usize, second: &str, b: usize) -> A
     push_number(&mut line, b);
     line.push_str("\n");
     line
+}
+
+/// The line on a table that has another length than is due.
+fn length_line(found: usize, due: usize) -> ArrayString<128>
+    ensures bytes { result.bytes ≡ numbered_twice (codes "refused input table wrong-length found ") found (codes " due ") due }
+    ensures line { IsLine (numbered_twice (codes "refused input table wrong-length found ") found (codes " due ") due) }
+{
+    numbered_twice(
+        "refused input table wrong-length found ",
+        found,
+        " due ",
+        due,
+    )
 }
 
 /// The line on a table that is not right at an index.
@@ -224,13 +260,19 @@ pub fn refusal_line(r: &Refusal) -> ArrayString<128>
         Refusal::Fen(game, fault) => fen_line(game, fault),
         Refusal::Illegal { game, ply, at } => move_line(game, ply, at, " illegal\n"),
         Refusal::Ambiguous { game, ply, at } => move_line(game, ply, at, " ambiguous\n"),
+        Refusal::TextBadLine(n) => numbered("refused input certificate bad-line ", n),
+        Refusal::TextBadFen(n) => numbered("refused input certificate bad-fen ", n),
+        Refusal::TextDoubled(n) => numbered("refused input certificate doubled ", n),
+        Refusal::TextTruncated => plain("refused input certificate truncated\n"),
+        Refusal::TextAfterEnd(n) => numbered("refused input certificate after-end ", n),
+        Refusal::ClaimNotMet => plain("refused input check claim-not-met\n"),
+        Refusal::BadRank { part, entry } => part_entry_line(part, entry, " bad-rank\n"),
+        Refusal::BadMove { part, entry } => part_entry_line(part, entry, " bad-move\n"),
+        Refusal::Missing { part, entry } => part_entry_line(part, entry, " missing\n"),
+        Refusal::StuckHolder { part, entry } => part_entry_line(part, entry, " stuck-holder\n"),
+        Refusal::NoRoot(part) => part_line(part, " no-root\n"),
         Refusal::TableBadHead => plain("refused input table bad-head\n"),
-        Refusal::TableWrongLength { found, due } => numbered_twice(
-            "refused input table wrong-length found ",
-            found,
-            " due ",
-            due,
-        ),
+        Refusal::TableWrongLength { found, due } => length_line(found, due),
         Refusal::TableBadEntry { index, kept } => entry_line(index, kept),
         Refusal::Memory => plain("refused memory\n"),
         Refusal::Read => plain("refused read\n"),

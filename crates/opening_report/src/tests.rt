@@ -1,8 +1,9 @@
 //! Texts as the formats say them, written out by hand.
-use crate::{Refusal, Root, refusal_line, report, sound_line};
+use crate::{Refusal, Root, refusal_line, report, sound_line, verified_line};
 use draughts_board::{Position, Side, Square, Value};
 use fen_text::{FenRefusal, read_fen};
 use std::test::Fail;
+use strategy_certificate::Claim;
 
 /// The start position where the text is no FEN.
 fn position(fen: &str) -> Position {
@@ -168,4 +169,97 @@ fn refusals_of_tables(rt: HostRuntime) {
 fn a_sound_table_has_a_line(rt: HostRuntime) {
     let line = sound_line(2, 16_130);
     assert_eq!(rt; line.as_str(), "sound table 2 entries 16130\n");
+}
+
+#[test]
+fn refusals_of_the_text_of_a_certificate(rt: HostRuntime) {
+    for (refusal, line) in [
+        (
+            Refusal::TextBadLine(7),
+            "refused input certificate bad-line 7\n",
+        ),
+        (
+            Refusal::TextBadFen(3),
+            "refused input certificate bad-fen 3\n",
+        ),
+        (
+            Refusal::TextDoubled(18446744073709551615),
+            "refused input certificate doubled 18446744073709551615\n",
+        ),
+        (
+            Refusal::TextTruncated,
+            "refused input certificate truncated\n",
+        ),
+        (
+            Refusal::TextAfterEnd(12),
+            "refused input certificate after-end 12\n",
+        ),
+    ] {
+        assert_eq!(rt; refusal_line(&refusal).as_str(), line);
+    }
+}
+
+#[test]
+fn refusals_of_the_check_of_a_certificate(rt: HostRuntime) {
+    for (refusal, line) in [
+        (Refusal::ClaimNotMet, "refused input check claim-not-met\n"),
+        (
+            Refusal::BadRank { part: 1, entry: 20 },
+            "refused input check part 1 entry 20 bad-rank\n",
+        ),
+        (
+            Refusal::BadMove { part: 2, entry: 1 },
+            "refused input check part 2 entry 1 bad-move\n",
+        ),
+        (
+            Refusal::Missing {
+                part: 3,
+                entry: 405,
+            },
+            "refused input check part 3 entry 405 missing\n",
+        ),
+        (
+            Refusal::StuckHolder {
+                part: 18446744073709551615,
+                entry: 18446744073709551614,
+            },
+            "refused input check part 18446744073709551615 entry 18446744073709551614 stuck-holder\n",
+        ),
+        (Refusal::NoRoot(2), "refused input check part 2 no-root\n"),
+    ] {
+        assert_eq!(rt; refusal_line(&refusal).as_str(), line);
+    }
+}
+
+#[test]
+fn a_verified_claim_has_a_line(rt: HostRuntime) {
+    for (fen, claim, line) in [
+        (
+            "W:W16,23:B12",
+            Claim::Win(Side::White),
+            "verified W:W16,23:B12 white-wins\n",
+        ),
+        (
+            "B:W32:B1,2",
+            Claim::Win(Side::Black),
+            "verified B:W32:B1,2 black-wins\n",
+        ),
+        (
+            "B:WK1,K19:BK15",
+            Claim::Draw,
+            "verified B:WK1,K19:BK15 draw\n",
+        ),
+        (
+            "W:WK32:BK1",
+            Claim::Hold(Side::Black),
+            "verified W:WK32:BK1 black-holds\n",
+        ),
+        (
+            "W:WK32:BK1",
+            Claim::Hold(Side::White),
+            "verified W:WK32:BK1 white-holds\n",
+        ),
+    ] {
+        assert_eq!(rt; verified_line(&position(fen), claim).as_str(), line);
+    }
 }

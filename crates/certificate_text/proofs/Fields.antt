@@ -1,0 +1,57 @@
+-- The fields of a line, and what their readers answer.
+use Rattle.std.proofs.Common.{◌≡◌, ℕ, ◌<◌, List, ◌∷◌, ◌++◌, refl, sym, ◌∙◌, ap, subst, arith, append-nil, Option, Some, None, Result, Ok, Err, true, false, zero, suc, ◌==◌}
+use Rattle.std.specs.Prelude.{Contains, is_some, IsNone, ◌↔◌, IfOk}
+use Rattle.std.specs.Option.{IfNone}
+use Rattle.std.proofs.lemmas.Bool.{true≢false, false≢true}
+use Rattle.draughts_board.specs.Board.{Board}
+use Rattle.draughts_board.specs.declared.pieces.Side.{Side}
+use Rattle.draughts_board.specs.declared.pieces.Side.TheVariants.{Black, White}
+use Rattle.strategy_certificate.specs.Parts.{HasEntry}
+use Rattle.certificate_text.specs.Lines.{Lacks, side_word, choice_text, move_text}
+use Rattle.certificate_text.specs.Steps.{behind_field}
+use Rattle.certificate_text.proofs.Bytes.{halves_agree, Lacks-split}
+
+pub if_none : {X : Type 0} (r : Option X) (P : Type 0) → P → IfNone r P
+if_none None P p = p
+if_none (Some x) P p = tt
+
+pub for_none : {X : Type 0} (r : Option X) (P : Type 0) → (IsNone r → P) → IfNone r P
+for_none None P p = p refl
+for_none (Some x) P p = tt
+
+pub if_ok : {X E : Type 0} (r : Result X E) (P Q : X → Type 0) → ((x : X) → P x → Q x) → IfOk r P → IfOk r Q
+if_ok (Ok x) P Q f p = f x p
+if_ok (Err e) P Q f p = tt
+
+pub side_bare : (side : Side) → Lacks 32 (side_word side)
+side_bare Black = ((λ e. omega arith), ((λ e. omega arith), ((λ e. omega arith), ((λ e. omega arith), ((λ e. omega arith), tt)))))
+side_bare White = ((λ e. omega arith), ((λ e. omega arith), ((λ e. omega arith), ((λ e. omega arith), ((λ e. omega arith), tt)))))
+
+-- two lines agree in their first fields and behind them
+pub field_cut : (f g : List ℕ) (o p : Option (List ℕ)) → Lacks 32 f → Lacks 32 g → f ++ behind_field o ≡ g ++ behind_field p → (f ≡ g) × (behind_field o ≡ behind_field p)
+field_cut f g None None h k e = (sym (append-nil f) ∙ e ∙ append-nil g, refl)
+field_cut f g None (Some t) h k e = absurd (Lacks-split 32 g t (subst (Lacks 32) (sym (append-nil f) ∙ e) h))
+field_cut f g (Some t) None h k e = absurd (Lacks-split 32 f t (subst (Lacks 32) (sym (append-nil g) ∙ sym e) k))
+field_cut f g (Some t) (Some u) h k e = let both = halves_agree 32 f g t u h k e in (both.0, ap (λ b. 32 ∷ b) both.1)
+
+pub choice_behind : (chosen : Option (List ℕ)) → (o : Option (List ℕ)) × (choice_text chosen ≡ behind_field o)
+choice_behind None = (None, refl)
+choice_behind (Some path) = (Some (move_text path), refl)
+
+pub choice_cut : (f g : List ℕ) (o chosen : Option (List ℕ)) → Lacks 32 f → Lacks 32 g → f ++ behind_field o ≡ g ++ choice_text chosen → (f ≡ g) × (behind_field o ≡ choice_text chosen)
+choice_cut f g o chosen h k e =
+    let other = choice_behind chosen in
+    let both = field_cut f g o other.0 h k (e ∙ ap (λ t. g ++ t) other.1) in
+    (both.0, both.1 ∙ sym other.1)
+
+pub is_taken : {E : Type 0} (r : Option E) (rows : List (Board × E)) (p : Board) → ((e : E) → (r ≡ Some e) ↔ Contains rows (p, e)) → is_some r ≡ true → HasEntry rows p
+is_taken None rows p found h = absurd (false≢true h)
+is_taken (Some e) rows p found h = (e, (found e).0 refl)
+
+pub not_taken : {E : Type 0} (r : Option E) (rows : List (Board × E)) (p : Board) → IsNone r ↔ (¬ HasEntry rows p) → is_some r ≡ false → ¬ HasEntry rows p
+not_taken None rows p none h = none.0 refl
+not_taken (Some e) rows p none h = absurd (true≢false h)
+
+pub some_length : (n : ℕ) → false ≡ (n == 0) → 0 < n
+some_length zero h = absurd (false≢true h)
+some_length (suc n) h = omega arith

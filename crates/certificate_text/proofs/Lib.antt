@@ -1,0 +1,11 @@
+pub mod Bytes
+pub mod Numbers
+pub mod Printed
+pub mod Squares
+pub mod Leading
+pub mod Fields
+pub mod Spellings
+pub mod OneSpelling
+pub mod Runs
+pub mod Places
+pub mod Exact

@@ -1,0 +1,12 @@
+use Rattle.std.proofs.Common.{◌≤◌, ◌+◌, length}
+use Rattle.certificate_text.proofs.Leading.{Went}
+use Rattle.certificate_text.proofs.reading.read_certificate.Given as goal
+
+abbrev pub invariant-loop-alloc : goal.invariant-loop-alloc
+invariant-loop-alloc l = record {
+  went : Went l.text l.lines l.due l.rest;
+  room : l.lines + length l.rest ≤ length l.text;
+}
+
+abbrev pub decreases-loop-alloc : goal.decreases-loop-alloc
+decreases-loop-alloc l = length l.rest

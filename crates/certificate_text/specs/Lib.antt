@@ -1,0 +1,6 @@
+pub mod Lines
+pub mod Text
+pub mod Refusals
+pub mod Steps
+pub mod Headings
+pub mod Laws

@@ -1,0 +1,99 @@
+-- The text of a certificate, and how far a reader of it has come.
+use Rattle.std.specs.Prelude.{◌≡◌, ℕ, ◌+◌, ◌<◌, ◌^◌, ◌⊎◌, List, [], ◌∷◌, ◌++◌, All, map, length, Option}
+use Rattle.std.specs.List.{flat_map}
+use Rattle.draughts_board.specs.Board.{Board, IsLawful}
+use Rattle.strategy_certificate.specs.declared.entries.WinEntry.{WinEntry}
+use Rattle.strategy_certificate.specs.declared.certificates.Part.{Part}
+use Rattle.strategy_certificate.specs.declared.certificates.Part.TheVariants.{Win, Hold}
+use Rattle.strategy_certificate.specs.declared.certificates.Certificate.{Certificate}
+use Rattle.strategy_certificate.specs.Parts.{IsWinList, IsHoldList}
+use Rattle.fen_text.specs.Printed.{fen_of}
+use Rattle.certificate_text.specs.Lines.{Line, title, table, position, claim, win, hold, win_entry, hold_entry, end, text_of_lines}
+use Rattle.certificate_text.specs.declared.due.Due.{Due}
+use Rattle.certificate_text.specs.declared.due.Due.TheVariants as due
+
+-- ---- parts
+
+abbrev pub size : Part → ℕ
+size (Win part) = length part.entries
+size (Hold part) = length part.entries
+
+abbrev pub win_line : Board × WinEntry → Line
+win_line row = win_entry (fen_of row.0) row.1.rank row.1.chosen
+
+abbrev pub hold_line : Board × Option (List ℕ) → Line
+hold_line row = hold_entry (fen_of row.0) row.1
+
+-- the line that begins a part and says how many entries it has
+abbrev pub part_line : Part → ℕ → Line
+part_line (Win part) count = win part.side count
+part_line (Hold part) count = hold part.side count
+
+abbrev pub entry_lines : Part → List Line
+entry_lines (Win part) = map win_line part.entries
+entry_lines (Hold part) = map hold_line part.entries
+
+abbrev pub part_lines : Part → List Line
+part_lines part = part_line part (size part) ∷ entry_lines part
+
+-- a part whose positions are lawful and stand once each, whose ranks are at most 2^62 and whose moves are paths
+abbrev pub IsPart : Part → Type 0
+IsPart (Win part) = IsWinList part
+IsPart (Hold part) = IsHoldList part
+
+-- ---- certificates
+
+abbrev pub head_lines : Certificate → List Line
+head_lines c = title ∷ table c.pieces ∷ position (fen_of c.position) ∷ claim c.claim ∷ []
+
+-- the lines up to the end of its last part
+abbrev pub open_lines : Certificate → List Line
+open_lines c = head_lines c ++ flat_map part_lines c.parts
+
+abbrev pub lines_of : Certificate → List Line
+lines_of c = open_lines c ++ end ∷ []
+
+-- the text of a certificate
+abbrev pub text_of : Certificate → List ℕ
+text_of c = text_of_lines (lines_of c)
+
+-- a part that a text can say: its entries are counted by a number below 2^32
+abbrev pub IsPrintedPart : Part → Type 0
+IsPrintedPart part = IsPart part × (size part < 2 ^ 32)
+
+-- 2 or 3 pieces
+abbrev pub IsTable : ℕ → Type 0
+IsTable pieces = (pieces ≡ 2) ⊎ (pieces ≡ 3)
+
+-- a certificate that a text can say
+pub record IsPrinted (c : Certificate) : Type 0 where
+  pub pieces : IsTable c.pieces
+  pub lawful : IsLawful c.position
+  pub parts : All IsPrintedPart c.parts
+
+-- ---- how far a reader has come: what is due next, behind what it has read
+
+-- the lines that stand before
+abbrev pub before : Due → List Line
+before due.Title = []
+before due.Table = title ∷ []
+before (due.Position pieces) = title ∷ table pieces ∷ []
+before (due.Claim pieces p) = title ∷ table pieces ∷ position (fen_of p) ∷ []
+before (due.Part c) = open_lines c
+before (due.Entry c part left) = open_lines c ++ (part_line part (size part + left) ∷ entry_lines part)
+before (due.Nothing c) = lines_of c
+
+-- what stands before is sound
+abbrev pub IsSound : Due → Type 0
+IsSound due.Title = Unit {0}
+IsSound due.Table = Unit {0}
+IsSound (due.Position pieces) = IsTable pieces
+IsSound (due.Claim pieces p) = IsTable pieces × IsLawful p
+IsSound (due.Part c) = IsPrinted c
+IsSound (due.Entry c part left) = IsPrinted c × (IsPart part × ((0 < left) × (size part + left < 2 ^ 32)))
+IsSound (due.Nothing c) = IsPrinted c
+
+-- a line is due
+abbrev pub IsOpen : Due → Type 0
+IsOpen (due.Nothing c) = ⊥
+IsOpen d = Unit {0}
