@@ -1,10 +1,19 @@
 //! Runs of `verify` with the objects in memory. The texts and what is due were worked out by hand from the format, and
 //! from the rules of play: 23-19 leaves the man on 12 without a move, and 15x24 takes the king on 19.
+ghost use Rattle.std.specs.Prelude.{IfOk};
+ghost use Rattle.certificate_text.specs.Text.{IsPrinted};
+
 use crate::bench::bench;
 use bench_edges::{MemorySink, MemorySource, Status};
+use certificate_checker::{CheckRefusal, check};
+use certificate_text::{print_certificate, read_certificate};
+use draughts_board::Side;
+use endgame_table::fill;
+use fen_text::print_fen;
 use std::alloc::Global;
 use std::process::Abort;
 use std::test::Fail;
+use strategy_certificate::{Certificate, Claim};
 
 /// White wins in one ply: 23-19 blocks the last man.
 const BLOCKING: &[u8] =
@@ -15,6 +24,15 @@ const BLOCKING: &[u8] =
 const DRAWN: &[u8] =
     b"certificate 1\ntable 2\nposition B:WK1,K19:BK15\nclaim draw\nhold black 1\nB:WK1,K19:BK15 15x24\n\
       hold white 1\nB:WK1,K19:BK15\nend\n";
+
+/// The same, but the rank of the first entry is not above that of the second.
+const LOW: &[u8] = b"certificate 1\ntable 2\nposition W:W16,23:B12\nclaim white-wins\nwin white 2\n\
+      W:W16,23:B12 0 23-19\nB:W16,19:B12 0\nend\n";
+
+/// The same, but the move of the first entry leads to no entry.
+const ASTRAY: &[u8] =
+    b"certificate 1\ntable 2\nposition W:W16,23:B12\nclaim white-wins\nwin white 2\n\
+      W:W16,23:B12 1 23-18\nB:W16,19:B12 0\nend\n";
 
 /// Runs `verify` over these bytes, and compares the status and the line.
 fn expect(
@@ -47,18 +65,14 @@ fn a_draw_is_verified(rt: HostRuntime) -> Result<(), Fail> {
 
 #[test]
 fn a_rank_that_is_not_above(rt: HostRuntime) -> Result<(), Fail> {
-    let text = b"certificate 1\ntable 2\nposition W:W16,23:B12\nclaim white-wins\nwin white 2\n\
-          W:W16,23:B12 0 23-19\nB:W16,19:B12 0\nend\n";
     let line = b"refused input check part 1 entry 1 bad-rank\n";
-    expect(&rt, rt.alloc(), text, Status::Input, line)
+    expect(&rt, rt.alloc(), LOW, Status::Input, line)
 }
 
 #[test]
 fn a_successor_without_entry(rt: HostRuntime) -> Result<(), Fail> {
-    let text = b"certificate 1\ntable 2\nposition W:W16,23:B12\nclaim white-wins\nwin white 2\n\
-          W:W16,23:B12 1 23-18\nB:W16,19:B12 0\nend\n";
     let line = b"refused input check part 1 entry 1 missing\n";
-    expect(&rt, rt.alloc(), text, Status::Input, line)
+    expect(&rt, rt.alloc(), ASTRAY, Status::Input, line)
 }
 
 #[test]
@@ -158,5 +172,61 @@ fn a_certificate_that_cannot_be_read(rt: HostRuntime) -> Result<(), Fail> {
         Status::Read
     );
     assert_eq!(rt; sink.bytes(), b"refused read\n".as_slice());
+    Ok(())
+}
+
+// ---- the checker by itself
+
+/// Checks the certificate of this text by the table of two pieces, and gives it back with its refusal, if there is one.
+fn checked(
+    rt: &impl Abort,
+    alloc: Global,
+    text: &[u8],
+) -> Result<(Certificate, Option<CheckRefusal>), Fail>
+    ensures { IfOk result (λ found. IsPrinted found.0) }
+{
+    let table = fill(alloc, 2)?;
+    let c = read_certificate(alloc, text)?;
+    if c.pieces != table.pieces() {
+        assert!(rt; false, "another table");
+        return Ok((c, None));
+    }
+    match check(alloc, c, &table) {
+        Ok(proved) => {
+            assert_eq!(rt; proved.certificate().pieces, 2);
+            Ok((proved.into_certificate(), None))
+        }
+        Err(refused) => Ok((refused.0, Some(refused.1))),
+    }
+}
+
+#[test]
+fn a_certificate_comes_back_from_the_checker(rt: HostRuntime) -> Result<(), Fail> {
+    for text in [BLOCKING, LOW, ASTRAY] {
+        let (c, _) = checked(&rt, rt.alloc(), text)?;
+        assert!(rt; c.claim == Claim::Win(Side::White));
+        let printed = print_certificate(rt.alloc(), &c)?;
+        assert_eq!(rt; printed.as_slice(), text);
+    }
+    Ok(())
+}
+
+#[test]
+fn the_checker_tells_what_is_wrong(rt: HostRuntime) -> Result<(), Fail> {
+    let (_, found) = checked(&rt, rt.alloc(), BLOCKING)?;
+    assert!(rt; found.is_none());
+    let (_, found) = checked(&rt, rt.alloc(), LOW)?;
+    assert!(rt; matches!(found, Some(CheckRefusal::BadRank { part: 1, entry: 1 })));
+    let (_, found) = checked(&rt, rt.alloc(), ASTRAY)?;
+    match &found {
+        Some(
+            CheckRefusal::Missing {
+                part: 1,
+                entry: 1,
+                successor,
+            },
+        ) => assert_eq!(rt; print_fen(successor).as_str(), "B:W16,18:B12"),
+        _ => assert!(rt; false, "23-18 leads to no entry"),
+    }
     Ok(())
 }
