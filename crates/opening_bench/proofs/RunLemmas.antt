@@ -123,6 +123,7 @@ report_taken roots text settled before after is there all Read h = absurd h
 pub does : (command : Command) (source rest : Option (List ℕ)) (text : List ℕ) (settled : Bool) (before after : Option (List ℕ)) (status : Status) → Produces command source rest text settled
     → TakesOutput status text settled before after → Does command source before after status
 does (Solve options) source rest text settled before after status p h = record {
+  fits = p.solved.fits;
   openings = p.solved.openings;
   read = p.solved.read;
   roots = p.roots;
@@ -130,6 +131,7 @@ does (Solve options) source rest text settled before after status p h = record {
   taken = report_taken p.roots text settled before after p.text_is p.all.0 p.all.1 status h;
 }
 does Verify source rest text settled before after status p h = record {
+  fits = p.fits;
   certificate = p.certificate;
   printed = p.printed;
   read = p.read;
@@ -233,10 +235,11 @@ not_refused_input source r command other s same e good = by source (subst (λ c.
 
 -- ---- what `solve` gives
 
-pub solved_to : (plies d : ℕ) (source rest : Option (List ℕ)) (bytes text : List ℕ) (found seen : List Opening) (roots : List Root) → IfSome source (λ t. bytes ≡ t) → text ≡ bytes
+pub solved_to : (plies d : ℕ) (source rest : Option (List ℕ)) (bytes text : List ℕ) (found seen : List Opening) (roots : List Root) → IfSome source (λ t. bytes ≡ t) → length bytes ≤ 16777216 → text ≡ bytes
     → IsAtEnd rest → length found ≤ 4096 → All (λ (o : Opening). IsLawful o.position) found → OpeningsOf plies text found → ((all : List Opening) → OpeningsOf plies text all → found ≡ all)
     → seen ≡ found → AreRootsOf d (root_positions seen) roots → IsSolvedTo plies d source rest roots
-solved_to plies d source rest bytes text found seen roots left same end few lawful reads only at are = record {
+solved_to plies d source rest bytes text found seen roots left fits same end few lawful reads only at are = record {
+  fits = if_text source bytes (λ t. length t ≤ 16777216) left fits;
   openings = found;
   few = few;
   lawful = lawful;

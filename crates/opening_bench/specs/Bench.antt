@@ -1,5 +1,5 @@
 -- How a run ends, for which cause, and what it leaves.
-use Rattle.std.specs.Prelude.{◌≡◌, ◌≢◌, ℕ, ◌<◌, ◌⊎◌, List, ◌++◌, length, Option, None, IfSome, Contains}
+use Rattle.std.specs.Prelude.{◌≡◌, ◌≢◌, ℕ, ◌<◌, ◌≤◌, ◌⊎◌, List, ◌++◌, length, Option, None, IfSome, Contains}
 use Rattle.std.specs.Io.KnownBytes.{Appends}
 use Rattle.endgame_table.specs.Bytes.{bytes_of}
 use Rattle.endgame_table.specs.Entries.{IsTable}
@@ -64,9 +64,10 @@ Takes Unsolved roots before after = ((r : Root) × (Contains roots r × (r.value
 Takes Write roots before after = TakesFront before after (report_of roots)
 Takes status roots before after = ⊥
 
--- What `solve` does that comes to its report: the source has openings, the roots are their distinct positions, each with
+-- What `solve` does that comes to its report: the source is no longer than may be and has openings, the roots are their distinct positions, each with
 -- the value that looking ahead shows, and what is written is the report on them.
 pub record Solves (options : Options) (source before after : Option (List ℕ)) (status : Status) : Type 0 where
+  pub fits : IfSome source (λ text. length text ≤ 16777216)
   pub openings : List Opening
   pub read : IfSome source (λ text. OpeningsOf options.plies text openings)
   pub roots : List Root
@@ -79,9 +80,11 @@ TakesText Done text before after = Appends before after text
 TakesText Write text before after = TakesFront before after text
 TakesText status text before after = ⊥
 
--- What `verify` does that comes to its line: the source is the text of a certificate that is good by the table that it
--- names, so that its claim is true of its position by the definition of who wins, and the line says both.
+-- What `verify` does that comes to its line: the source is no longer than may be, and is the text of a certificate that is
+-- good by the table that it names, so that its claim is true of its position by the definition of who wins; the line says
+-- both.
 pub record Verifies (source before after : Option (List ℕ)) (status : Status) : Type 0 where
+  pub fits : IfSome source (λ text. length text ≤ 268435456)
   pub certificate : Certificate
   pub printed : IsPrinted certificate
   pub read : IfSome source (λ text. text ≡ text_of certificate)

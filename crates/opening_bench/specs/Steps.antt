@@ -41,6 +41,7 @@ IsTableReadFor r = (r ≡ refusal.Memory) ⊎ (r ≡ refusal.Read)
 
 -- the source was read to its end, and these are the roots of the openings of its text
 pub record IsSolvedTo (plies depth : ℕ) (before after : Option (List ℕ)) (roots : List Root) : Type 0 where
+  pub fits : IfSome before (λ text. length text ≤ 16777216)
   pub openings : List Opening
   pub few : length openings ≤ 4096
   pub lawful : All (λ opening. IsLawful opening.position) openings
@@ -75,6 +76,7 @@ pub record IsSoundLine (before after : Option (List ℕ)) (text : List ℕ) (set
 
 -- the source was read to its end and is the text of a good certificate, whose claim is true, and the text says so
 pub record IsVerifiedLine (before after : Option (List ℕ)) (text : List ℕ) (settled : Bool) : Type 0 where
+  pub fits : IfSome before (λ bytes. length bytes ≤ 268435456)
   pub certificate : Certificate
   pub printed : IsPrinted certificate
   pub read : IfSome before (λ bytes. bytes ≡ text_of certificate)

@@ -12,5 +12,5 @@ returns-in-Err-openings_of-clause-accepted g c =
 pub returns-in-Ok-roots_of-clause-solved : goal.returns-in-Ok-roots_of-clause-solved
 returns-in-Ok-roots_of-clause-solved g c =
     solved_to c.args.options.now.plies c.args.options.now.depth (g.S.Source.left c.args.source.now) _ c.in-Ok.text.items c.deref.result.now c.in-Ok-openings_of.found.items c.deref-2.result.now c.in-Ok-roots_of.roots.items
-    c.in-Ok.ensures.bytes c.deref.ensures.value c.in-Ok.ensures.end c.in-Ok-openings_of.ensures.few c.in-Ok-openings_of.ensures.lawful c.in-Ok-openings_of.ensures.openings c.in-Ok-openings_of.ensures.only
+    c.in-Ok.ensures.bytes c.in-Ok.ensures.fits c.deref.ensures.value c.in-Ok.ensures.end c.in-Ok-openings_of.ensures.few c.in-Ok-openings_of.ensures.lawful c.in-Ok-openings_of.ensures.openings c.in-Ok-openings_of.ensures.only
     c.deref-2.ensures.value c.in-Ok-roots_of.ensures
