@@ -1,7 +1,8 @@
 //! Fills the endgame tables of two and three pieces and checks their bytes.
 //!
-//! Without words it prints how many entries and positions each table has. With the word `time` it prints how long
-//! filling and checking take, in milliseconds of the clock.
+//! Without words it prints how many entries each table has, how many positions are won, lost and drawn for the side to
+//! move, and the greatest rank. With the word `time` it prints how long filling and checking take, in milliseconds of the
+//! clock.
 #![tactic(auto)]
 
 ghost use Rattle.std.specs.Prelude.{◌≡◌, ◌⊎◌};
@@ -9,21 +10,46 @@ ghost use Rattle.std.specs.Prelude.{◌≡◌, ◌⊎◌};
 mod measure;
 
 use anyhow::Result;
-use endgame_table::{NO_POSITION, Table, fill, table_bytes};
+use endgame_table::{Table, answer_of, fill, table_bytes};
 use std::alloc::Global;
 use std::env;
+use strategy_certificate::Answer;
 use table_checker::check_table;
 
-/// How many indices of the table are positions.
-fn positions(table: &Table) -> usize {
-    table
-        .numbers()
-        .iter()
-        .filter(|number| **number != NO_POSITION)
-        .count()
+/// How many positions are won, lost and drawn for the side to move, and the greatest rank.
+struct Tally {
+    won: usize,
+    lost: usize,
+    drawn: usize,
+    rank: u32,
 }
 
-/// Fills a table, checks its bytes, and prints how many entries and positions it has.
+/// What the table answers, counted.
+fn count_answers(table: &Table) -> Tally {
+    let mut tally = Tally {
+        won: 0,
+        lost: 0,
+        drawn: 0,
+        rank: 0,
+    };
+    for number in table.numbers() {
+        match answer_of(*number) {
+            Some(Answer::Win(rank)) => {
+                tally.won = tally.won.saturating_add(1);
+                tally.rank = tally.rank.max(rank);
+            }
+            Some(Answer::Loss(rank)) => {
+                tally.lost = tally.lost.saturating_add(1);
+                tally.rank = tally.rank.max(rank);
+            }
+            Some(Answer::Draw) => tally.drawn = tally.drawn.saturating_add(1),
+            None => {}
+        }
+    }
+    tally
+}
+
+/// Fills a table, checks its bytes, and prints what it answers, counted.
 fn tell(rt: &(impl Print + Alloc<A = Global>), pieces: u8) -> Result<()>
     requires { (pieces ≡ 2) ⊎ (pieces ≡ 3) }
 {
@@ -31,8 +57,15 @@ fn tell(rt: &(impl Print + Alloc<A = Global>), pieces: u8) -> Result<()>
     let bytes = table_bytes(rt.alloc(), &table)?;
     let checked = check_table(rt.alloc(), &bytes)?;
     let entries = checked.len();
-    let count = positions(&checked);
-    println!(rt; "table {pieces}: {entries} entries, {count} positions")?;
+    let Tally {
+        won,
+        lost,
+        drawn,
+        rank,
+    } = count_answers(&checked);
+    println!(rt;
+        "table {pieces}: {entries} entries, {won} won, {lost} lost, {drawn} drawn, greatest rank {rank}"
+    )?;
     Ok(())
 }
 
