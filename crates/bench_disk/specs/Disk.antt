@@ -1,5 +1,5 @@
 -- What a call of a disk does to its bytes, to what a crash may leave of them, to its moment and to its count of faults.
-use Rattle.std.specs.Prelude.{◌≡◌, ◌⊎◌, ℕ, ◌+◌, ◌-◌, ◌^◌, ◌<◌, ◌≤◌, min, max, Bool, IsTrue, List, ◌++◌, length, take, drop, slice_index, Result, IsErr, OnOk, OnErr}
+use Rattle.std.specs.Prelude.{◌≡◌, ◌⊎◌, ℕ, ◌+◌, ◌-◌, ◌^◌, ◌<◌, ◌≤◌, max, Bool, IsTrue, List, ◌++◌, length, take, drop, slice_index, Result, IsErr, OnOk}
 
 -- an honest disk: its type says that it tells its bytes, and then it keeps every clause on them
 abbrev pub IsHonest : Bool → Type 0
@@ -8,6 +8,12 @@ IsHonest tells = IsTrue tells
 -- the bytes with these in the place of what stood there, longer where these end later
 abbrev pub written : List ℕ → ℕ → List ℕ → List ℕ
 written old at bytes = take at old ++ bytes ++ drop (at + length bytes) old
+
+-- So many bytes from a place on were read into the front of a buffer: as many as there are and as it has room for.
+-- Behind them the buffer stays.
+pub record HasRead (at : ℕ) (bytes : List ℕ) (count : ℕ) (old new : List ℕ) : Type 0 where
+  pub number : count ≡ length (take (length old) (drop at bytes))
+  pub filled : new ≡ take (length old) (drop at bytes) ++ drop count old
 
 -- Torn by a range of so many bytes from a place on: every byte outside of the range stays. Inside of it and past the
 -- old end there may stand anything, and the end lies anywhere from the old one to that of the range.
@@ -40,12 +46,3 @@ pub record TakesOneMoment {T E : Type 0} (before now : ℕ) (result : Result T E
   pub at_most_one : now ≤ before + 1
   pub ok : OnOk result (now ≡ before + 1)
   pub last : before ≡ 2 ^ 64 - 1 → IsErr result × (now ≡ before)
-
--- a count of faults is higher than before, or stands at its last value
-abbrev pub Rose : ℕ → ℕ → Type 0
-Rose before now = min (before + 1) (2 ^ 64 - 1) ≤ now
-
--- the count of faults never falls, and a fault is answered only where it rose
-pub record HasCause {T E : Type 0} (before now : ℕ) (result : Result T E) : Type 0 where
-  pub later : before ≤ now
-  pub fault : OnErr result (Rose before now)

@@ -1,8 +1,9 @@
 pub mod Calls
 pub mod CallLaws
 pub mod Disk
-pub mod FaultDisk
-pub mod FuseDisk
+pub mod FailingDisk
+pub mod Handle
+pub mod HandleLaws
 pub mod MemoryDisk
 pub mod Runs
 pub mod Torn

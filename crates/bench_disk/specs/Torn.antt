@@ -1,6 +1,6 @@
 -- Laws of what is torn by a range.
 use Rattle.std.specs.Prelude.{◌≡◌, ◌⊎◌, ℕ, ◌+◌, ◌-◌, ◌<◌, ◌≤◌, min, List, ◌++◌, length, take, drop, get_or, refl}
-use Rattle.std.proofs.Common.{sym, ◌∙◌, ap, inl, inr, arith, length-append, length-take, length-drop}
+use Rattle.std.proofs.Common.{sym, ◌∙◌, ap, inl, inr, ⊎_elim, arith, length-append, length-take, length-drop}
 use Rattle.std.proofs.lemmas.List.{get_or-take, get_or-drop, get_or_append_left, get_or-append_right, ext_get_or}
 use Rattle.bench_disk.specs.Disk.{written, IsTorn}
 
@@ -43,3 +43,11 @@ pub drop-torn : (at n : ℕ) (old new : List ℕ) → IsTorn at n old new → at
 drop-torn at n old new torn fits =
     ext_get_or 0 (drop (at + n) new) (drop (at + n) old) (omega (arith, torn.no_shorter, torn.no_longer, length-drop (at + n) old, length-drop (at + n) new))
     (λ k l. get_or-drop (at + n) new k 0 ∙ torn.outside (at + n + k) (omega (arith, l, torn.no_shorter, torn.no_longer, length-drop (at + n) new)) (inr (omega arith)) ∙ sym (get_or-drop (at + n) old k 0))
+
+-- what is torn within a range that was torn is torn by that range
+pub torn_then : (at count from n : ℕ) (old mid new : List ℕ) → at ≤ from → from + n ≤ at + count → IsTorn at count old mid → IsTorn from n mid new → IsTorn at count old new
+torn_then at count from n old mid new low high first second = record {
+  no_shorter = omega (arith, first.no_shorter, second.no_shorter);
+  no_longer = omega (arith, first.no_longer, second.no_longer);
+  outside = λ k l out. second.outside k (omega (arith, first.no_shorter)) (⊎_elim (λ before. inl (omega arith)) (λ behind. inr (omega arith)) out) ∙ first.outside k l out;
+}

@@ -1,6 +1,7 @@
 //! A disk as the layers above see it.
-ghost use Rattle.std.specs.Prelude.{◌≡◌, ◌+◌, ◌<◌, ◌≤◌, ◌^◌, ◌++◌, List, ℕ, Bool, length, take, drop, min, IfOk, OnOk, IsErr};
-ghost use Rattle.bench_disk.specs.Disk.{AddsNone, AddsOnlyTorn, GoesOn, HasCause, IsHonest, NothingPending, TakesOneMoment, written};
+ghost use Rattle.std.specs.Prelude.{◌≡◌, ◌+◌, ◌≤◌, ◌^◌, List, ℕ, Bool, length, IfOk, OnOk};
+ghost use Rattle.bench_disk.specs.Disk.{HasRead, IsHonest, NothingPending, written};
+ghost use Rattle.bench_disk.specs.Runs.{IsCall, OnlyLooks, OnlySyncs, OnlyWrites};
 
 use thiserror::Error;
 
@@ -41,44 +42,38 @@ pub trait Disk {
     fn len(&mut self) -> Result<u64, DiskFault>
         ensures length { IsHonest TELLS → IfOk result (λ n. n ≡ length (reads self.old)) }
         ensures bound { IfOk result (λ n. n ≤ 2 ^ 62) }
-        ensures reads { IsHonest TELLS → reads self.new ≡ reads self.old }
-        ensures images { IsHonest TELLS → AddsNone (images self.old) (images_since self.new (moment self.old)) }
-        ensures stays { IsHonest TELLS → AddsNone (images self.new) (images self.old) }
-        ensures since { IsHonest TELLS → GoesOn (moment self.old) (images_since self.old) (images_since self.new) }
-        ensures moment { TakesOneMoment (moment self.old) (moment self.new) result }
-        ensures cause { HasCause (faults self.old) (faults self.new) result };
+        ensures looks { IsHonest TELLS → OnlyLooks reads images images_since moment self.old
+            self.new }
+        ensures call { IsCall moment faults self.old self.new result };
 
     /// Fills the front of `into` with the bytes from place `at` on, and gives their count. It is less than asked only
     /// where the bytes end. Behind them `into` stays as it was; after a fault it may hold anything.
     fn read_at(&mut self, at: u64, into: &mut [u8]) -> Result<usize, DiskFault>
-        ensures bytes { IsHonest TELLS → IfOk result (λ n. let front = take (length into.old) (drop at (reads self.old)) in (n ≡ length front) × (into.new ≡ front ++ drop n into.old)) }
+        ensures bytes { IsHonest TELLS → IfOk result
+            (λ n. HasRead at (reads self.old) n into.old into.new) }
         ensures bound { IfOk result (λ n. n ≤ length into.old) }
-        ensures reads { IsHonest TELLS → reads self.new ≡ reads self.old }
-        ensures images { IsHonest TELLS → AddsNone (images self.old) (images_since self.new (moment self.old)) }
-        ensures stays { IsHonest TELLS → AddsNone (images self.new) (images self.old) }
-        ensures since { IsHonest TELLS → GoesOn (moment self.old) (images_since self.old) (images_since self.new) }
-        ensures moment { TakesOneMoment (moment self.old) (moment self.new) result }
-        ensures cause { HasCause (faults self.old) (faults self.new) result };
+        ensures looks { IsHonest TELLS → OnlyLooks reads images images_since moment self.old
+            self.new }
+        ensures call { IsCall moment faults self.old self.new result };
 
     /// Writes these bytes from place `at` on, over what stands there and past the end. A write that would end past
     /// place 2^62 is refused.
     fn write_at(&mut self, at: u64, from: &[u8]) -> Result<(), DiskFault>
         requires { IsHonest TELLS → at ≤ length (reads self.old) }
-        ensures written { IsHonest TELLS → OnOk result (reads self.new ≡ written (reads self.old) at from.now) }
+        ensures written { IsHonest TELLS → OnOk result
+            (reads self.new ≡ written (reads self.old) at from.now) }
         ensures bound { OnOk result (at + length from.now ≤ 2 ^ 62) }
-        ensures images { IsHonest TELLS → AddsOnlyTorn at (length from.now) (images self.old) (images_since self.new (moment self.old)) }
-        ensures since { IsHonest TELLS → GoesOn (moment self.old) (images_since self.old) (images_since self.new) }
-        ensures moment { TakesOneMoment (moment self.old) (moment self.new) result }
-        ensures cause { HasCause (faults self.old) (faults self.new) result };
+        ensures writes { IsHonest TELLS → OnlyWrites images images_since moment at (length from.now)
+            self.old self.new }
+        ensures call { IsCall moment faults self.old self.new result };
 
     /// Makes what was written outlast a crash: behind it nothing is pending.
     fn sync(&mut self) -> Result<(), DiskFault>
-        ensures durable { IsHonest TELLS → OnOk result (NothingPending (reads self.new) (images self.new)) }
-        ensures reads { IsHonest TELLS → reads self.new ≡ reads self.old }
-        ensures images { IsHonest TELLS → AddsNone (images self.old) (images_since self.new (moment self.old)) }
-        ensures since { IsHonest TELLS → GoesOn (moment self.old) (images_since self.old) (images_since self.new) }
-        ensures moment { TakesOneMoment (moment self.old) (moment self.new) result }
-        ensures cause { HasCause (faults self.old) (faults self.new) result };
+        ensures durable { IsHonest TELLS → OnOk result
+            (NothingPending (reads self.new) (images self.new)) }
+        ensures syncs { IsHonest TELLS → OnlySyncs reads images images_since moment self.old
+            self.new }
+        ensures call { IsCall moment faults self.old self.new result };
 
     /// The moment. This is no call of the device.
     fn moment(&self) -> u64
@@ -92,11 +87,14 @@ pub trait Disk {
     ghost reads_is_image: { (disk : Self) → IsHonest TELLS → images disk (reads disk) };
 
     /// An image of now is one since every moment up to now.
-    ghost now_counts: { (disk : Self) (t : ℕ) (image : List ℕ) → IsHonest TELLS → t ≤ moment disk → images disk image → images_since disk t image };
+    ghost now_counts: { (disk : Self) (t : ℕ) (image : List ℕ) → IsHonest TELLS → t ≤ moment disk →
+        images disk image → images_since disk t image };
 
     /// An image since a moment is one since each earlier moment.
-    ghost earlier_counts: { (disk : Self) (s t : ℕ) (image : List ℕ) → IsHonest TELLS → s ≤ t → images_since disk t image → images_since disk s image };
+    ghost earlier_counts: { (disk : Self) (s t : ℕ) (image : List ℕ) → IsHonest TELLS → s ≤ t →
+        images_since disk t image → images_since disk s image };
 
     /// An image since the present moment is one of now.
-    ghost only_now: { (disk : Self) (image : List ℕ) → IsHonest TELLS → images_since disk (moment disk) image → images disk image };
+    ghost only_now: { (disk : Self) (image : List ℕ) → IsHonest TELLS →
+        images_since disk (moment disk) image → images disk image };
 }

@@ -1,74 +1,42 @@
-//! A disk over a file of the operating system. It tells no content: what it stands for is trusted.
-ghost use Rattle.std.specs.Prelude.{◌≡◌, ◌+◌, ◌<◌, ◌≤◌, ◌^◌, [], false, length, IfOk, IfSome};
-ghost use Rattle.bench_disk.specs.Disk.{HasCause, TakesOneMoment};
+//! A file of the operating system. It tells no content: what it stands for is trusted.
+ghost use Rattle.std.specs.Prelude.{◌≡◌, ◌≤◌, [], false, length, IfOk};
 
-use crate::{Disk, DiskFault, MAX_LEN};
+use crate::{FileHandle, HandleDisk, MAX_LEN};
 use std::fs::{File, Files};
 use std::io;
 use std::os::unix::fs::FileExt;
 use std::path::Path;
 
-/// A file at a path, which is opened, or made where it is missing, at the first call of the device. Where that is
-/// refused the call fails, and a later one tries again.
-///
-/// A sync covers the data and the length, and the first one also the file's entry in its folder, since the file may be
-/// new.
+/// A file at a path, which is opened, or made where it is missing, at the first call. Where that is refused the call
+/// fails, and a later one tries again.
 #[derive(Drop)]
-pub struct FileDisk<R: Files<File = File> + Drop> {
+pub struct PathFile<R: Files<File = File> + Drop> {
     rt: R,
     path: String,
     file: Option<File>,
-    is_entry_synced: bool,
-    moment: u64,
-    faults: u64,
 }
 
-// Reads until the buffer is full or the file ends.
-fn read_full(file: &File, at: u64, into: &mut [u8]) -> io::Result<usize>
-    ensures { IfOk result (λ n. n ≤ length into.old) }
-{
-    let mut filled = 0;
-    while filled < into.len() {
-        let count = file.read_at(&mut into[filled..], at.saturating_add(filled as u64))?;
-        if count == 0 {
-            break;
-        }
-        filled += count;
-    }
-    Ok(filled)
-}
+/// A disk over a file at a path.
+pub type FileDisk<R> = HandleDisk<PathFile<R>>;
 
-// Syncs the folder that a file stands in.
-fn sync_folder<R: Files<File = File>>(rt: &R, path: &str) -> io::Result<()> {
-    let folder = match Path::new(path).parent() {
-        Some(folder) if !folder.as_str().is_empty() => folder,
-        _ => Path::new("."),
-    };
-    File::open(rt, folder)?.sync_all()
-}
-
-impl<R: Files<File = File> + Drop> FileDisk<R> {
+impl<R: Files<File = File> + Drop> HandleDisk<PathFile<R>> {
     /// The disk over the file at this path. No call reaches the file system yet.
     pub fn new(rt: R, path: String) -> FileDisk<R>
         ensures moment { result.moment ≡ 0 }
         ensures faults { result.faults ≡ 0 }
-        ensures path { result.path ≡ path }
+        ensures path { result.file.path ≡ path }
     {
-        FileDisk {
+        HandleDisk::over(PathFile {
             rt,
             path,
             file: None,
-            is_entry_synced: false,
-            moment: 0,
-            faults: 0,
-        }
+        })
     }
+}
 
-    // Opens or makes the file where it is not open.
-    fn open(&mut self) -> io::Result<()>
-        ensures moment { self.new.moment ≡ self.old.moment }
-        ensures faults { self.new.faults ≡ self.old.faults }
-    {
+impl<R: Files<File = File> + Drop> PathFile<R> {
+    /// Opens or makes the file where it is not open.
+    fn open(&mut self) -> io::Result<()> {
         if self.file.is_none() {
             let file = File::options()
                 .read(true)
@@ -80,71 +48,25 @@ impl<R: Files<File = File> + Drop> FileDisk<R> {
         Ok(())
     }
 
-    // Counts what a call of the file gave.
-    fn counted<T: Drop>(&mut self, outcome: Option<T>) -> Result<T, DiskFault>
-        ensures value { IfOk result (λ value. outcome ≡ Some value) }
-        ensures moment { TakesOneMoment self.old.moment self.new.moment result }
-        ensures cause { HasCause self.old.faults self.new.faults result }
-    {
-        if let Some(value) = outcome
-            && self.moment < u64::MAX
-        {
-            self.moment += 1;
-            return Ok(value);
+    /// The file, where it is open.
+    fn opened(&self) -> io::Result<&File> {
+        match &self.file {
+            Some(file) => Ok(file),
+            None => Err(io::Error::from(io::ErrorKind::NotFound)),
         }
-        self.faults = self.faults.saturating_add(1);
-        Err(DiskFault)
-    }
-
-    fn file_len(&mut self) -> Option<u64>
-        ensures bound { IfSome result (λ n. n ≤ 2 ^ 62) }
-        ensures moment { self.new.moment ≡ self.old.moment }
-        ensures faults { self.new.faults ≡ self.old.faults }
-    {
-        self.open().ok()?;
-        let len = self.file.as_ref()?.metadata().ok()?.len();
-        if len <= MAX_LEN { Some(len) } else { None }
-    }
-
-    fn read(&mut self, at: u64, into: &mut [u8]) -> Option<usize>
-        ensures bound { IfSome result (λ n. n ≤ length into.old) }
-        ensures moment { self.new.moment ≡ self.old.moment }
-        ensures faults { self.new.faults ≡ self.old.faults }
-    {
-        self.open().ok()?;
-        if at >= MAX_LEN {
-            return Some(0);
-        }
-        read_full(self.file.as_ref()?, at, into).ok()
-    }
-
-    fn write(&mut self, at: u64, from: &[u8]) -> Option<()>
-        ensures bound { IfSome result (λ _. at + length from.now ≤ 2 ^ 62) }
-        ensures moment { self.new.moment ≡ self.old.moment }
-        ensures faults { self.new.faults ≡ self.old.faults }
-    {
-        if at > MAX_LEN || from.len() as u64 > MAX_LEN - at {
-            return None;
-        }
-        self.open().ok()?;
-        self.file.as_ref()?.write_all_at(from, at).ok()
-    }
-
-    fn flush(&mut self) -> Option<()>
-        ensures moment { self.new.moment ≡ self.old.moment }
-        ensures faults { self.new.faults ≡ self.old.faults }
-    {
-        self.open().ok()?;
-        self.file.as_ref()?.sync_all().ok()?;
-        if !self.is_entry_synced {
-            sync_folder(&self.rt, self.path.as_str()).ok()?;
-            self.is_entry_synced = true;
-        }
-        Some(())
     }
 }
 
-impl<R: Files<File = File> + Drop> Disk for FileDisk<R> {
+/// Syncs the folder that a file stands in.
+fn sync_folder_of<R: Files<File = File>>(rt: &R, path: &str) -> io::Result<()> {
+    let folder = match Path::new(path).parent() {
+        Some(folder) if !folder.as_str().is_empty() => folder,
+        _ => Path::new("."),
+    };
+    File::open(rt, folder)?.sync_all()
+}
+
+impl<R: Files<File = File> + Drop> FileHandle for PathFile<R> {
     const TELLS: bool = false;
 
     ghost TELLS = { false };
@@ -156,9 +78,9 @@ impl<R: Files<File = File> + Drop> Disk for FileDisk<R> {
 
     ghost images_since = { λ _ _ _. Unit {0} };
 
-    ghost moment = { λ disk. disk.moment };
+    ghost moment = { λ _. 0 };
 
-    ghost faults = { λ disk. disk.faults };
+    ghost is_entered = { λ _. false };
 
     ghost reads_is_image = { λ _ _. tt };
 
@@ -168,31 +90,33 @@ impl<R: Files<File = File> + Drop> Disk for FileDisk<R> {
 
     ghost only_now = { λ _ _ _ _. tt };
 
-    fn len(&mut self) -> Result<u64, DiskFault> {
-        let outcome = self.file_len();
-        self.counted(outcome)
+    fn len(&mut self) -> io::Result<u64> {
+        self.open()?;
+        Ok(self.opened()?.metadata()?.len())
     }
 
-    fn read_at(&mut self, at: u64, into: &mut [u8]) -> Result<usize, DiskFault> {
-        let outcome = self.read(at, into);
-        self.counted(outcome)
+    fn read_at(&mut self, at: u64, into: &mut [u8]) -> io::Result<usize> {
+        self.open()?;
+        if at > MAX_LEN {
+            return Ok(0);
+        }
+        self.opened()?.read_at(into, at)
     }
 
-    fn write_at(&mut self, at: u64, from: &[u8]) -> Result<(), DiskFault> {
-        let outcome = self.write(at, from);
-        self.counted(outcome)
+    fn write_at(&mut self, at: u64, from: &[u8]) -> io::Result<usize> {
+        self.open()?;
+        self.opened()?.write_at(from, at)
     }
 
-    fn sync(&mut self) -> Result<(), DiskFault> {
-        let outcome = self.flush();
-        self.counted(outcome)
+    fn sync(&mut self) -> io::Result<()> {
+        self.open()?;
+        self.opened()?.sync_all()
     }
 
-    fn moment(&self) -> u64 {
-        self.moment
+    fn sync_folder(&mut self) -> io::Result<()> {
+        self.open()?;
+        sync_folder_of(&self.rt, self.path.as_str())
     }
 
-    fn faults(&self) -> u64 {
-        self.faults
-    }
+    fn pause(&mut self) {}
 }

@@ -6,23 +6,31 @@
 //! left after a crash. A fault is never answered without its count.
 //!
 //! [`MemoryDisk`] is such a disk and gives any image that a crash may leave. [`FuseDisk`] and [`FaultDisk`] fail at
-//! the calls that one picks. [`FileDisk`] is the edge to a real file: it tells no content, and what it stands for is
-//! trusted.
+//! the calls that one picks. [`HandleDisk`] is a disk over any [`FileHandle`], which may do less than was asked:
+//! [`FileDisk`] is that over a file of the operating system, which tells no content and whose five calls are trusted,
+//! and [`ShortDisk`] is that over a file in memory that does little at a call, for tests.
 #![tactic(auto)]
 
 mod call;
 mod disk;
-mod fault_disk;
+mod failing_disk;
+mod failing_plan;
 mod file_disk;
-mod fuse_disk;
+mod file_handle;
+mod handle_disk;
 mod memory_disk;
+mod short_file;
 #[cfg(test)]
 mod tests;
 mod torn;
+mod whole;
 
 pub use call::Call;
 pub use disk::{Disk, DiskFault, MAX_LEN};
-pub use fault_disk::FaultDisk;
-pub use file_disk::FileDisk;
-pub use fuse_disk::FuseDisk;
+pub use failing_disk::{FailingDisk, FaultDisk, FuseDisk};
+pub use failing_plan::{Fuse, Numbers, Plan};
+pub use file_disk::{FileDisk, PathFile};
+pub use file_handle::FileHandle;
+pub use handle_disk::HandleDisk;
 pub use memory_disk::MemoryDisk;
+pub use short_file::{ShortDisk, ShortFile};

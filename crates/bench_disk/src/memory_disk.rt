@@ -79,7 +79,7 @@ impl MemoryDisk {
         }
     }
 
-    // The bytes of the last sync.
+    /// The bytes of the last sync.
     fn without_pending(&self) -> Result<MemoryDisk, AllocError>
         ensures fresh { IfOk result (λ disk. IsNew disk (reads_of disk)) }
         ensures lost { IfOk result (λ disk. reads_of disk ≡ synced_of self.now) }
@@ -98,7 +98,7 @@ impl MemoryDisk {
         MemoryDisk::of(self.alloc, synced)
     }
 
-    // The bytes of the last sync, torn by each write since.
+    /// The bytes of the last sync, torn by each write since.
     fn with_torn(&self, mut picks: Picks) -> Result<MemoryDisk, AllocError>
         ensures image { IfOk result (λ disk. images_of self.now (reads_of disk)) }
         ensures fresh { IfOk result (λ disk. IsNew disk (reads_of disk)) }
@@ -118,13 +118,16 @@ impl MemoryDisk {
         MemoryDisk::of(self.alloc, image)
     }
 
-    // Writes and keeps the call. It takes its memory first.
+    /// Writes and keeps the call. It takes its memory first.
     fn write(&mut self, at: usize, from: &[u8]) -> Result<(), AllocError>
         requires { at ≤ length self.old.bytes.items }
-        ensures ok { OnOk result ((v : _) × (v.items ≡ from.now) × (self.new.calls.items ≡ self.old.calls.items ++ (Call.Write at v) ∷ [])) }
-        ensures bytes { OnOk result (self.new.bytes.items ≡ written self.old.bytes.items at from.now) }
+        ensures ok { OnOk result ((v : _) × (v.items ≡ from.now) ×
+            (self.new.calls.items ≡ self.old.calls.items ++ (Call.Write at v) ∷ [])) }
+        ensures bytes { OnOk result (self.new.bytes.items ≡ written self.old.bytes.items at
+            from.now) }
         ensures bound { OnOk result (at + length from.now ≤ 2 ^ 62) }
-        ensures err { OnErr result ((self.new.calls.items ≡ self.old.calls.items) × (self.new.bytes.items ≡ self.old.bytes.items)) }
+        ensures err { OnErr result ((self.new.calls.items ≡ self.old.calls.items) ×
+            (self.new.bytes.items ≡ self.old.bytes.items)) }
         ensures start { self.new.start.items ≡ self.old.start.items }
         ensures faults { self.new.faults ≡ self.old.faults }
     {
@@ -159,13 +162,17 @@ impl Disk for MemoryDisk {
 
     ghost use Rattle.bench_disk.specs.CallLaws as laws;
 
-    ghost reads_is_image = { λ disk _. laws.reads_is_image disk.start.items disk.calls.items disk.bytes.items disk.replayed };
+    ghost reads_is_image = { λ disk _. laws.reads_is_image disk.start.items disk.calls.items
+        disk.bytes.items disk.replayed };
 
-    ghost now_counts = { λ disk t image _ le now. laws.now_counts disk.start.items disk.calls.items t image le now };
+    ghost now_counts = { λ disk t image _ le now. laws.now_counts disk.start.items disk.calls.items
+        t image le now };
 
-    ghost earlier_counts = { λ disk s t image _ le since. laws.earlier_counts disk.start.items (reverse disk.calls.items) s t image le since };
+    ghost earlier_counts = { λ disk s t image _ le since. laws.earlier_counts disk.start.items
+        (reverse disk.calls.items) s t image le since };
 
-    ghost only_now = { λ disk image _ since. laws.only_now disk.start.items disk.calls.items image since };
+    ghost only_now = { λ disk image _ since. laws.only_now disk.start.items disk.calls.items image
+        since };
 
     fn len(&mut self) -> Result<u64, DiskFault> {
         if self.calls.push(Call::Look).is_err() {

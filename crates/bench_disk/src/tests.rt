@@ -1,10 +1,13 @@
 //! Each kind of disk, called through the bound, and what a crash leaves.
-use crate::{Disk, DiskFault, FaultDisk, FileDisk, FuseDisk, MemoryDisk};
+use crate::{
+    Disk, DiskFault, FaultDisk, FileDisk, Fuse, FuseDisk, HandleDisk, MemoryDisk, Numbers,
+    ShortDisk,
+};
 use std::alloc::Global;
 use std::fs;
 use std::test::Fail;
 
-// Writes these bytes at place 0 and syncs, then reads at most eight bytes from place 1 on.
+/// Writes these bytes at place 0 and syncs, then reads at most eight bytes from place 1 on.
 fn write_and_read<D: Disk>(
     disk: &mut D,
     from: &[u8],
@@ -15,7 +18,7 @@ fn write_and_read<D: Disk>(
     disk.read_at(1, into)
 }
 
-// Which of so many syncs were Ok, as 1 and 0.
+/// Which of so many syncs were Ok, as 1 and 0.
 fn syncs<D: Disk>(disk: &mut D, outcomes: &mut [u8; 5]) {
     for outcome in outcomes {
         *outcome = disk.sync().is_ok() as u8;
@@ -36,7 +39,7 @@ fn memory_disk_reads_what_was_written(rt: HostRuntime) -> Result<(), Fail> {
     Ok(())
 }
 
-// Eight bytes, and three writes behind the last sync, one of which ends two bytes past the end.
+/// Eight bytes, and three writes behind the last sync, one of which ends two bytes past the end.
 fn with_three_pending(alloc: Global) -> Result<MemoryDisk, Fail> {
     let mut disk = MemoryDisk::of(alloc, [10, 11, 12, 13, 14, 15, 16, 17].to_vec(alloc)?)?;
     disk.sync()?;
@@ -146,6 +149,77 @@ fn fault_disk_fails_given_calls(rt: HostRuntime) -> Result<(), Fail> {
     Ok(())
 }
 
+#[test]
+fn disk_over_a_short_file_does_all_or_faults(rt: HostRuntime) -> Result<(), Fail> {
+    let alloc = rt.alloc();
+    let inner = MemoryDisk::of(alloc, b"draughts".to_vec(alloc)?)?;
+    let mut disk = ShortDisk::new(inner, Fuse::new(u64::MAX), 3);
+    let mut into = [0; 8];
+    assert_eq!(rt; disk.len()?, 8);
+    assert_eq!(rt; disk.read_at(0, &mut into)?, 8);
+    assert_eq!(rt; into, *b"draughts");
+    assert_eq!(rt; disk.read_at(3, &mut into)?, 5);
+    assert_eq!(rt; into, *b"ughtshts");
+    disk.write_at(4, b"GHTSMEN")?;
+    assert_eq!(rt; disk.file().disk().bytes(), b"drauGHTSMEN".as_slice());
+    assert_eq!(rt; (disk.file().syncs(), disk.file().folder_syncs()), (0, 0));
+    for _ in 0..12u64 {
+        disk.sync()?;
+    }
+    assert_eq!(rt; (disk.file().syncs(), disk.file().folder_syncs()), (12, 1));
+    assert_eq!(rt;
+        disk.file().disk().crash(0)?.bytes(),
+        b"drauGHTSMEN".as_slice()
+    );
+    assert_eq!(rt; (disk.moment(), disk.faults()), (16, 0));
+    Ok(())
+}
+
+/// The disk over a file of two bytes, of whose calls the one of this number fails.
+fn failing_at(alloc: Global, number: u64) -> Result<HandleDisk<crate::ShortFile<Numbers>>, Fail> {
+    let inner = MemoryDisk::of(alloc, [1, 2].to_vec(alloc)?)?;
+    Ok(ShortDisk::new(inner, Numbers::new([number].to_vec(alloc)?), 3))
+}
+
+#[test]
+fn disk_over_a_short_file_counts_each_fault(rt: HostRuntime) -> Result<(), Fail> {
+    // The writes of six bytes; the syncs of the folder and of the file; the reads of three and of two bytes.
+    for number in 0..6u64 {
+        let mut disk = failing_at(rt.alloc(), number)?;
+        let mut into = [0; 5];
+        let written = disk.write_at(0, &[1, 2, 3, 4, 5, 6]).is_ok();
+        assert_eq!(rt; written, number > 1, "call {number}");
+        if written {
+            let synced = disk.sync().is_ok();
+            assert_eq!(rt; synced, number > 3, "call {number}");
+            if synced {
+                assert!(rt; disk.read_at(0, &mut into).is_err());
+            } else {
+                // Behind a fault both are synced again.
+                disk.sync()?;
+                assert_eq!(rt;
+                    (disk.file().syncs(), disk.file().folder_syncs()),
+                    (1, number - 1)
+                );
+            }
+        }
+        assert_eq!(rt; disk.faults(), 1, "call {number}");
+    }
+    Ok(())
+}
+
+#[test]
+fn syncs_go_on(rt: HostRuntime) -> Result<(), Fail> {
+    let mut disk = MemoryDisk::new(rt.alloc());
+    for byte in 0..12u8 {
+        disk.write_at(0, &[byte])?;
+        disk.sync()?;
+        assert_eq!(rt; disk.crash(0)?.bytes(), [byte].as_slice());
+    }
+    assert_eq!(rt; (disk.moment(), disk.faults()), (24, 0));
+    Ok(())
+}
+
 fn remove_if_there(rt: &HostRuntime, path: &str) {
     let _ = fs::remove_file(rt, path);
 }
@@ -170,6 +244,47 @@ fn file_disk_keeps_a_new_file(rt: HostRuntime) -> Result<(), Fail> {
     assert_eq!(rt; disk.read_at(3, &mut into)?, 0);
     assert_eq!(rt; disk.read_at(u64::MAX, &mut into)?, 0);
     drop(disk);
+    fs::remove_file(&rt, path)?;
+    Ok(())
+}
+
+/// 200,003 bytes, more than one call of the system need take, of which none stands a block behind its like.
+fn long_bytes(alloc: Global) -> Result<Vec<u8>, Fail> {
+    let bytes = (0..200_003u32).map(|i| (i % 251) as u8).collect(alloc)?;
+    Ok(bytes)
+}
+
+/// Writes the bytes to a new file at the path, and syncs.
+fn store(rt: &HostRuntime, path: &str, bytes: &[u8]) -> Result<(), Fail> {
+    remove_if_there(rt, path);
+    let mut disk = FileDisk::new(rt, String::from_str(rt.alloc(), path)?);
+    disk.write_at(0, bytes)?;
+    disk.sync()?;
+    Ok(())
+}
+
+#[test]
+fn file_disk_keeps_a_long_file(rt: HostRuntime) -> Result<(), Fail> {
+    let path = "bench_disk_long.bytes";
+    let bytes = long_bytes(rt.alloc())?;
+    store(&rt, path, &bytes)?;
+    let stored = fs::read(&rt, path)?;
+    assert!(rt; stored.as_slice() == bytes.as_slice());
+    fs::remove_file(&rt, path)?;
+    Ok(())
+}
+
+#[test]
+fn file_disk_reads_a_long_file(rt: HostRuntime) -> Result<(), Fail> {
+    let path = "bench_disk_long_read.bytes";
+    let bytes = long_bytes(rt.alloc())?;
+    store(&rt, path, &bytes)?;
+    let mut disk = FileDisk::new(&rt, String::from_str(rt.alloc(), path)?);
+    let mut into: Vec<u8> = Vec::new(rt.alloc());
+    into.resize(200_010, 9)?;
+    assert_eq!(rt; disk.read_at(0, &mut into)?, 200_003);
+    assert!(rt; into.get(..200_003) == Some(bytes.as_slice()));
+    assert!(rt; into.get(200_003..) == Some([9; 7].as_slice()));
     fs::remove_file(&rt, path)?;
     Ok(())
 }
@@ -204,7 +319,7 @@ fn file_disk_counts_what_is_refused(rt: HostRuntime) -> Result<(), Fail> {
     assert_eq!(rt; disk.read_at(0, &mut into), Err(DiskFault));
     assert_eq!(rt; disk.write_at(0, b"x"), Err(DiskFault));
     assert_eq!(rt; disk.sync(), Err(DiskFault));
-    assert_eq!(rt; (disk.moment(), disk.faults()), (0, 4));
+    assert_eq!(rt; (disk.moment(), disk.faults()), (4, 4));
     drop(disk);
     let text = fs::read_to_string(&rt, path)?;
     assert_eq!(rt; text.as_str(), "kept");

@@ -11,13 +11,14 @@ pub struct Picks {
 }
 
 impl Picks {
+    /// The numbers of this choice.
     pub fn new(choice: u64) -> Picks
         ensures { result.state ≡ choice }
     {
         Picks { state: choice }
     }
 
-    // The generator splitmix64 of Steele, Lea and Flood (2014).
+    /// The generator splitmix64 of Steele, Lea and Flood (2014).
     fn next(&mut self) -> u64 {
         self.state = self.state.wrapping_add(0x9e37_79b9_7f4a_7c15);
         let mut mixed = self.state;
@@ -26,7 +27,7 @@ impl Picks {
         mixed ^ (mixed >> 31)
     }
 
-    // A place from the low one up to the high one, both included.
+    /// A place from the low one up to the high one, both included.
     fn place(&mut self, low: usize, high: usize) -> usize
         requires { low ≤ high }
         ensures at_least { low ≤ result }
@@ -40,7 +41,7 @@ impl Picks {
     }
 }
 
-// What a crash leaves of a write.
+/// What a crash leaves of a write.
 #[derive(Clone, Copy)]
 enum Fate {
     Lost,
@@ -50,6 +51,7 @@ enum Fate {
 }
 
 impl Fate {
+    /// The next fate.
     fn pick(picks: &mut Picks) -> Fate {
         match picks.next() % 4 {
             0 => Fate::Lost,
@@ -58,7 +60,7 @@ impl Fate {
         }
     }
 
-    // A byte of the range, or one past the old end: there the old one is missing, before the range the new one.
+    /// A byte of the range, or one past the old end: there the old one is missing, before the range the new one.
     fn byte(self, old: Option<u8>, new: Option<u8>, picks: &mut Picks) -> u8 {
         let picked = picks.next();
         let any = (picked % 256) as u8;
@@ -73,7 +75,7 @@ impl Fate {
         }
     }
 
-    // Where the file ends, from the old end up to the end that it has with the whole write.
+    /// Where the file ends, from the old end up to the end that it has with the whole write.
     fn end(self, old: usize, whole: usize, picks: &mut Picks) -> usize
         requires { old ≤ whole }
         ensures at_least { old ≤ result }

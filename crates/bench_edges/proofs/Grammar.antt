@@ -1,5 +1,5 @@
 -- Which words say a command, which begin one, and where other words are refused.
-use Rattle.std.proofs.Common.{◌≡◌, ◌≢◌, ℕ, ◌+◌, ◌<◌, ◌≤◌, ◌==◌, List, [], ◌∷◌, ◌++◌, length, take, drop, get_or, Result, Ok, Err, IfOk, IfErr, unwrap_or, codes, decimal, Bool, true, false, refl, ap, sym, ◌∙◌, subst, append_assoc, arith, rules}
+use Rattle.std.proofs.Common.{◌≡◌, ◌≢◌, ℕ, ◌+◌, ◌<◌, ◌≤◌, ◌==◌, List, [], ◌∷◌, ◌++◌, length, take, drop, get_or, Result, Ok, Err, IfOk, IfErr, unwrap_or, inl, codes, decimal, Bool, true, false, refl, ap, sym, ◌∙◌, subst, append_assoc, arith, rules}
 use Rattle.std.proofs.lemmas.Grind.{common_steps}
 use Rattle.std.proofs.lemmas.Fmt.{decimal_injective}
 use Rattle.std.proofs.lemmas.List.{take-append-drop, take_all}
@@ -10,8 +10,9 @@ use Rattle.bench_edges.specs.declared.words.Command.{Command}
 use Rattle.bench_edges.specs.declared.words.Command.TheVariants.{Solve, Verify, MakeTable, TableCheck}
 use Rattle.bench_edges.specs.declared.words.Options.{Options}
 use Rattle.bench_edges.specs.declared.words.WordsRefusal.{WordsRefusal}
-use Rattle.bench_edges.specs.Words.{setting_words, number_for, SaysSolve, SaysTable, SaysPlain, Says, IsPlain, Begins, IsRefusedAt}
-use Rattle.bench_edges.proofs.Settings.{cons_head, cons_tail, same_settings}
+use Rattle.bench_edges.specs.Words.{setting_words, number_for, SaysSolve, SaysTable, SaysPlain, Says, IsPlain, IsWithinLimits, Begins, IsRefusedAt}
+use Rattle.strategy_certificate.specs.Tables.{IsTableSize}
+use Rattle.bench_edges.proofs.Settings.{cons_head, cons_tail, same_settings, within_limits, depth_limit, pieces_limit, plies_limit, is_two_or_three}
 
 -- the commands' names
 
@@ -93,7 +94,10 @@ same_options words options others first second =
     let same : second.given ≡ first.given = same_settings first.given second.given first.settings second.settings behind in
     let depth : options.depth ≡ others.depth = first.depth ∙ ap (λ g. unwrap_or (number_for (codes "--depth") g) 4) (sym same) ∙ sym second.depth in
     let plies : options.plies ≡ others.plies = first.plies ∙ ap (λ g. unwrap_or (number_for (codes "--plies") g) 200) (sym same) ∙ sym second.plies in
-    ap (λ (d : ℕ). record { depth = d; plies = options.plies }) depth ∙ ap (λ (p : ℕ). record { depth = others.depth; plies = p }) plies
+    let pieces : options.pieces ≡ others.pieces = first.pieces ∙ ap (λ g. unwrap_or (number_for (codes "--pieces") g) 2) (sym same) ∙ sym second.pieces in
+    ap (λ (d : ℕ). record { depth = d; pieces = options.pieces; plies = options.plies }) depth
+    ∙ ap (λ (k : ℕ). record { depth = others.depth; pieces = k; plies = options.plies }) pieces
+    ∙ ap (λ (p : ℕ). record { depth = others.depth; pieces = others.pieces; plies = p }) plies
 
 few_pieces : (words : List (List ℕ)) (pieces : ℕ) → SaysTable words pieces → pieces ≤ 3
 few_pieces words pieces says = let some = says.two_or_three in omega arith
@@ -188,21 +192,41 @@ one_place words first second one two =
 abbrev pub IsAnswer : List (List ℕ) → Result Command WordsRefusal → Type 0
 IsAnswer words answer = record {
   command : IfOk answer (λ command. Says words command);
+  limits : IfOk answer (λ command. IsWithinLimits command);
   each_command : (command : Command) → Says words command → answer ≡ Ok command;
   refused : IfErr answer (λ refusal. IsRefusedAt words refusal.at);
   each_refusal : (at : ℕ) → IsRefusedAt words at → answer ≡ Err (record { at = at });
 }
 
+-- the options that words say are within their limits
+pub solve_limits : (words : List (List ℕ)) (options : Options) → SaysSolve words options → IsWithinLimits (Solve options)
+solve_limits words options says = (
+  rw says.depth (within_limits (λ n. n ≤ 12) (codes "--depth") says.given 4 says.settings depth_limit (omega arith)),
+  (
+    rw says.plies (within_limits (λ n. n ≤ 200) (codes "--plies") says.given 200 says.settings plies_limit (omega arith)),
+    rw says.pieces (within_limits IsTableSize (codes "--pieces") says.given 2 says.settings (λ s is same. (let limit = pieces_limit s is same in is_two_or_three s.value limit.0 limit.1)) (inl refl)),
+  ),
+)
+
+-- and so are all numbers that they say
+says_limits : (words : List (List ℕ)) (command : Command) → Says words command → IsWithinLimits command
+says_limits words (Solve options) says = solve_limits words options says
+says_limits words Verify says = tt
+says_limits words (MakeTable pieces) says = says.two_or_three
+says_limits words TableCheck says = tt
+
 -- an answer that is right is the only one
 pub one_answer : (words : List (List ℕ)) (answer : Result Command WordsRefusal) → IfOk answer (Says words) → IfErr answer (λ refusal. IsRefusedAt words refusal.at) → IsAnswer words answer
 one_answer words (Ok first) says refused = record {
   command = says;
+  limits = says_limits words first says;
   each_command = λ command other. ap (λ c. Ok c) (one_command words first command says other);
   refused = tt;
   each_refusal = λ at refusal. absurd (refusal.no_command first says);
 }
 one_answer words (Err first) says refused = record {
   command = tt;
+  limits = tt;
   each_command = λ command other. absurd (refused.no_command command other);
   refused = refused;
   each_refusal = λ at refusal. ap (λ (at : ℕ). Err (record { at = at })) (one_place words first.at at refused refusal);

@@ -1,5 +1,4 @@
 pub mod KnownBytes
-pub mod Numbers
 pub mod Settings
 pub mod Grammar
 pub mod SolveWords

@@ -1,10 +1,12 @@
 -- Options with their numbers, as words and as what they give.
-use Rattle.std.proofs.Common.{◌≡◌, ◌≢◌, ℕ, ◌<◌, ◌≤◌, ◌^◌, List, [], ◌∷◌, ◌++◌, length, drop, get_or, Option, Some, None, inl, inr, codes, decimal, Bool, true, false, cond, Decides, refl, ap, sym, ◌∙◌, arith, rules}
+use Rattle.std.proofs.Common.{◌≡◌, ◌≢◌, ℕ, ◌<◌, ◌≤◌, ◌==◌, ◌^◌, ◌⊎◌, List, [], ◌∷◌, ◌++◌, length, drop, get_or, Option, Some, None, unwrap_or, inl, inr, codes, decimal, Bool, true, false, cond, Decides, refl, ap, sym, ◌∙◌, subst, arith, rules}
 use Rattle.std.proofs.lemmas.Fmt.{decimal_injective}
+use Rattle.std.proofs.lemmas.Grind.{common_steps}
 use Rattle.std.proofs.lemmas.Slice.Eq.{bytes_eq-Decides}
 use Rattle.std.specs.List.{flat_map}
 use Rattle.std.specs.Str.{bytes_eq}
 use Rattle.bench_edges.specs.Words.{Setting, setting_words, IsSetting, IsNew, AreSettings, number_for}
+use Rattle.strategy_certificate.specs.Tables.{IsTableSize}
 
 -- lists of words
 
@@ -21,7 +23,8 @@ not_nil x xs e = let long = ap length e in omega arith
 
 small : (s : Setting) → IsSetting s → s.value < 2 ^ 64
 small s (inl one) = omega arith
-small s (inr one) = omega arith
+small s (inr (inl one)) = omega arith
+small s (inr (inr one)) = omega arith
 
 same_setting : (s t : Setting) → IsSetting s → IsSetting t → s.name ≡ t.name → decimal s.value ≡ decimal t.value → s ≡ t
 same_setting s t first second name digits =
@@ -29,17 +32,37 @@ same_setting s t first second name digits =
     ap (λ (n : List ℕ). record { name = n; value = s.value }) name ∙ ap (λ (v : ℕ). record { name = t.name; value = v }) value
 
 -- the options' names differ
+pub depth_is_not_pieces : ◌≢◌ {A = List ℕ} (codes "--depth") (codes "--pieces")
+depth_is_not_pieces same = let third : ◌≡◌ {A = ℕ} 100 112 = ap (λ (name : List ℕ). get_or name 2 0) same in omega arith
+
 pub depth_is_not_plies : ◌≢◌ {A = List ℕ} (codes "--depth") (codes "--plies")
 depth_is_not_plies same = let third : ◌≡◌ {A = ℕ} 100 112 = ap (λ (name : List ℕ). get_or name 2 0) same in omega arith
 
--- the largest number of each
+pub pieces_is_not_plies : ◌≢◌ {A = List ℕ} (codes "--pieces") (codes "--plies")
+pieces_is_not_plies same = let fourth : ◌≡◌ {A = ℕ} 105 108 = ap (λ (name : List ℕ). get_or name 3 0) same in omega arith
+
+pub is_two_or_three : (pieces : ℕ) → 2 ≤ pieces → pieces ≤ 3 → IsTableSize pieces
+is_two_or_three pieces least most = go (pieces == 2) refl
+  where
+    go : (b : Bool) → (pieces == 2) ≡ b → IsTableSize pieces
+    go true e = inl (grind (arith, common_steps))
+    go false e = inr (grind (arith, common_steps))
+
+-- the least and the largest number of each
 pub depth_limit : (s : Setting) → IsSetting s → s.name ≡ codes "--depth" → s.value ≤ 12
 depth_limit s (inl one) same = one.1
-depth_limit s (inr one) same = absurd (depth_is_not_plies (sym same ∙ one.0))
+depth_limit s (inr (inl one)) same = absurd (depth_is_not_pieces (sym same ∙ one.0))
+depth_limit s (inr (inr one)) same = absurd (depth_is_not_plies (sym same ∙ one.0))
+
+pub pieces_limit : (s : Setting) → IsSetting s → s.name ≡ codes "--pieces" → (2 ≤ s.value) × (s.value ≤ 3)
+pieces_limit s (inl one) same = absurd (depth_is_not_pieces (sym one.0 ∙ same))
+pieces_limit s (inr (inl one)) same = one.1
+pieces_limit s (inr (inr one)) same = absurd (pieces_is_not_plies (sym same ∙ one.0))
 
 pub plies_limit : (s : Setting) → IsSetting s → s.name ≡ codes "--plies" → s.value ≤ 200
 plies_limit s (inl one) same = absurd (depth_is_not_plies (sym one.0 ∙ same))
-plies_limit s (inr one) same = one.1
+plies_limit s (inr (inl one)) same = absurd (pieces_is_not_plies (sym one.0 ∙ same))
+plies_limit s (inr (inr one)) same = one.1
 
 -- the settings that stand behind others in the same words
 pub record Splits (given whole : List Setting) (word : List ℕ) (rest : List (List ℕ)) : Type 0 where
@@ -127,3 +150,23 @@ number_for-same (g ∷ gs) next new =
 pub number_for-other : (name : List ℕ) (given : List Setting) (next : Setting) → next.name ≢ name → number_for name (given ++ next ∷ []) ≡ number_for name given
 number_for-other name [] next other = skipped (bytes_eq next.name name) (next.name ≡ name) (Some next.value) None (bytes_eq-Decides next.name name) other
 number_for-other name (g ∷ gs) next other = ap (λ (r : Option ℕ). cond (bytes_eq g.name name) (Some g.value) r) (number_for-other name gs next other)
+
+-- ---- which numbers options may have
+
+-- the number of an option is that of a setting with its name, or none
+number_from : (name : List ℕ) (given : List Setting) → AreSettings given → (number_for name given ≡ None) ⊎ ((s : Setting) × (IsSetting s × ((s.name ≡ name) × (number_for name given ≡ Some s.value))))
+number_from name [] all = inl refl
+number_from name (g ∷ gs) all = by (bytes_eq g.name name) refl (number_from name gs all.2)
+  where
+    by : (b : Bool) → bytes_eq g.name name ≡ b → (number_for name gs ≡ None) ⊎ ((s : Setting) × (IsSetting s × ((s.name ≡ name) × (number_for name gs ≡ Some s.value))))
+        → (cond b (Some g.value) (number_for name gs) ≡ None) ⊎ ((s : Setting) × (IsSetting s × ((s.name ≡ name) × (cond b (Some g.value) (number_for name gs) ≡ Some s.value))))
+    by true e rest = inr (g, (all.0, ((bytes_eq-Decides g.name name).0 e, refl)))
+    by false e rest = rest
+
+-- so it, or the default, is as the option's limits have it
+pub within_limits : (P : ℕ → Type 0) (name : List ℕ) (given : List Setting) (default : ℕ) → AreSettings given → ((s : Setting) → IsSetting s → s.name ≡ name → P s.value) → P default
+    → P (unwrap_or (number_for name given) default)
+within_limits P name given default all each other = elim (number_from name given all) [
+  | inl none ↦ subst (λ o. P (unwrap_or o default)) (sym none) other
+  | inr some ↦ subst (λ o. P (unwrap_or o default)) (sym some.1.1.1) (each some.0 some.1.0 some.1.1.0)
+]

@@ -4,17 +4,10 @@ use Rattle.std.proofs.lemmas.Grind.{common_steps}
 use Rattle.bench_edges.specs.declared.words.Command.{Command}
 use Rattle.bench_edges.specs.declared.words.Command.TheVariants.{MakeTable}
 use Rattle.bench_edges.specs.Words.{SaysTable, Says, IsPlain, Begins, IsRefusedAt}
-use Rattle.bench_edges.proofs.Settings.{cons_head, cons_tail, not_nil}
+use Rattle.bench_edges.proofs.Settings.{cons_head, cons_tail, not_nil, is_two_or_three}
 use Rattle.bench_edges.proofs.Grammar.{IsStuck, name_of, name_said, only_table, only_plain, plain_said, refused_at, refused_in}
 
 -- `table`
-
-is_two_or_three : (pieces : ℕ) → 2 ≤ pieces → pieces ≤ 3 → (pieces ≡ 2) ⊎ (pieces ≡ 3)
-is_two_or_three pieces least most = go (pieces == 2) refl
-  where
-    go : (b : Bool) → (pieces == 2) ≡ b → (pieces ≡ 2) ⊎ (pieces ≡ 3)
-    go true e = inl (grind (arith, common_steps))
-    go false e = inr (grind (arith, common_steps))
 
 -- what stands behind `table`
 table_rest : (words : List (List ℕ)) (path : List ℕ) (rest : List (List ℕ)) (command : Command) → words ≡ path ∷ codes "table" ∷ rest → Says words command → (pieces : ℕ) × ((2 ≤ pieces) × ((pieces ≤ 3) × (rest ≡ decimal pieces ∷ [])))

@@ -21,6 +21,7 @@ pub record IsReadTo (words : List (List ℕ)) (at : ℕ) (given : List Setting) 
 abbrev pub options_of : List Setting → Options
 options_of given = record {
   depth = unwrap_or (number_for (codes "--depth") given) 4;
+  pieces = unwrap_or (number_for (codes "--pieces") given) 2;
   plies = unwrap_or (number_for (codes "--plies") given) 200;
 }
 
@@ -33,6 +34,7 @@ said words path given spelling named settings = record {
   named = named;
   settings = settings;
   depth = refl;
+  pieces = refl;
   plies = refl;
 }
 

@@ -1,4 +1,5 @@
--- What a run of reads or writes does to the bytes that are known, beside std's `Appends` and `Consumes`.
+-- What a run of reads or writes does to the bytes that are known, beside std's `Appends` and
+-- `Consumes`.
 use Rattle.std.specs.Prelude.{◌≡◌, ℕ, ◌<◌, ◌≤◌, List, length, take, Option}
 use Rattle.std.specs.Io.KnownBytes.{Appends, Consumes}
 
@@ -12,4 +13,5 @@ ConsumesJust count old new = (front : List ℕ) × (length front ≡ count) × C
 
 -- known bytes grow by a front of these, and not by all
 abbrev pub AppendsFront : Option (List ℕ) → Option (List ℕ) → List ℕ → Type 0
-AppendsFront old new bytes = (count : ℕ) × (count < length bytes) × Appends old new (take count bytes)
+AppendsFront old new bytes =
+    (count : ℕ) × (count < length bytes) × Appends old new (take count bytes)

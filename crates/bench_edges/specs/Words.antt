@@ -1,6 +1,6 @@
 -- The words that the program is called with, as the manual has them.
 --
---   PATH solve [--depth N] [--plies N]
+--   PATH solve [--depth N] [--pieces K] [--plies N]
 --   PATH verify
 --   PATH table K
 --   PATH table-check
@@ -11,9 +11,11 @@ use Rattle.std.specs.Prelude.{◌≡◌, ◌≢◌, ◌⊎◌, ℕ, ◌+◌, ◌
 use Rattle.std.specs.Borrow.{Bor}
 use Rattle.std.specs.List.{flat_map}
 use Rattle.std.specs.Str.{bytes_eq}
+use Rattle.strategy_certificate.specs.Tables.{IsTableSize}
 use Rattle.bench_edges.specs.declared.words.Command.{Command}
 use Rattle.bench_edges.specs.declared.words.Command.TheVariants.{Solve, Verify, MakeTable, TableCheck}
 use Rattle.bench_edges.specs.declared.words.Options.{Options}
+use Rattle.bench_edges.specs.declared.words.TheConstants.{DEFAULT_DEPTH, MAX_DEPTH, DEFAULT_PIECES, MIN_PIECES, MAX_PIECES, DEFAULT_PLIES, MAX_PLIES}
 
 -- the bytes of each word
 abbrev pub texts : List (Bor (List ℕ)) → List (List ℕ)
@@ -30,7 +32,10 @@ setting_words s = s.name ∷ decimal s.value ∷ []
 
 -- it is an option that there is, with a number within its limits
 abbrev pub IsSetting : Setting → Type 0
-IsSetting s = ((s.name ≡ codes "--depth") × (s.value ≤ 12)) ⊎ ((s.name ≡ codes "--plies") × (s.value ≤ 200))
+IsSetting s =
+    ((s.name ≡ codes "--depth") × (s.value ≤ MAX_DEPTH))
+    ⊎ (((s.name ≡ codes "--pieces") × ((MIN_PIECES ≤ s.value) × (s.value ≤ MAX_PIECES)))
+    ⊎ ((s.name ≡ codes "--plies") × (s.value ≤ MAX_PLIES)))
 
 -- none of these has the name
 abbrev pub IsNew : List ℕ → List Setting → Type 0
@@ -58,15 +63,16 @@ pub record SaysSolve (words : List (List ℕ)) (options : Options) : Type 0 wher
   pub spelling : words ≡ solve_words path given
   pub named : path ≢ []
   pub settings : AreSettings given
-  pub depth : options.depth ≡ unwrap_or (number_for (codes "--depth") given) 4
-  pub plies : options.plies ≡ unwrap_or (number_for (codes "--plies") given) 200
+  pub depth : options.depth ≡ unwrap_or (number_for (codes "--depth") given) DEFAULT_DEPTH
+  pub pieces : options.pieces ≡ unwrap_or (number_for (codes "--pieces") given) DEFAULT_PIECES
+  pub plies : options.plies ≡ unwrap_or (number_for (codes "--plies") given) DEFAULT_PLIES
 
 -- The words say `table` with this number of pieces.
 pub record SaysTable (words : List (List ℕ)) (pieces : ℕ) : Type 0 where
   pub path : List ℕ
   pub spelling : words ≡ path ∷ codes "table" ∷ decimal pieces ∷ []
   pub named : path ≢ []
-  pub two_or_three : (pieces ≡ 2) ⊎ (pieces ≡ 3)
+  pub two_or_three : IsTableSize pieces
 
 -- The words say a command by its name alone.
 pub record SaysPlain (name : List ℕ) (words : List (List ℕ)) : Type 0 where
@@ -80,6 +86,14 @@ Says words (Solve options) = SaysSolve words options
 Says words Verify = SaysPlain (codes "verify") words
 Says words (MakeTable pieces) = SaysTable words pieces
 Says words TableCheck = SaysPlain (codes "table-check") words
+
+-- the numbers that the command names are within their limits
+abbrev pub IsWithinLimits : Command → Type 0
+IsWithinLimits (Solve options) =
+    (options.depth ≤ MAX_DEPTH) × ((options.plies ≤ MAX_PLIES) × IsTableSize options.pieces)
+IsWithinLimits Verify = Unit {0}
+IsWithinLimits (MakeTable pieces) = IsTableSize pieces
+IsWithinLimits TableCheck = Unit {0}
 
 -- the commands that are said by their name alone
 abbrev pub IsPlain : Command → Type 0

@@ -1,7 +1,8 @@
 //! A sink in memory.
 ghost use Rattle.std.specs.Prelude.{◌≡◌, ◌<◌, ◌≤◌, ◌++◌, [], Contains, IfOk, IsErr, OnErr, Some, length, min, take};
+ghost use Rattle.shared_words.specs.Counts.{one_more};
 ghost use Rattle.std.specs.Io.KnownBytes.{Appends, Keeps};
-ghost use Rattle.bench_edges.specs.Faults.{CountsFaults, one_more};
+ghost use Rattle.bench_edges.specs.Faults.{CountsFaults};
 ghost use Rattle.bench_edges.specs.MemorySink.{Store};
 
 use crate::sink::{Sink, SinkFault};

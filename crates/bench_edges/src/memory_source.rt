@@ -1,7 +1,8 @@
 //! A source in memory.
 ghost use Rattle.std.specs.Prelude.{◌≡◌, ◌↔◌, ◌<◌, ◌≤◌, ◌++◌, Contains, IfOk, IsErr, OnErr, Some, length, min, take, drop};
+ghost use Rattle.shared_words.specs.Counts.{one_more};
 ghost use Rattle.std.specs.Io.KnownBytes.{Consumes, IsAtEnd, Keeps};
-ghost use Rattle.bench_edges.specs.Faults.{CountsFaults, one_more};
+ghost use Rattle.bench_edges.specs.Faults.{CountsFaults};
 ghost use Rattle.bench_edges.specs.MemorySource.{Supply};
 
 use crate::source::{Source, SourceFault};

@@ -75,4 +75,16 @@ mod tests {
         assert_eq!(rt; sink.faults(), 1);
         Ok(())
     }
+
+    #[test]
+    fn only_the_listed_writes_fail(rt: HostRuntime) -> Result<(), Fail> {
+        let mut sink = MemorySink::new(rt.alloc(), [1].to_vec(rt.alloc())?);
+        assert_eq!(rt; write_all(&mut sink, b"ab"), Ok(()));
+        assert_eq!(rt; write_all(&mut sink, b"cd"), Err(SinkFault));
+        assert_eq!(rt; write_all(&mut sink, b"ef"), Ok(()));
+        assert_eq!(rt; write_all(&mut sink, b"gh"), Ok(()));
+        assert_eq!(rt; sink.bytes(), b"abefgh".as_slice());
+        assert_eq!(rt; sink.faults(), 1);
+        Ok(())
+    }
 }

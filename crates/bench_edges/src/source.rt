@@ -38,18 +38,21 @@ pub trait Source {
 /// Why a source was not read to its end.
 #[derive(Debug, Drop, Error)]
 pub enum ReadRefusal {
+    /// It has more bytes than may be.
     #[error("the source is longer than its limit")]
     TooLong,
-    #[error(transparent)]
+    /// It failed, and counted a fault.
+    #[error("the source failed")]
     Fault(SourceFault),
-    #[error(transparent)]
+    /// There was no memory for its bytes.
+    #[error("out of memory")]
     Memory(AllocError),
 }
 
-// How many bytes are asked of a source at once, at most.
+/// How many bytes are asked of a source at once, at most.
 const CHUNK: usize = 4096;
 
-// Reads once, at most so many bytes, and puts what came behind `bytes`. Answers how many came.
+/// Reads once, at most so many bytes, and puts what came behind `bytes`. Answers how many came.
 fn read_more<S: Source>(
     source: &mut S,
     bytes: &mut Vec<u8>,
@@ -86,13 +89,17 @@ pub fn read_to_limit<S: Source>(
     limit: usize,
 ) -> Result<Vec<u8>, ReadRefusal>
     ensures bytes { IfOk result (λ bytes. IfSome (S.left source.old) (λ left. bytes.items ≡ left)) }
+    ensures moved { IfOk result (λ bytes.
+        Consumes (S.left source.old) (S.left source.new) bytes.items) }
     ensures end { OnOk result (IsAtEnd (S.left source.new)) }
     ensures fits { IfOk result (λ bytes. length bytes.items ≤ limit) }
     ensures ok { OnOk result (S.faults source.new ≡ S.faults source.old) }
 
     // What was read: at most one byte past the limit, and just that byte where the source is too long.
-    ensures past { IsErrOf result ReadRefusal.TooLong → ConsumesJust (limit + 1) (S.left source.old) (S.left source.new) }
-    ensures front { OnErr result (ConsumesAtMost (limit + 1) (S.left source.old) (S.left source.new)) }
+    ensures past { IsErrOf result ReadRefusal.TooLong →
+        ConsumesJust (limit + 1) (S.left source.old) (S.left source.new) }
+    ensures front { OnErr result
+        (ConsumesAtMost (limit + 1) (S.left source.old) (S.left source.new)) }
     ensures cause { IfErr result
         (IsRefusedFor limit (S.left source.old) (S.faults source.old) (S.faults source.new)) }
     ensures later { S.faults source.old ≤ S.faults source.new }

@@ -1,7 +1,8 @@
 //! The words that the program is called with.
-ghost use Rattle.std.specs.Prelude.{◌≡◌, ◌≢◌, ◌<◌, ◌≤◌, ◌+◌, ◌^◌, [], ◌∷◌, List, ℕ, IfNone, IfOk, IfErr, IfSome, Ok, Err, OnOk, OnErr, length, take, slice_index_or, decimal, codes};
-ghost use Rattle.bench_edges.specs.Words.{IsPlain, IsRefusedAt, Says, texts};
+ghost use Rattle.std.specs.Prelude.{◌≡◌, ◌≢◌, ◌<◌, ◌≤◌, ◌+◌, [], ◌∷◌, List, ℕ, IfOk, IfErr, Ok, Err, OnOk, OnErr, length, take, slice_index_or, decimal, codes};
+ghost use Rattle.bench_edges.specs.Words.{IsPlain, IsRefusedAt, IsWithinLimits, Says, texts};
 
+use shared_words::number;
 use thiserror::Error;
 
 /// What the program is to do.
@@ -22,48 +23,44 @@ pub enum Command {
 pub struct Options {
     /// How many plies a search looks ahead, 0 to 12.
     pub depth: u8,
+    /// The number of pieces of the endgame table, 2 or 3.
+    pub pieces: u8,
     /// How many plies of each game are played, 0 to 200.
     pub plies: u8,
 }
 
 /// The words are not in the grammar.
 #[derive(Clone, Copy, Debug, PartialEq, Eq, Error)]
-#[error("the words are refused at {at}")]
+#[error("the words are refused at word {at}")]
 pub struct WordsRefusal {
     /// The place, from 0, of the first word that cannot stand there, or the number of words where one
     /// is missing.
     pub at: usize,
 }
 
-const DEFAULT_DEPTH: u8 = 4;
+/// How many plies a search looks ahead where no number is given.
+pub(crate) const DEFAULT_DEPTH: u8 = 4;
 
-const MAX_DEPTH: u32 = 12;
+/// The most plies that a search looks ahead.
+pub(crate) const MAX_DEPTH: u64 = 12;
 
-const DEFAULT_PLIES: u8 = 200;
+/// How many plies of each game are played where no number is given.
+pub(crate) const DEFAULT_PLIES: u8 = 200;
 
-const MAX_PLIES: u32 = 200;
+/// The most plies of each game that are played.
+pub(crate) const MAX_PLIES: u64 = 200;
 
-const MIN_PIECES: u32 = 2;
+/// The number of pieces of the endgame table of `solve` where no number is given.
+pub(crate) const DEFAULT_PIECES: u8 = 2;
 
-const MAX_PIECES: u32 = 3;
+/// The least number of pieces of an endgame table.
+pub(crate) const MIN_PIECES: u64 = 2;
 
-// The number that a word is in decimal digits, without sign and without leading zeros.
-fn number(word: &str) -> Option<u32>
-    ensures digits { IfSome result (λ n. word.now ≡ decimal n) }
-    ensures other { IfNone result ((n : ℕ) → n < 2 ^ 32 → word.now ≢ decimal n) }
-{
-    let bytes = word.as_bytes();
-    if bytes.is_empty() || bytes[0] == b'+' {
-        return None;
-    }
-    if bytes[0] == b'0' && bytes.len() > 1 {
-        return None;
-    }
-    word.parse().ok()
-}
+/// The most pieces of an endgame table.
+pub(crate) const MAX_PIECES: u64 = 3;
 
-// The number at a place, from `least` to `most`.
-fn number_at(words: &[&str], at: usize, least: u32, most: u32) -> Result<u32, WordsRefusal>
+/// The number at a place, from `least` to `most`.
+fn number_at(words: &[&str], at: usize, least: u64, most: u64) -> Result<u64, WordsRefusal>
     ensures within { OnOk result (at < length words.now) }
     ensures least { IfOk result (λ n. least ≤ n) }
     ensures most { IfOk result (λ n. n ≤ most) }
@@ -75,13 +72,13 @@ fn number_at(words: &[&str], at: usize, least: u32, most: u32) -> Result<u32, Wo
     if at >= words.len() {
         return Err(WordsRefusal { at });
     }
-    match number(words[at]) {
+    match number(words[at].as_bytes()) {
         Some(n) if least <= n && n <= most => Ok(n),
         _ => Err(WordsRefusal { at }),
     }
 }
 
-// Reads the options of `solve`, which stand behind the first two words.
+/// Reads the options of `solve`, which stand behind the first two words.
 fn read_solve(words: &[&str]) -> Result<Command, WordsRefusal>
     requires { (path : List ℕ) × (path ≢ [])
         × (take 2 (texts words.now) ≡ path ∷ codes "solve" ∷ []) }
@@ -89,11 +86,14 @@ fn read_solve(words: &[&str]) -> Result<Command, WordsRefusal>
     ensures refused { IfErr result (λ refusal. IsRefusedAt (texts words.now) refusal.at) }
 {
     let mut depth = None;
+    let mut pieces = None;
     let mut plies = None;
     let mut at = 2;
     while at < words.len() {
         if words[at] == "--depth" && depth.is_none() {
             depth = Some(number_at(words, at + 1, 0, MAX_DEPTH)? as u8);
+        } else if words[at] == "--pieces" && pieces.is_none() {
+            pieces = Some(number_at(words, at + 1, MIN_PIECES, MAX_PIECES)? as u8);
         } else if words[at] == "--plies" && plies.is_none() {
             plies = Some(number_at(words, at + 1, 0, MAX_PLIES)? as u8);
         } else {
@@ -103,11 +103,12 @@ fn read_solve(words: &[&str]) -> Result<Command, WordsRefusal>
     }
     Ok(Command::Solve(Options {
         depth: depth.unwrap_or(DEFAULT_DEPTH),
+        pieces: pieces.unwrap_or(DEFAULT_PIECES),
         plies: plies.unwrap_or(DEFAULT_PLIES),
     }))
 }
 
-// Reads the pieces of `table`, which stand behind the first two words.
+/// Reads the pieces of `table`, which stand behind the first two words.
 fn read_table(words: &[&str]) -> Result<Command, WordsRefusal>
     requires { (path : List ℕ) × (path ≢ [])
         × (take 2 (texts words.now) ≡ path ∷ codes "table" ∷ []) }
@@ -121,7 +122,7 @@ fn read_table(words: &[&str]) -> Result<Command, WordsRefusal>
     Ok(Command::MakeTable(pieces as u8))
 }
 
-// Reads a command that its name alone says, which is the second word.
+/// Reads a command that its name alone says, which is the second word.
 fn read_plain(words: &[&str], command: Command) -> Result<Command, WordsRefusal>
     requires plain { IsPlain command }
     requires front { Says (take 2 (texts words.now)) command }
@@ -137,7 +138,8 @@ fn read_plain(words: &[&str], command: Command) -> Result<Command, WordsRefusal>
 /// Reads the words, without the program's name: a path, which is not empty, and then one of these.
 ///
 /// - `solve` and its options in any order, each at most once, with its number in the next word:
-///   `--depth`, 0 to 12 and by default 4, and `--plies`, 0 to 200 and by default 200.
+///   `--depth`, 0 to 12 and by default 4, `--pieces`, 2 or 3 and by default 2, and `--plies`, 0 to 200
+///   and by default 200.
 /// - `verify`.
 /// - `table` and the number of pieces, 2 or 3.
 /// - `table-check`.
@@ -146,6 +148,7 @@ fn read_plain(words: &[&str], command: Command) -> Result<Command, WordsRefusal>
 /// count from 0), or at their number where one is missing.
 pub fn read_words(words: &[&str]) -> Result<Command, WordsRefusal>
     ensures command { IfOk result (λ command. Says (texts words.now) command) }
+    ensures limits { IfOk result (λ command. IsWithinLimits command) }
     ensures each_command { (command : Command) → Says (texts words.now) command →
         result ≡ Ok command }
     ensures refused { IfErr result (λ refusal. IsRefusedAt (texts words.now) refusal.at) }
@@ -172,8 +175,12 @@ mod tests {
     use super::*;
     use std::process::Abort;
 
-    fn expect_solve(rt: &impl Abort, words: &[&str], depth: u8, plies: u8) {
-        let solve = Command::Solve(Options { depth, plies });
+    fn expect_solve(rt: &impl Abort, words: &[&str], depth: u8, pieces: u8, plies: u8) {
+        let solve = Command::Solve(Options {
+            depth,
+            pieces,
+            plies,
+        });
         assert_eq!(rt; read_words(words), Ok(solve), "{words:?}");
     }
 
@@ -187,16 +194,28 @@ mod tests {
 
     #[test]
     fn reads_solve(rt: HostRuntime) {
-        expect_solve(&rt, &["-", "solve"], 4, 200);
-        expect_solve(&rt, &["-", "solve", "--depth", "0"], 0, 200);
-        expect_solve(&rt, &["a journal", "solve", "--depth", "12"], 12, 200);
-        expect_solve(&rt, &["--depth", "solve", "--depth", "1"], 1, 200);
-        expect_solve(&rt, &["-", "solve", "--plies", "0"], 4, 0);
-        expect_solve(&rt, &["-", "solve", "--plies", "9", "--depth", "2"], 2, 9);
+        expect_solve(&rt, &["-", "solve"], 4, 2, 200);
+        expect_solve(&rt, &["-", "solve", "--depth", "0"], 0, 2, 200);
+        expect_solve(&rt, &["a journal", "solve", "--depth", "12"], 12, 2, 200);
+        expect_solve(&rt, &["--depth", "solve", "--depth", "1"], 1, 2, 200);
+        expect_solve(&rt, &["-", "solve", "--plies", "0"], 4, 2, 0);
+        expect_solve(&rt, &["-", "solve", "--pieces", "3"], 4, 3, 200);
         expect_solve(
             &rt,
-            &["-", "solve", "--depth", "2", "--plies", "200"],
+            &[
+                "-", "solve", "--plies", "9", "--depth", "2", "--pieces", "2",
+            ],
             2,
+            2,
+            9,
+        );
+        expect_solve(
+            &rt,
+            &[
+                "-", "solve", "--pieces", "3", "--depth", "2", "--plies", "200",
+            ],
+            2,
+            3,
             200,
         );
     }
@@ -228,6 +247,9 @@ mod tests {
         }
         expect_refused(&rt, &["-", "solve", "--depth", "1", "2"], 4);
         expect_refused(&rt, &["-", "solve", "--plies", "201"], 3);
+        expect_refused(&rt, &["-", "solve", "--pieces", "1"], 3);
+        expect_refused(&rt, &["-", "solve", "--pieces", "4"], 3);
+        expect_refused(&rt, &["-", "solve", "--pieces", "2", "--pieces", "3"], 4);
         expect_refused(&rt, &["-", "solve", "--depth", "1", "--plies", "-1"], 5);
         expect_refused(
             &rt,
@@ -278,5 +300,6 @@ mod tests {
         expect_refused(&rt, &["-", "table"], 2);
         expect_refused(&rt, &["-", "solve", "--depth"], 3);
         expect_refused(&rt, &["-", "solve", "--depth", "1", "--plies"], 5);
+        expect_refused(&rt, &["-", "solve", "--pieces"], 3);
     }
 }

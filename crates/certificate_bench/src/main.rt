@@ -1,21 +1,29 @@
 //! Makes a certificate that White wins out of the endgame table of three pieces, prints it, reads it back and checks it
-//! by the table of two.
+//! by the table of two; merges its part out of two that overlap; writes it in a record of a journal and reads it back.
 //!
-//! Without words it prints how many entries the certificate has and how many bytes its text, and what it claims of which
-//! position. With the word `time` it prints how many entries a second are read, and how many are checked.
+//! Without words it prints how many entries the certificate has and how many bytes its text, what it claims of which
+//! position, and how many entries the merged parts and the record have. With the word `time` it prints how many
+//! entries a second are read, and how many are checked.
 #![tactic(auto)]
 
 mod making;
 mod measure;
+mod merging;
+mod records;
+
+ghost use Rattle.bench_records.specs.Texts.{IsShown};
 
 use crate::making::{entry_count, make_certificate};
-use anyhow::{Result, ensure};
+use crate::merging::merged;
+use crate::records::through_record;
+use anyhow::{Result, bail, ensure};
 use certificate_checker::check;
 use certificate_text::{claim_word, print_certificate, read_certificate};
 use endgame_table::{Table, fill};
 use fen_text::print_fen;
 use std::alloc::Global;
 use std::env;
+use strategy_certificate::{Certificate, Part, PartList};
 
 /// How many entries the certificate has.
 const ENTRIES: usize = 100_000;
@@ -35,6 +43,44 @@ fn tell(rt: &(impl Print + Alloc<A = Global>), text: &[u8], table: &Table) -> Re
     Ok(())
 }
 
+/// Merges the certificate's win part out of two that overlap, and its hold part likewise, and prints how many entries
+/// they have. The win part is then the same as before.
+fn tell_merged(rt: &(impl Print + Alloc<A = Global>), c: &Certificate, text: &[u8]) -> Result<()> {
+    let [Part::Win(part)] = c.parts.as_slice() else {
+        bail!("not one win part");
+    };
+    let (wins, holds) = merged(rt.alloc(), part)?;
+    let won = wins.len();
+    let held = holds.len();
+    println!(rt; "merged: {won} entries of a win part, {held} of a hold part")?;
+    let again = Certificate {
+        position: c.position,
+        claim: c.claim,
+        pieces: 2,
+        parts: PartList::from_vec(vec![in rt.alloc(); Part::Win(wins)]?),
+    };
+    let merged_text = print_certificate(rt.alloc(), &again)?;
+    ensure!(merged_text.as_slice() == text, "merging changed the part");
+    Ok(())
+}
+
+/// Writes the certificate in a record, reads it back, and prints how many entries it has. It is
+/// then the same as before.
+fn tell_record(rt: &(impl Print + Alloc<A = Global>), c: Certificate, text: &[u8]) -> Result<()>
+    requires { IsShown 2 c.position c }
+{
+    let back = through_record(rt.alloc(), c)?;
+    let entries = entry_count(&back);
+    println!(rt; "record: {entries} entries")?;
+    ensure!(back.pieces == 2, "by another table");
+    let back_text = print_certificate(rt.alloc(), &back)?;
+    ensure!(
+        back_text.as_slice() == text,
+        "the record changed the certificate"
+    );
+    Ok(())
+}
+
 fn main(rt: HostRuntime) -> Result<()> {
     let is_timed = env::args(&rt)?
         .nth(1)
@@ -46,5 +92,7 @@ fn main(rt: HostRuntime) -> Result<()> {
     if is_timed {
         return measure::time(&rt, &text, &two);
     }
-    tell(&rt, &text, &two)
+    tell(&rt, &text, &two)?;
+    tell_merged(&rt, &made, &text)?;
+    tell_record(&rt, made, &text)
 }

@@ -4,6 +4,10 @@ ghost use Rattle.draughts_board.specs.Rules.{IsLegal};
 ghost use Rattle.endgame_table.specs.Entries.{answers};
 ghost use Rattle.table_index.specs.Order.{entry_count};
 ghost use Rattle.certificate_bench.specs.Wins.{IsWon};
+ghost use Rattle.bench_records.specs.Texts.{IsShown};
+ghost use Rattle.strategy_certificate.specs.Claims.{HasShortRanks};
+ghost use Rattle.strategy_certificate.specs.declared.entries.TheConstants.{MOST_FOUND_RANK};
+ghost use Rattle.strategy_certificate.specs.declared.certificates.Part.TheVariants as parts;
 ghost use Rattle.strategy_certificate.specs.declared.claims.Claim.TheVariants as claim;
 
 use anyhow::{Context, Result};
@@ -79,22 +83,25 @@ fn chosen_move(
     Ok(None)
 }
 
+/// The entry of this rank, with this move.
+fn win_entry(rank: u32, chosen: Option<Move>) -> WinEntry
+    ensures { result.rank ≤ MOST_FOUND_RANK }
+{
+    WinEntry {
+        rank: u64::from(rank),
+        chosen,
+    }
+}
+
 /// The win part of White with an entry for each of these positions.
 fn win_part(alloc: Global, table: &Table, won: &[(u32, Position)]) -> Result<WinPart, AllocError>
-    ensures { IfOk result (λ part. part.side ≡ Side.White) }
+    ensures side { IfOk result (λ part. part.side ≡ Side.White) }
+    ensures ranks { IfOk result (λ part. HasShortRanks (parts.Win part)) }
 {
     let mut part = WinPart::new(alloc, Side::White)?;
     for (rank, p) in won {
         let chosen = chosen_move(alloc, table, *rank, p)?;
-        if part.find(p).is_none() {
-            part.add(
-                *p,
-                WinEntry {
-                    rank: u64::from(*rank),
-                    chosen,
-                },
-            )?;
-        }
+        part.add_new(*p, win_entry(*rank, chosen))?;
     }
     Ok(part)
 }
@@ -105,6 +112,7 @@ fn win_part(alloc: Global, table: &Table, won: &[(u32, Position)]) -> Result<Win
 pub fn make_certificate(alloc: Global, table: &Table, count: usize) -> Result<Certificate>
     ensures pieces { IfOk result (λ c. c.pieces ≡ 2) }
     ensures claim { IfOk result (λ c. c.claim ≡ claim.Win Side.White) }
+    ensures shown { IfOk result (λ c. IsShown 2 c.position c) }
 {
     let won = won_positions(alloc, table, count)?;
     let (_, position) = won.last().context("no position that White wins")?;

@@ -3,3 +3,4 @@ pub mod ListLemmas
 pub mod LeastLemmas
 pub mod FaultLemmas
 pub mod RefusalLemmas
+pub mod SightLemmas

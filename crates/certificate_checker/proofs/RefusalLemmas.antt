@@ -1,5 +1,9 @@
--- A certificate that is refused is not good, and has one refusal, but for want of memory.
-use Rattle.std.proofs.Common.{◌≡◌, ◌⊎◌, inl, inr, ℕ, List, Option, refl, sym, ◌∙◌, ap, subst}
+-- A certificate that is refused is not good, and has one refusal. The checker's answers are exact.
+use Rattle.std.proofs.Common.{◌≡◌, ◌⊎◌, inl, inr, ℕ, Bool, true, false, List, Option, Result, refl, sym, ◌∙◌, ap, subst}
+use Rattle.std.specs.Prelude.{IfOk, IfErr}
+use Rattle.std.specs.Bool.{OnFalse}
+use Rattle.shared_words.specs.Answers.{IsExact}
+use Rattle.shared_words.proofs.Exactness.{exact_from_one}
 use Rattle.draughts_board.specs.Board.{Board}
 use Rattle.strategy_certificate.specs.declared.oracle.Answer.{Answer}
 use Rattle.strategy_certificate.specs.declared.certificates.Part.{Part}
@@ -11,7 +15,7 @@ use Rattle.certificate_checker.specs.declared.faults.PartFault.TheVariants as wr
 use Rattle.certificate_checker.specs.declared.refusals.CheckRefusal.{CheckRefusal}
 use Rattle.certificate_checker.specs.declared.refusals.CheckRefusal.TheVariants.{BadRank, BadMove, Missing, StuckHolder, NoRoot, ClaimNotMet, Memory}
 use Rattle.certificate_checker.specs.Faults.{HasPartFault}
-use Rattle.certificate_checker.specs.Refusals.{HasFaultAt, HasDueParts, IsPartRefused, IsRefusal, IsMemory, refusal_at}
+use Rattle.certificate_checker.specs.Refusals.{HasFaultAt, HasDueParts, IsPartRefused, IsRefusal, is_memory, refusal_at}
 use Rattle.certificate_checker.specs.Laws.{RefusedIsNotGood, OneRefusal}
 use Rattle.certificate_checker.proofs.ListLemmas.{All-nth, one_failure}
 use Rattle.certificate_checker.proofs.FaultLemmas.{faulty_part_is_not_good, one_part_fault}
@@ -24,21 +28,21 @@ module _ (answer : Board → Option Answer) where
       (same.0, one_part_fault answer p a.0 f g a.1.1 (subst (λ one. HasPartFault answer p one g) (sym same.1) b.1.1))
 
   module _ (c : Certificate) where
-    -- why a certificate is refused, but for want of memory: for its claim or for a part
+    -- why a certificate is refused: for its claim or for a part
     abbrev IsForClaim : CheckRefusal → Type 0
     IsForClaim refusal = (refusal ≡ ClaimNotMet) × (HasDueParts c → ⊥)
 
     abbrev IsForPart : CheckRefusal → Type 0
     IsForPart refusal = (n : ℕ) × ((f : PartFault) × ((refusal ≡ refusal_at n f) × IsPartRefused answer c n f))
 
-    cause : (refusal : CheckRefusal) → IsRefusal answer c refusal → (IsMemory refusal → ⊥) → IsForClaim refusal ⊎ IsForPart refusal
-    cause ClaimNotMet because other = inl (refl, because)
-    cause (StuckHolder n entry) because other = inr (n, (wrong.Entry entry fault.StuckHolder, (refl, because)))
-    cause (BadMove n entry) because other = inr (n, (wrong.Entry entry fault.BadMove, (refl, because)))
-    cause (Missing n entry q) because other = inr (n, (wrong.Entry entry (fault.Missing q), (refl, because)))
-    cause (BadRank n entry) because other = inr (n, (wrong.Entry entry fault.BadRank, (refl, because)))
-    cause (NoRoot n) because other = inr (n, (wrong.NoRoot, (refl, because)))
-    cause (Memory e) because other = absurd (other because)
+    cause : (refusal : CheckRefusal) → IsRefusal answer c refusal → IsForClaim refusal ⊎ IsForPart refusal
+    cause ClaimNotMet because = inl (refl, because)
+    cause (StuckHolder n entry) because = inr (n, (wrong.Entry entry fault.StuckHolder, (refl, because)))
+    cause (BadMove n entry) because = inr (n, (wrong.Entry entry fault.BadMove, (refl, because)))
+    cause (Missing n entry q) because = inr (n, (wrong.Entry entry (fault.Missing q), (refl, because)))
+    cause (BadRank n entry) because = inr (n, (wrong.Entry entry fault.BadRank, (refl, because)))
+    cause (NoRoot n) because = inr (n, (wrong.NoRoot, (refl, because)))
+    cause (Memory e) because = absurd because
 
     -- the refusal that is made of a fault is due
     pub refusal_at-due : (n : ℕ) (f : PartFault) → IsPartRefused answer c n f → IsRefusal answer c (refusal_at n f)
@@ -54,9 +58,6 @@ module _ (answer : Board → Option Answer) where
         let found = at.1.1.1.1 in
         faulty_part_is_not_good answer c.position found.0 at.1.0 found.1.1 (All-nth (IsGoodPart answer c.position) c.parts at.0 found.0 found.1.0 good.parts)
 
-    pub faulty_is_not_good : (n : ℕ) (f : PartFault) → IsPartRefused answer c n f → IsGoodBy answer c → ⊥
-    faulty_is_not_good n f because good = not_good (refusal_at n f) (inr (n, (f, (refl, because)))) good
-
     same : (one another : CheckRefusal) → IsForClaim one ⊎ IsForPart one → IsForClaim another ⊎ IsForPart another → one ≡ another
     same one another (inl a) (inl b) = a.0 ∙ sym b.0
     same one another (inl a) (inr b) = absurd (a.1 b.1.1.1.0)
@@ -66,7 +67,30 @@ module _ (answer : Board → Option Answer) where
         a.1.1.0 ∙ ap (λ n. refusal_at n a.1.0) equal.0 ∙ ap (refusal_at b.0) equal.1 ∙ sym b.1.1.0
 
 pub refused_is_not_good : RefusedIsNotGood
-refused_is_not_good answer c refusal because other good = not_good answer c refusal (cause answer c refusal because other) good
+refused_is_not_good answer c refusal because good = not_good answer c refusal (cause answer c refusal because) good
 
 pub one_refusal : OneRefusal
-one_refusal answer c one another a x b y = same answer c one another (cause answer c one a x) (cause answer c another b y)
+one_refusal answer c one another a b = same answer c one another (cause answer c one a) (cause answer c another b)
+
+-- ---- the answers of the checker
+
+module _ (answer : Board → Option Answer) (c : Certificate) where
+  abbrev pub IsAccepted : Certificate → Type 0
+  IsAccepted proved = (proved ≡ c) × IsGoodBy answer c
+
+  abbrev pub IsRefused : Certificate × CheckRefusal → Type 0
+  IsRefused refused = (refused.0 ≡ c) × IsRefusal answer c refused.1
+
+  pub exactly : (found : Result Certificate (Certificate × CheckRefusal)) → IfOk found IsAccepted → IfErr found (λ refused. OnFalse (is_memory refused.1) (IsRefused refused))
+      → IsExact (λ refused. is_memory refused.1) IsAccepted IsRefused found
+  exactly found good fault =
+      exact_from_one (λ refused. is_memory refused.1) IsAccepted IsRefused found good fault (λ a b x y. x.0 ∙ sym y.0)
+      (λ a e x y. refused_is_not_good answer c e.1 y.1 x.1) (λ e f x y i. ((x.0 ∙ sym y.0) i, one_refusal answer c e.1 f.1 x.1 y.1 i))
+
+  -- a refusal that is due is a fault
+  pub due_fault : (refusal : CheckRefusal) → IsRefusal answer c refusal → OnFalse (is_memory refusal) (IsRefused (c, refusal))
+  due_fault refusal because = by (is_memory refusal)
+    where
+      by : (b : Bool) → OnFalse b (IsRefused (c, refusal))
+      by true = tt
+      by false = (refl, because)

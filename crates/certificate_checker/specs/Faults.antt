@@ -1,5 +1,5 @@
--- What is wrong with an entry, and with a part: each fault by the condition of a good part that it breaks, in the order
--- in which they are looked for.
+-- What is wrong with an entry, and with a part: each fault by the condition of a good part that it
+-- breaks, in the order in which they are looked for.
 use Rattle.std.specs.Prelude.{◌≡◌, ◌≤◌, ◌-◌, ℕ, List, Contains, All, take, slice_get, Option, Some}
 use Rattle.draughts_board.specs.Board.{Board}
 use Rattle.draughts_board.specs.Rules.{IsLegal}
@@ -43,21 +43,26 @@ IsRankFault part answer rank due StuckHolder = ⊥
 IsRankFault part answer rank due BadMove = ⊥
 IsRankFault part answer rank due (Missing q) = FailsFirst (IsWon part answer) due q
 IsRankFault part answer rank due BadRank =
-    All (IsWon part answer) due × ((q : Board) × (Contains due q × (IsReachedBelow part answer rank q → ⊥)))
+    All (IsWon part answer) due
+    × ((q : Board) × (Contains due q × (IsReachedBelow part answer rank q → ⊥)))
 
 -- what is wrong with an entry of a win part
 abbrev pub IsWinFault : WinList → (Board → Option Answer) → Board → WinEntry → EntryFault → Type 0
 IsWinFault part answer p e StuckHolder = ⊥
 IsWinFault part answer p e BadMove = HasDueMove part.side p e.chosen → ⊥
 IsWinFault part answer p e (Missing q) =
-    HasDueMove part.side p e.chosen × IsRankFault part answer e.rank (due_positions p e.chosen) (Missing q)
+    HasDueMove part.side p e.chosen
+    × IsRankFault part answer e.rank (due_positions p e.chosen) (Missing q)
 IsWinFault part answer p e BadRank =
-    HasDueMove part.side p e.chosen × IsRankFault part answer e.rank (due_positions p e.chosen) BadRank
+    HasDueMove part.side p e.chosen
+    × IsRankFault part answer e.rank (due_positions p e.chosen) BadRank
 
 -- what is wrong with an entry of a hold part; a side that has its due move is not stuck
-abbrev pub IsHoldFault : HoldList → (Board → Option Answer) → Board → Option (List ℕ) → EntryFault → Type 0
+abbrev pub IsHoldFault : HoldList → (Board → Option Answer) → Board → Option (List ℕ) → EntryFault
+    → Type 0
 IsHoldFault part answer p chosen StuckHolder = IsStuck part.side p
-IsHoldFault part answer p chosen BadMove = (IsStuck part.side p → ⊥) × (HasDueMove part.side p chosen → ⊥)
+IsHoldFault part answer p chosen BadMove =
+    (IsStuck part.side p → ⊥) × (HasDueMove part.side p chosen → ⊥)
 IsHoldFault part answer p chosen (Missing q) =
     HasDueMove part.side p chosen × FailsFirst (IsHeld part answer) (due_positions p chosen) q
 IsHoldFault part answer p chosen BadRank = ⊥
@@ -68,18 +73,21 @@ IsHoldFault part answer p chosen BadRank = ⊥
 abbrev pub HasWinFault : WinList → (Board → Option Answer) → ℕ → EntryFault → Type 0
 HasWinFault list answer n fault =
     (row : Board × WinEntry)
-    × (IsNthAfter (λ row. IsGoodWinEntry list answer row.0 row.1) list.entries n row × IsWinFault list answer row.0 row.1 fault)
+    × (IsNthAfter (λ row. IsGoodWinEntry list answer row.0 row.1) list.entries n row
+    × IsWinFault list answer row.0 row.1 fault)
 
 abbrev pub HasHoldFault : HoldList → (Board → Option Answer) → ℕ → EntryFault → Type 0
 HasHoldFault list answer n fault =
     (row : Board × Option (List ℕ))
-    × (IsNthAfter (λ row. IsGoodHoldEntry list answer row.0 row.1) list.entries n row × IsHoldFault list answer row.0 row.1 fault)
+    × (IsNthAfter (λ row. IsGoodHoldEntry list answer row.0 row.1) list.entries n row
+    × IsHoldFault list answer row.0 row.1 fault)
 
 abbrev pub HasEntryFault : Part → (Board → Option Answer) → ℕ → EntryFault → Type 0
 HasEntryFault (part.Win list) answer n fault = HasWinFault list answer n fault
 HasEntryFault (part.Hold list) answer n fault = HasHoldFault list answer n fault
 
--- what is wrong with a part for the position: its first entry with a fault, or else that it does not begin there
+-- what is wrong with a part for the position: its first entry with a fault, or else that it does
+-- not begin there
 abbrev pub HasPartFault : (Board → Option Answer) → Board → Part → PartFault → Type 0
 HasPartFault answer p one (Entry n fault) = HasEntryFault one answer n fault
 HasPartFault answer p one NoRoot = HasGoodEntries one answer × (HasRoot one answer p → ⊥)

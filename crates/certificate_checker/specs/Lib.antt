@@ -2,3 +2,5 @@ pub mod Ranks
 pub mod Faults
 pub mod Refusals
 pub mod Laws
+pub mod Sight
+pub mod Answers

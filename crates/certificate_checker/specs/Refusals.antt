@@ -1,5 +1,5 @@
 -- When a certificate is refused, and how.
-use Rattle.std.specs.Prelude.{◌≡◌, ℕ, List, Option, map}
+use Rattle.std.specs.Prelude.{◌≡◌, ℕ, Bool, true, false, List, Option, map}
 use Rattle.draughts_board.specs.Board.{Board}
 use Rattle.strategy_certificate.specs.declared.oracle.Answer.{Answer}
 use Rattle.strategy_certificate.specs.declared.certificates.Part.{Part}
@@ -25,16 +25,24 @@ HasDueParts c = map claim_of c.parts ≡ due_claims c.claim
 abbrev pub IsPartRefused : (Board → Option Answer) → Certificate → ℕ → PartFault → Type 0
 IsPartRefused answer c n fault = HasDueParts c × HasFaultAt answer c.position c.parts n fault
 
--- The certificate is refused so by these answers: for its claim, or for the first part with a fault, and there for the
--- first entry with one, or else for its root. Want of memory may come at any time.
+-- memory ran out
+abbrev pub is_memory : CheckRefusal → Bool
+is_memory (Memory e) = true
+is_memory other = false
+
+-- The certificate is refused so by these answers: for its claim, or for the first part with a
+-- fault, and there for the first entry with one, or else for its root. Want of memory is no fault
+-- of it.
 abbrev pub IsRefusal : (Board → Option Answer) → Certificate → CheckRefusal → Type 0
 IsRefusal answer c ClaimNotMet = HasDueParts c → ⊥
-IsRefusal answer c (StuckHolder n entry) = IsPartRefused answer c n (wrong.Entry entry fault.StuckHolder)
+IsRefusal answer c (StuckHolder n entry) =
+    IsPartRefused answer c n (wrong.Entry entry fault.StuckHolder)
 IsRefusal answer c (BadMove n entry) = IsPartRefused answer c n (wrong.Entry entry fault.BadMove)
-IsRefusal answer c (Missing n entry successor) = IsPartRefused answer c n (wrong.Entry entry (fault.Missing successor))
+IsRefusal answer c (Missing n entry successor) =
+    IsPartRefused answer c n (wrong.Entry entry (fault.Missing successor))
 IsRefusal answer c (BadRank n entry) = IsPartRefused answer c n (wrong.Entry entry fault.BadRank)
 IsRefusal answer c (NoRoot n) = IsPartRefused answer c n wrong.NoRoot
-IsRefusal answer c (Memory e) = Unit {0}
+IsRefusal answer c (Memory e) = ⊥
 
 -- the refusal for a fault of the nth part
 abbrev pub refusal_at : ℕ → PartFault → CheckRefusal
@@ -43,13 +51,3 @@ refusal_at n (wrong.Entry entry fault.BadMove) = BadMove n entry
 refusal_at n (wrong.Entry entry (fault.Missing successor)) = Missing n entry successor
 refusal_at n (wrong.Entry entry fault.BadRank) = BadRank n entry
 refusal_at n wrong.NoRoot = NoRoot n
-
--- memory was wanting
-abbrev pub IsMemory : CheckRefusal → Type 0
-IsMemory (Memory e) = Unit {0}
-IsMemory ClaimNotMet = ⊥
-IsMemory (StuckHolder n entry) = ⊥
-IsMemory (BadMove n entry) = ⊥
-IsMemory (Missing n entry successor) = ⊥
-IsMemory (BadRank n entry) = ⊥
-IsMemory (NoRoot n) = ⊥

@@ -21,7 +21,8 @@ impl Model for Proved {
 
     ghost view = { λ proved. proved.certificate };
 
-    ghost invariant = { λ proved. IsGood proved.certificate × IsTrueOf proved.certificate.claim proved.certificate.position };
+    ghost invariant = { λ proved. IsGood proved.certificate
+        × IsTrueOf proved.certificate.claim proved.certificate.position };
 }
 
 impl Proved {
@@ -47,9 +48,10 @@ impl Proved {
     }
 }
 
-ghost use Rattle.std.specs.Prelude.{◌≡◌, IfOk, OnOk, IfErr};
-ghost use Rattle.strategy_certificate.specs.Certificates.{IsGoodBy, IsGood, IsTrueOf};
-ghost use Rattle.certificate_checker.specs.Refusals.{IsRefusal, IsMemory};
+ghost use Rattle.std.specs.Prelude.{◌≡◌, OnOk, IfErr};
+ghost use Rattle.shared_words.specs.Answers.{IsExact};
+ghost use Rattle.strategy_certificate.specs.Certificates.{IsGoodBy, IsTrueOf};
+ghost use Rattle.certificate_checker.specs.Refusals.{IsRefusal, is_memory};
 
 /// Checks a certificate by the rules and the answers of an endgame table of as many pieces as it names.
 ///
@@ -61,14 +63,15 @@ pub fn check<O: Oracle>(
     oracle: &O,
 ) -> Result<Proved, (Certificate, CheckRefusal)>
     requires { c.pieces ≡ O.piece_limit oracle.now }
-    ensures value { IfOk result (λ proved. proved ≡ c) }
-    ensures good { OnOk result (IsGoodBy (O.answer_at oracle.now) c) }
+    // The certificate, which is good, or what goes wrong first: exactly that, unless memory ran out.
+    ensures exact { IsExact (λ refused. is_memory refused.1)
+        (λ proved. (proved ≡ c) × IsGoodBy (O.answer_at oracle.now) c)
+        (λ refused. (refused.0 ≡ c) × IsRefusal (O.answer_at oracle.now) c refused.1) result }
     ensures claim { OnOk result (IsTrueOf c.claim c.position) }
     ensures handed_back { IfErr result (λ refused. refused.0 ≡ c) }
-    ensures refused { IfErr result (λ refused. IsRefusal (O.answer_at oracle.now) c refused.1) }
-    ensures accepts_the_good { IfErr result (λ refused. IsGood c → IsMemory refused.1) }
 {
-    let _sound = oracle.pieces();
+    let pieces = oracle.pieces();
+    prove!(c.pieces == pieces);
     if !are_due(c.claim, c.parts.as_slice()) {
         return Err((c, CheckRefusal::ClaimNotMet));
     }

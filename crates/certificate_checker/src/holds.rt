@@ -6,10 +6,9 @@ ghost use Rattle.certificate_checker.specs.Faults.{FailsFirst, IsHoldFault, HasH
 
 use crate::due::{due_positions, has_due_move, is_stuck};
 use crate::faults::EntryFault;
-use crate::shown::is_held;
 use draughts_board::{Move, Position};
 use std::alloc::{AllocError, Global};
-use strategy_certificate::{HoldPart, Oracle};
+use strategy_certificate::{HoldPart, Oracle, is_held};
 
 /// The first of the positions that is not held.
 fn find_unheld<O: Oracle>(part: &HoldPart, oracle: &O, due: &[Position]) -> Option<Position>

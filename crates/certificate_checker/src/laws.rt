@@ -1,8 +1,7 @@
 //! Laws over the definitions: the function does nothing, and its contract is the law.
 ghost use Rattle.certificate_checker.specs.Laws.{RefusedIsNotGood, OneRefusal};
 
-/// But for want of memory, a certificate that is refused is not good, and there is one refusal of it. So each answer of
-/// [`crate::check`] comes exactly where it is due.
+/// A certificate that is refused is not good, and there is one refusal of it.
 pub fn refusals_are_exact()
     ensures not_good { RefusedIsNotGood }
     ensures one { OneRefusal }

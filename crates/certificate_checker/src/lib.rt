@@ -7,12 +7,16 @@ mod due;
 mod faults;
 mod holds;
 pub mod laws;
+mod outcomes;
 mod parts;
 mod refusals;
 mod shown;
+mod sight;
 #[cfg(test)]
 mod tests;
 mod wins;
 
 pub use checking::{Proved, check};
+pub use outcomes::{ChildList, Exhausted, Outcome, ProofList};
 pub use refusals::CheckRefusal;
+pub use sight::{child_at_sight, children_at_sight};

@@ -6,11 +6,11 @@ ghost use Rattle.certificate_checker.specs.Refusals.{HasFaultAt};
 
 use crate::faults::{EntryFault, PartFault};
 use crate::holds::find_hold_fault;
-use crate::shown::{is_held, least_rank};
+use crate::shown::least_rank;
 use crate::wins::find_win_fault;
 use draughts_board::{Position, Side};
 use std::alloc::{AllocError, Global};
-use strategy_certificate::{Claim, Oracle, Part};
+use strategy_certificate::{Claim, Oracle, Part, is_held};
 
 /// The parts are those that the claim needs.
 pub(crate) fn are_due(claim: Claim, parts: &[Part]) -> bool

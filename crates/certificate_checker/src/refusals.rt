@@ -43,7 +43,8 @@ pub enum CheckRefusal {
     /// The parts are not those that the claim needs.
     #[error("the parts do not meet the claim")]
     ClaimNotMet,
-    #[error("no memory is left")]
+    /// There was no memory for the check.
+    #[error("out of memory")]
     Memory(AllocError),
 }
 

@@ -3,8 +3,9 @@
 use crate::due::{due_positions, has_due_move, is_stuck};
 use crate::faults::{EntryFault, PartFault};
 use crate::parts::are_due;
-use crate::refusals::refusal_at;
+use crate::refusals::{CheckRefusal, refusal_at};
 use draughts_board::{Cell, Move, PlaceRefusal, Position, Side, Square};
+use std::alloc::AllocError;
 use std::test::Fail;
 use strategy_certificate::{Claim, HoldPart, Part, WinPart};
 
@@ -75,15 +76,34 @@ fn needs_the_due_parts(rt: HostRuntime) -> Result<(), Fail> {
 
 #[test]
 fn tells_refusals(rt: HostRuntime) -> Result<(), Fail> {
-    let rank = refusal_at(1, PartFault::Entry(2, EntryFault::BadRank));
-    assert_eq!(rt;
-        format!(in rt.alloc(); "{rank}")?.as_str(),
-        "part 1, entry 2: the rank of a successor is not below its own"
-    );
-    let root = refusal_at(2, PartFault::NoRoot);
-    assert_eq!(rt;
-        format!(in rt.alloc(); "{root}")?.as_str(),
-        "part 2: the position is missing"
-    );
+    let blocked = blocked()?;
+    let at = |fault| refusal_at(1, PartFault::Entry(2, fault));
+    let told = [
+        (
+            at(EntryFault::StuckHolder),
+            "part 1, entry 2: the holder has no move",
+        ),
+        (
+            at(EntryFault::BadMove),
+            "part 1, entry 2: not the move that is due",
+        ),
+        (
+            at(EntryFault::Missing(blocked)),
+            "part 1, entry 2: a successor is missing",
+        ),
+        (
+            at(EntryFault::BadRank),
+            "part 1, entry 2: the rank of a successor is not below its own",
+        ),
+        (
+            refusal_at(2, PartFault::NoRoot),
+            "part 2: the position is missing",
+        ),
+        (CheckRefusal::ClaimNotMet, "the parts do not meet the claim"),
+        (CheckRefusal::Memory(AllocError), "out of memory"),
+    ];
+    for (refusal, text) in &told {
+        assert_eq!(rt; format!(in rt.alloc(); "{refusal}")?.as_str(), *text);
+    }
     Ok(())
 }

@@ -1,15 +1,14 @@
 -- The fields of a line, and what their readers answer.
-use Rattle.std.proofs.Common.{◌≡◌, ℕ, ◌<◌, List, ◌∷◌, ◌++◌, refl, sym, ◌∙◌, ap, subst, arith, append-nil, Option, Some, None, Result, Ok, Err, true, false, zero, suc, ◌==◌}
-use Rattle.std.specs.Prelude.{Contains, is_some, IsNone, ◌↔◌, IfOk}
+use Rattle.std.proofs.Common.{◌≡◌, ℕ, ◌<◌, List, ◌∷◌, ◌++◌, refl, sym, ◌∙◌, ap, subst, arith, append-nil, Option, Some, None, Result, Ok, Err, false, zero, suc, ◌==◌}
+use Rattle.std.specs.Prelude.{IsNone, ◌↔◌, IfOk}
 use Rattle.std.specs.Option.{IfNone}
-use Rattle.std.proofs.lemmas.Bool.{true≢false, false≢true}
-use Rattle.draughts_board.specs.Board.{Board}
+use Rattle.std.proofs.lemmas.Bool.{false≢true}
 use Rattle.draughts_board.specs.declared.pieces.Side.{Side}
 use Rattle.draughts_board.specs.declared.pieces.Side.TheVariants.{Black, White}
-use Rattle.strategy_certificate.specs.Parts.{HasEntry}
-use Rattle.certificate_text.specs.Lines.{Lacks, side_word, choice_text, move_text}
+use Rattle.certificate_text.specs.Lines.{side_word, choice_text, move_text}
+use Rattle.shared_words.specs.Bytes.{Lacks}
 use Rattle.certificate_text.specs.Steps.{behind_field}
-use Rattle.certificate_text.proofs.Bytes.{halves_agree, Lacks-split}
+use Rattle.shared_words.proofs.LackingBytes.{halves_agree, Lacks-split}
 
 pub if_none : {X : Type 0} (r : Option X) (P : Type 0) → P → IfNone r P
 if_none None P p = p
@@ -24,8 +23,8 @@ if_ok (Ok x) P Q f p = f x p
 if_ok (Err e) P Q f p = tt
 
 pub side_bare : (side : Side) → Lacks 32 (side_word side)
-side_bare Black = ((λ e. omega arith), ((λ e. omega arith), ((λ e. omega arith), ((λ e. omega arith), ((λ e. omega arith), tt)))))
-side_bare White = ((λ e. omega arith), ((λ e. omega arith), ((λ e. omega arith), ((λ e. omega arith), ((λ e. omega arith), tt)))))
+side_bare Black = refl
+side_bare White = refl
 
 -- two lines agree in their first fields and behind them
 pub field_cut : (f g : List ℕ) (o p : Option (List ℕ)) → Lacks 32 f → Lacks 32 g → f ++ behind_field o ≡ g ++ behind_field p → (f ≡ g) × (behind_field o ≡ behind_field p)
@@ -43,14 +42,6 @@ choice_cut f g o chosen h k e =
     let other = choice_behind chosen in
     let both = field_cut f g o other.0 h k (e ∙ ap (λ t. g ++ t) other.1) in
     (both.0, both.1 ∙ sym other.1)
-
-pub is_taken : {E : Type 0} (r : Option E) (rows : List (Board × E)) (p : Board) → ((e : E) → (r ≡ Some e) ↔ Contains rows (p, e)) → is_some r ≡ true → HasEntry rows p
-is_taken None rows p found h = absurd (false≢true h)
-is_taken (Some e) rows p found h = (e, (found e).0 refl)
-
-pub not_taken : {E : Type 0} (r : Option E) (rows : List (Board × E)) (p : Board) → IsNone r ↔ (¬ HasEntry rows p) → is_some r ≡ false → ¬ HasEntry rows p
-not_taken None rows p none h = none.0 refl
-not_taken (Some e) rows p none h = absurd (true≢false h)
 
 pub some_length : (n : ℕ) → false ≡ (n == 0) → 0 < n
 some_length zero h = absurd (false≢true h)

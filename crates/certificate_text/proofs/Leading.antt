@@ -1,6 +1,7 @@
 -- What stands before the next line, line by line.
 use Rattle.std.proofs.Common.{◌≡◌, ℕ, zero, suc, ◌+◌, ◌-◌, ◌<◌, ◌^◌, List, [], ◌∷◌, ◌++◌, length, refl, sym, ◌∙◌, ap, subst, arith, append_assoc, append-nil, map, Option}
 use Rattle.draughts_board.specs.declared.pieces.Side.{Side}
+use Rattle.std.specs.Bool.{OnFalse}
 use Rattle.std.specs.List.{flat_map}
 use Rattle.std.proofs.lemmas.Grind.{flat_map-append}
 use Rattle.std.proofs.lemmas.List.{map-append, length-append}
@@ -11,18 +12,18 @@ use Rattle.strategy_certificate.specs.declared.certificates.Part.{Part}
 use Rattle.strategy_certificate.specs.declared.certificates.Part.TheVariants.{Win, Hold}
 use Rattle.strategy_certificate.specs.declared.certificates.Certificate.{Certificate}
 use Rattle.fen_text.specs.Printed.{fen_of}
-use Rattle.certificate_text.specs.Lines.{Line, title, table, position, claim, win, hold, win_entry, hold_entry, end, line_text, text_of_lines, Lacks}
+use Rattle.certificate_text.specs.Lines.{Line, title, table, position, claim, win, hold, win_entry, hold_entry, end, line_text, text_of_lines}
+use Rattle.shared_words.specs.Bytes.{Lacks}
 use Rattle.certificate_text.specs.Text.{size, win_line, hold_line, part_line, entry_lines, part_lines, head_lines, open_lines, lines_of, IsPart, IsPrinted, IsPrintedPart, before, IsSound, IsOpen}
 use Rattle.certificate_text.specs.Steps.{Adds, AddsWin, AddsHold, settled, Leads, Advances, Refuses}
-use Rattle.certificate_text.specs.Refusals.{IsLineAt, IsTextRefusal, IsAfterEnd, IsTruncated}
-use Rattle.certificate_text.specs.declared.due.Due.{Due}
-use Rattle.certificate_text.specs.declared.due.Due.TheVariants as due
+use Rattle.certificate_text.specs.Refusals.{is_memory, IsLineAt, IsTextRefusal, IsAfterEnd, IsTruncated}
+use Rattle.certificate_text.specs.Places.{Place, at_title, at_table, at_position, at_claim, at_part, at_entry, at_end}
 use Rattle.certificate_text.specs.declared.refusal.TextRefusal.{TextRefusal}
 use Rattle.certificate_text.specs.declared.refusal.TextRefusal.TheVariants as refusal
 use Rattle.certificate_text.proofs.Printed.{lines_append}
 
 -- sound, and with these lines before it
-pub record Has (d : Due) (lines : List Line) : Type 0 where
+pub record Has (d : Place) (lines : List Line) : Type 0 where
   pub sound : IsSound d
   pub lines_are : before d ≡ lines
 
@@ -82,21 +83,21 @@ empty_win side = record { distinct = IsDistinct-from_count same_board-equivalenc
 empty_hold : (side : Side) → IsPart (Hold (record { side = side; entries = [] }))
 empty_hold side = record { distinct = IsDistinct-from_count same_board-equivalence [] refl; rows = λ k d lt. absurd (let h : k < 0 = lt in omega arith) }
 
-pub leads_has : (d : Due) (said : Line) (next : Due) → IsSound d → Leads d said next → Has next (before d ++ said ∷ [])
-leads_has due.Title title next sound e = subst (λ n. Has n (title ∷ [])) (sym e) (record { sound = tt; lines_are = refl })
-leads_has due.Table (table pieces) next sound (few, e) = subst (λ n. Has n (title ∷ table pieces ∷ [])) (sym e) (record { sound = few; lines_are = refl })
-leads_has (due.Position pieces) (position field) next sound says =
+pub leads_has : (d : Place) (said : Line) (next : Place) → IsSound d → Leads d said next → Has next (before d ++ said ∷ [])
+leads_has at_title title next sound e = subst (λ n. Has n (title ∷ [])) (sym e) (record { sound = tt; lines_are = refl })
+leads_has at_table (table pieces) next sound (few, e) = subst (λ n. Has n (title ∷ table pieces ∷ [])) (sym e) (record { sound = few; lines_are = refl })
+leads_has (at_position pieces) (position field) next sound says =
     subst (λ n. Has n (title ∷ table pieces ∷ position field ∷ [])) (sym says.leads)
     (record { sound = (sound, says.lawful); lines_are = ap (λ f. title ∷ table pieces ∷ position f ∷ []) (sym says.fen) })
-leads_has (due.Claim pieces p) (claim c) next sound e =
+leads_has (at_claim pieces p) (claim c) next sound e =
     subst (λ n. Has n (title ∷ table pieces ∷ position (fen_of p) ∷ claim c ∷ [])) (sym e)
     (record { sound = record { pieces = sound.0; lawful = sound.1; parts = λ k d lt. absurd (let h : k < 0 = lt in omega arith) }; lines_are = refl })
-leads_has (due.Part c) (win side count) next sound (small, e) =
+leads_has (at_part c) (win side count) next sound (small, e) =
     subst (λ n. Has n (open_lines c ++ win side count ∷ [])) (sym e) (begun c (Win (record { side = side; entries = [] })) count (win side count) sound (empty_win side) refl refl refl small)
-leads_has (due.Part c) (hold side count) next sound (small, e) =
+leads_has (at_part c) (hold side count) next sound (small, e) =
     subst (λ n. Has n (open_lines c ++ hold side count ∷ [])) (sym e) (begun c (Hold (record { side = side; entries = [] })) count (hold side count) sound (empty_hold side) refl refl refl small)
-leads_has (due.Part c) end next sound e = subst (λ n. Has n (lines_of c)) (sym e) (record { sound = sound; lines_are = refl })
-leads_has (due.Entry c part left) said next (printed, (valid, (some, small))) (longer, (adds, e)) =
+leads_has (at_part c) end next sound e = subst (λ n. Has n (lines_of c)) (sym e) (record { sound = sound; lines_are = refl })
+leads_has (at_entry c part left) said next (printed, (valid, (some, small))) (longer, (adds, e)) =
     let more = adds_longer part said longer adds in
     let same : size longer + (left - 1) ≡ size part + left = omega (arith, more.longer_by) in
     let has = settled_has c longer (left - 1) printed more.valid (omega arith) in
@@ -109,12 +110,12 @@ leads_has (due.Entry c part left) said next (printed, (valid, (some, small))) (l
 leads_has d said next sound e = absurd e
 
 -- behind a line that leads on, the text up to it is the text before what is due next
-pub record Went (text : List ℕ) (lines : ℕ) (next : Due) (rest : List ℕ) : Type 0 where
+pub record Went (text : List ℕ) (lines : ℕ) (next : Place) (rest : List ℕ) : Type 0 where
   pub sound : IsSound next
   pub spelled : text ≡ text_of_lines (before next) ++ rest
   pub counted : lines ≡ length (before next)
 
-pub went_on : (text : List ℕ) (lines : ℕ) (d : Due) (line behind rest : List ℕ) (next : Due) → Went text lines d rest → rest ≡ line ++ 10 ∷ behind → Advances d line next → Went text (lines + 1) next behind
+pub went_on : (text : List ℕ) (lines : ℕ) (d : Place) (line behind rest : List ℕ) (next : Place) → Went text lines d rest → rest ≡ line ++ 10 ∷ behind → Advances d line next → Went text (lines + 1) next behind
 went_on text lines d line behind rest next so_far cut (said, (same, leads)) =
     let has = leads_has d said next so_far.sound leads in
     record {
@@ -126,8 +127,8 @@ went_on text lines d line behind rest next so_far cut (said, (same, leads)) =
     }
 
 -- a line that is refused refuses the text
-pub refused_text : (text : List ℕ) (lines : ℕ) (d : Due) (line behind rest : List ℕ) (r : TextRefusal) → Went text lines d rest → IsOpen d → Lacks 10 line → rest ≡ line ++ 10 ∷ behind
-    → Refuses d line (lines + 1) r → IsTextRefusal text r
+pub refused_text : (text : List ℕ) (lines : ℕ) (d : Place) (line behind rest : List ℕ) (r : TextRefusal) → Went text lines d rest → IsOpen d → Lacks 10 line → rest ≡ line ++ 10 ∷ behind
+    → Refuses d line (lines + 1) r → OnFalse (is_memory r) (IsTextRefusal text r)
 refused_text text lines d line behind rest r so_far op whole cut refuses = at r refuses
   where
     stands : (n : ℕ) → n ≡ lines + 1 → IsLineAt text n d line
@@ -138,7 +139,7 @@ refused_text text lines d line behind rest r so_far op whole cut refuses = at r 
       due = op;
     }
 
-    at : (r : TextRefusal) → Refuses d line (lines + 1) r → IsTextRefusal text r
+    at : (r : TextRefusal) → Refuses d line (lines + 1) r → OnFalse (is_memory r) (IsTextRefusal text r)
     at (refusal.BadLine n) (e, fault) = (d, (line, (stands n e, fault)))
     at (refusal.BadFen n) (e, fault) = (d, (line, (stands n e, fault)))
     at (refusal.Doubled n) (e, fault) = (d, (line, (stands n e, fault)))
@@ -148,23 +149,23 @@ refused_text text lines d line behind rest r so_far op whole cut refuses = at r 
 
 -- ---- where no line is due
 
-closed : (d : Due) → ¬ IsOpen d → (c : Certificate) × (d ≡ due.Nothing c)
-closed (due.Nothing c) shut = (c, refl)
-closed due.Title shut = absurd (shut tt)
-closed due.Table shut = absurd (shut tt)
-closed (due.Position k) shut = absurd (shut tt)
-closed (due.Claim k p) shut = absurd (shut tt)
-closed (due.Part c) shut = absurd (shut tt)
-closed (due.Entry c part left) shut = absurd (shut tt)
+closed : (d : Place) → ¬ IsOpen d → (c : Certificate) × (d ≡ at_end c)
+closed (at_end c) shut = (c, refl)
+closed at_title shut = absurd (shut tt)
+closed at_table shut = absurd (shut tt)
+closed (at_position k) shut = absurd (shut tt)
+closed (at_claim k p) shut = absurd (shut tt)
+closed (at_part c) shut = absurd (shut tt)
+closed (at_entry c part left) shut = absurd (shut tt)
 
-pub after_end : (text : List ℕ) (lines : ℕ) (d : Due) (rest : List ℕ) → Went text lines d rest → ¬ IsOpen d → 0 < length rest → IsAfterEnd text (lines + 1)
+pub after_end : (text : List ℕ) (lines : ℕ) (d : Place) (rest : List ℕ) → Went text lines d rest → ¬ IsOpen d → 0 < length rest → IsAfterEnd text (lines + 1)
 after_end text lines d [] so_far shut some = absurd (let h : 0 < 0 = some in omega arith)
 after_end text lines d (b ∷ rest) so_far shut some =
     let whole = closed d shut in
     let at = subst (λ e. Went text lines e (b ∷ rest)) whole.1 so_far in
     (whole.0, (b, (rest, record { sound = at.sound; spelled = at.spelled; counted = ap (λ n. n + 1) at.counted })))
 
-pub truncated : (text : List ℕ) (lines : ℕ) (d : Due) (rest : List ℕ) → Went text lines d rest → IsOpen d → Lacks 10 rest → IsTruncated text
+pub truncated : (text : List ℕ) (lines : ℕ) (d : Place) (rest : List ℕ) → Went text lines d rest → IsOpen d → Lacks 10 rest → IsTruncated text
 truncated text lines d rest so_far op lacks = record {
   number = lines + 1;
   place = d;

@@ -1,5 +1,3 @@
-pub mod Bytes
-pub mod Numbers
 pub mod Printed
 pub mod Squares
 pub mod Leading

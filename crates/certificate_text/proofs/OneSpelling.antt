@@ -12,34 +12,36 @@ use Rattle.strategy_certificate.specs.declared.certificates.Certificate.{Certifi
 use Rattle.strategy_certificate.specs.Parts.{WinList, HoldList, HasEntry, IsPath}
 use Rattle.fen_text.specs.Printed.{fen_of}
 use Rattle.fen_text.proofs.Plain.{printed_tells_apart}
-use Rattle.certificate_text.specs.Lines.{Line, title, table, position, claim, win, hold, win_entry, hold_entry, end, line_text, field_of, Lacks, side_word, claim_word, choice_text}
-use Rattle.certificate_text.specs.Text.{IsTable, IsSound}
+use Rattle.certificate_text.specs.Lines.{Line, title, table, position, claim, win, hold, win_entry, hold_entry, end, line_text, field_of, side_word, claim_word, choice_text}
+use Rattle.shared_words.specs.Bytes.{Lacks}
+use Rattle.strategy_certificate.specs.declared.entries.TheConstants.{MOST_RANK}
+use Rattle.strategy_certificate.specs.Tables.{IsTableSize}
+use Rattle.certificate_text.specs.Text.{IsSound}
 use Rattle.certificate_text.specs.Steps.{Adds, AddsWin, AddsHold, settled, Leads}
 use Rattle.certificate_text.specs.Refusals.{BeginsPart, IsEntryOf, MayStand, IsFen, IsTaken, IsNoLine, HasBadFen, IsDoubled}
-use Rattle.certificate_text.specs.declared.due.Due.{Due}
-use Rattle.certificate_text.specs.declared.due.Due.TheVariants as due
-use Rattle.certificate_text.proofs.Bytes.{halves_agree, Lacks-append}
-use Rattle.certificate_text.proofs.Numbers.{Lacks-decimal}
+use Rattle.certificate_text.specs.Places.{Place, at_title, at_table, at_position, at_claim, at_part, at_entry, at_end}
+use Rattle.shared_words.proofs.LackingBytes.{halves_agree, Lacks-append}
+use Rattle.shared_words.proofs.Numerals.{Lacks-decimal}
 use Rattle.certificate_text.proofs.Fields.{choice_behind, field_cut}
-use Rattle.certificate_text.proofs.Spellings.{Lacks-without, Lacks-fen, Lacks-side, Lacks-claim, Lacks-choice, one_claim_word, one_side_and_count, one_choice}
+use Rattle.certificate_text.proofs.Spellings.{Lacks-field, Lacks-side, Lacks-claim, Lacks-choice, one_claim_word, one_side_and_count, one_choice}
 
 -- ---- of the lines that may stand at one place no two have one text
 
-table_small : (pieces : ℕ) → IsTable pieces → pieces < 2 ^ 64
+table_small : (pieces : ℕ) → IsTableSize pieces → pieces < 2 ^ 64
 table_small pieces (inl e) = omega arith
 table_small pieces (inr e) = omega arith
 
-one_table : (l m : Line) → MayStand due.Table l → MayStand due.Table m → line_text l ≡ line_text m → l ≡ m
+one_table : (l m : Line) → MayStand at_table l → MayStand at_table m → line_text l ≡ line_text m → l ≡ m
 one_table (table p) (table q) one two e = ap table (decimal_injective p q (table_small p one) (table_small q two) (ap (drop 6) e))
 one_table (table p) m one two e = absurd two
 one_table l m one two e = absurd one
 
-one_position : (pieces : ℕ) (l m : Line) → MayStand (due.Position pieces) l → MayStand (due.Position pieces) m → line_text l ≡ line_text m → l ≡ m
+one_position : (pieces : ℕ) (l m : Line) → MayStand (at_position pieces) l → MayStand (at_position pieces) m → line_text l ≡ line_text m → l ≡ m
 one_position pieces (position f) (position g) one two e = ap position (ap (drop 9) e)
 one_position pieces (position f) m one two e = absurd two
 one_position pieces l m one two e = absurd one
 
-one_claim : (pieces : ℕ) (p : Board) (l m : Line) → MayStand (due.Claim pieces p) l → MayStand (due.Claim pieces p) m → line_text l ≡ line_text m → l ≡ m
+one_claim : (pieces : ℕ) (p : Board) (l m : Line) → MayStand (at_claim pieces p) l → MayStand (at_claim pieces p) m → line_text l ≡ line_text m → l ≡ m
 one_claim pieces p (claim c) (claim d) one two e = ap claim (one_claim_word c d (ap (drop 6) e))
 one_claim pieces p (claim c) m one two e = absurd two
 one_claim pieces p l m one two e = absurd one
@@ -72,7 +74,7 @@ one_win_entry : (old : WinList) (l m : Line) → IsEntryOf (Win old) l → IsEnt
 one_win_entry old (win_entry f rank chosen) (win_entry g other_rank other) (bare, (low, path)) (plain, (small, way)) e =
     let fields = halves_agree 32 f g (decimal rank ++ choice_text chosen) (decimal other_rank ++ choice_text other) bare plain e in
     let rest = one_field_and_choice (decimal rank) (decimal other_rank) chosen other
-    (Lacks-decimal 32 rank (inl (omega arith)) (omega arith)) (Lacks-decimal 32 other_rank (inl (omega arith)) (omega arith)) path way fields.1 in
+    (Lacks-decimal 32 rank refl (omega arith)) (Lacks-decimal 32 other_rank refl (omega arith)) path way fields.1 in
     let ranks = decimal_injective rank other_rank (omega arith) (omega arith) rest.0 in
     λ i. win_entry (fields.0 i) (ranks i) (rest.1 i)
 one_win_entry old (win_entry f rank chosen) m one two e = absurd two
@@ -85,32 +87,32 @@ one_hold_entry old (hold_entry f chosen) (hold_entry g other) (bare, path) (plai
 one_hold_entry old (hold_entry f chosen) m one two e = absurd two
 one_hold_entry old l m one two e = absurd one
 
-pub one_line : (d : Due) (l m : Line) → MayStand d l → MayStand d m → line_text l ≡ line_text m → l ≡ m
-one_line due.Title l m one two e = one ∙ sym two
-one_line due.Table l m one two e = one_table l m one two e
-one_line (due.Position pieces) l m one two e = one_position pieces l m one two e
-one_line (due.Claim pieces p) l m one two e = one_claim pieces p l m one two e
-one_line (due.Part c) l m one two e = one_heading l m one two e
-one_line (due.Entry c (Win old) left) l m one two e = one_win_entry old l m one two e
-one_line (due.Entry c (Hold old) left) l m one two e = one_hold_entry old l m one two e
-one_line (due.Nothing c) l m one two e = absurd one
+pub one_line : (d : Place) (l m : Line) → MayStand d l → MayStand d m → line_text l ≡ line_text m → l ≡ m
+one_line at_title l m one two e = one ∙ sym two
+one_line at_table l m one two e = one_table l m one two e
+one_line (at_position pieces) l m one two e = one_position pieces l m one two e
+one_line (at_claim pieces p) l m one two e = one_claim pieces p l m one two e
+one_line (at_part c) l m one two e = one_heading l m one two e
+one_line (at_entry c (Win old) left) l m one two e = one_win_entry old l m one two e
+one_line (at_entry c (Hold old) left) l m one two e = one_hold_entry old l m one two e
+one_line (at_end c) l m one two e = absurd one
 
 -- ---- a line that leads on may stand there
 
 adds_may : (part : Part) (l : Line) (longer : Part) → Adds part l longer → IsEntryOf part l
-adds_may (Win old) (win_entry field rank chosen) (Win new) a = (Lacks-fen 32 a.p field refl a.lawful a.fen, a.range)
-adds_may (Hold old) (hold_entry field chosen) (Hold new) a = (Lacks-fen 32 a.p field refl a.lawful a.fen, a.path)
+adds_may (Win old) (win_entry field rank chosen) (Win new) a = (Lacks-field 32 a.p field refl a.lawful a.fen, a.range)
+adds_may (Hold old) (hold_entry field chosen) (Hold new) a = (Lacks-field 32 a.p field refl a.lawful a.fen, a.path)
 adds_may part l longer a = absurd a
 
-pub leads_may : (d : Due) (l : Line) (next : Due) → IsSound d → Leads d l next → MayStand d l
-leads_may due.Title title next sound e = refl
-leads_may due.Table (table pieces) next sound (few, e) = few
-leads_may (due.Position pieces) (position field) next sound says = Lacks-fen 32 says.p field refl says.lawful says.fen
-leads_may (due.Claim pieces p) (claim c) next sound e = tt
-leads_may (due.Part c) (win side count) next sound (small, e) = small
-leads_may (due.Part c) (hold side count) next sound (small, e) = small
-leads_may (due.Part c) end next sound e = tt
-leads_may (due.Entry c part left) l next sound (longer, (adds, e)) = adds_may part l longer adds
+pub leads_may : (d : Place) (l : Line) (next : Place) → IsSound d → Leads d l next → MayStand d l
+leads_may at_title title next sound e = refl
+leads_may at_table (table pieces) next sound (few, e) = few
+leads_may (at_position pieces) (position field) next sound says = Lacks-field 32 says.p field refl says.lawful says.fen
+leads_may (at_claim pieces p) (claim c) next sound e = tt
+leads_may (at_part c) (win side count) next sound (small, e) = small
+leads_may (at_part c) (hold side count) next sound (small, e) = small
+leads_may (at_part c) end next sound e = tt
+leads_may (at_entry c part left) l next sound (longer, (adds, e)) = adds_may part l longer adds
 leads_may d l next sound none = absurd none
 
 -- ---- it leads to one place
@@ -132,16 +134,16 @@ adds_one (Hold old) (hold_entry field chosen) (Hold new) (Hold other) a b = ap H
 adds_one (Hold old) (hold_entry field chosen) (Hold new) other a b = absurd b
 adds_one part l longer other a b = absurd a
 
-pub leads_one : (d : Due) (l : Line) (n m : Due) → Leads d l n → Leads d l m → n ≡ m
-leads_one due.Title title n m one two = one ∙ sym two
-leads_one due.Table (table pieces) n m (few, one) (small, two) = one ∙ sym two
-leads_one (due.Position pieces) (position field) n m one two =
-    one.leads ∙ ap (λ p. due.Claim pieces p) (printed_tells_apart one.p two.p one.lawful two.lawful (sym one.fen ∙ two.fen)) ∙ sym two.leads
-leads_one (due.Claim pieces p) (claim c) n m one two = one ∙ sym two
-leads_one (due.Part c) (win side count) n m (small, one) (low, two) = one ∙ sym two
-leads_one (due.Part c) (hold side count) n m (small, one) (low, two) = one ∙ sym two
-leads_one (due.Part c) end n m one two = one ∙ sym two
-leads_one (due.Entry c part left) l n m (longer, (adds, one)) (other, (also, two)) =
+pub leads_one : (d : Place) (l : Line) (n m : Place) → Leads d l n → Leads d l m → n ≡ m
+leads_one at_title title n m one two = one ∙ sym two
+leads_one at_table (table pieces) n m (few, one) (small, two) = one ∙ sym two
+leads_one (at_position pieces) (position field) n m one two =
+    one.leads ∙ ap (λ p. at_claim pieces p) (printed_tells_apart one.p two.p one.lawful two.lawful (sym one.fen ∙ two.fen)) ∙ sym two.leads
+leads_one (at_claim pieces p) (claim c) n m one two = one ∙ sym two
+leads_one (at_part c) (win side count) n m (small, one) (low, two) = one ∙ sym two
+leads_one (at_part c) (hold side count) n m (small, one) (low, two) = one ∙ sym two
+leads_one (at_part c) end n m one two = one ∙ sym two
+leads_one (at_entry c part left) l n m (longer, (adds, one)) (other, (also, two)) =
     one ∙ ap (λ more. settled c more (left - 1)) (adds_one part l longer other adds also) ∙ sym two
 leads_one d l n m one two = absurd one
 
@@ -149,36 +151,36 @@ leads_one d l n m one two = absurd one
 
 Lacks-heading : (side : Side) (count : ℕ) → count < 2 ^ 32 → Lacks 10 (side_word side ++ 32 ∷ decimal count)
 Lacks-heading side count small =
-    Lacks-append 10 (side_word side) (32 ∷ decimal count) (Lacks-side side) ((λ same. omega arith), Lacks-decimal 10 count (inl (omega arith)) (omega arith))
+    Lacks-append 10 (side_word side) (32 ∷ decimal count) (Lacks-side side) (Lacks-decimal 10 count refl (omega arith))
 
 adds_bare : (part : Part) (l : Line) (longer : Part) → Adds part l longer → Lacks 10 (line_text l)
 adds_bare (Win old) (win_entry field rank chosen) (Win new) a =
-    let low : rank ≤ 2 ^ 62 = a.range.0 in
-    let spelled = Lacks-append 10 (decimal rank) (choice_text chosen) (Lacks-decimal 10 rank (inl (omega arith)) (omega arith)) (Lacks-choice chosen a.range.1) in
-    Lacks-append 10 field (32 ∷ (decimal rank ++ choice_text chosen)) (Lacks-fen 10 a.p field refl a.lawful a.fen) ((λ same. omega arith), spelled)
+    let low : rank ≤ MOST_RANK = a.range.0 in
+    let spelled = Lacks-append 10 (decimal rank) (choice_text chosen) (Lacks-decimal 10 rank refl (omega arith)) (Lacks-choice chosen a.range.1) in
+    Lacks-append 10 field (32 ∷ (decimal rank ++ choice_text chosen)) (Lacks-field 10 a.p field refl a.lawful a.fen) spelled
 adds_bare (Hold old) (hold_entry field chosen) (Hold new) a =
-    Lacks-append 10 field (choice_text chosen) (Lacks-fen 10 a.p field refl a.lawful a.fen) (Lacks-choice chosen a.path)
+    Lacks-append 10 field (choice_text chosen) (Lacks-field 10 a.p field refl a.lawful a.fen) (Lacks-choice chosen a.path)
 adds_bare part l longer a = absurd a
 
-pub leads_bare : (d : Due) (l : Line) (next : Due) → IsSound d → Leads d l next → Lacks 10 (line_text l)
-leads_bare due.Title title next sound e = Lacks-without 10 (codes "certificate 1") refl
-leads_bare due.Table (table pieces) next sound (few, e) =
-    Lacks-append 10 (codes "table ") (decimal pieces) (Lacks-without 10 (codes "table ") refl) (Lacks-decimal 10 pieces (inl (omega arith)) (table_small pieces few))
-leads_bare (due.Position pieces) (position field) next sound says =
-    Lacks-append 10 (codes "position ") field (Lacks-without 10 (codes "position ") refl) (Lacks-fen 10 says.p field refl says.lawful says.fen)
-leads_bare (due.Claim pieces p) (claim c) next sound e = Lacks-append 10 (codes "claim ") (claim_word c) (Lacks-without 10 (codes "claim ") refl) (Lacks-claim c)
-leads_bare (due.Part c) (win side count) next sound (small, e) =
-    Lacks-append 10 (codes "win ") (side_word side ++ 32 ∷ decimal count) (Lacks-without 10 (codes "win ") refl) (Lacks-heading side count small)
-leads_bare (due.Part c) (hold side count) next sound (small, e) =
-    Lacks-append 10 (codes "hold ") (side_word side ++ 32 ∷ decimal count) (Lacks-without 10 (codes "hold ") refl) (Lacks-heading side count small)
-leads_bare (due.Part c) end next sound e = Lacks-without 10 (codes "end") refl
-leads_bare (due.Entry c part left) l next sound (longer, (adds, e)) = adds_bare part l longer adds
+pub leads_bare : (d : Place) (l : Line) (next : Place) → IsSound d → Leads d l next → Lacks 10 (line_text l)
+leads_bare at_title title next sound e = refl
+leads_bare at_table (table pieces) next sound (few, e) =
+    Lacks-append 10 (codes "table ") (decimal pieces) refl (Lacks-decimal 10 pieces refl (table_small pieces few))
+leads_bare (at_position pieces) (position field) next sound says =
+    Lacks-append 10 (codes "position ") field refl (Lacks-field 10 says.p field refl says.lawful says.fen)
+leads_bare (at_claim pieces p) (claim c) next sound e = Lacks-append 10 (codes "claim ") (claim_word c) refl (Lacks-claim c)
+leads_bare (at_part c) (win side count) next sound (small, e) =
+    Lacks-append 10 (codes "win ") (side_word side ++ 32 ∷ decimal count) refl (Lacks-heading side count small)
+leads_bare (at_part c) (hold side count) next sound (small, e) =
+    Lacks-append 10 (codes "hold ") (side_word side ++ 32 ∷ decimal count) refl (Lacks-heading side count small)
+leads_bare (at_part c) end next sound e = refl
+leads_bare (at_entry c part left) l next sound (longer, (adds, e)) = adds_bare part l longer adds
 leads_bare d l next sound none = absurd none
 
 -- ---- a line that is refused does not lead on
 
 -- what a line says that leads on, if it says a position: a FEN, of a position that is not taken
-record IsNew (d : Due) (field : List ℕ) : Type 0 where
+record IsNew (d : Place) (field : List ℕ) : Type 0 where
   fen : IsFen field
   free : (p : Board) → IsLawful p → field ≡ fen_of p → ¬ IsTaken d p
 
@@ -186,7 +188,7 @@ record IsNew (d : Due) (field : List ℕ) : Type 0 where
 still_absent : {E : Type 0} (rows : List (Board × E)) (p q : Board) (field : List ℕ) → IsLawful p → IsLawful q → field ≡ fen_of p → field ≡ fen_of q → ¬ HasEntry rows p → ¬ HasEntry rows q
 still_absent rows p q field lp lq e f absent taken = absent (subst (HasEntry rows) (printed_tells_apart q p lq lp (sym f ∙ e)) taken)
 
-adds_new : (c : Certificate) (part : Part) (left : ℕ) (l : Line) (longer : Part) → Adds part l longer → IfSome (field_of l) (IsNew (due.Entry c part left))
+adds_new : (c : Certificate) (part : Part) (left : ℕ) (l : Line) (longer : Part) → Adds part l longer → IfSome (field_of l) (IsNew (at_entry c part left))
 adds_new c (Win old) left (win_entry field rank chosen) (Win new) a = record {
   fen = (a.p, (a.lawful, a.fen));
   free = λ q lawful e. still_absent old.entries a.p q field a.lawful lawful a.fen e a.absent;
@@ -197,44 +199,44 @@ adds_new c (Hold old) left (hold_entry field chosen) (Hold new) a = record {
 }
 adds_new c part left l longer a = absurd a
 
-leads_new : (d : Due) (l : Line) (next : Due) → Leads d l next → IfSome (field_of l) (IsNew d)
-leads_new due.Title title next e = tt
-leads_new due.Table (table pieces) next leads = tt
-leads_new (due.Position pieces) (position field) next says = record { fen = (says.p, (says.lawful, says.fen)); free = λ q lawful e taken. taken }
-leads_new (due.Claim pieces p) (claim c) next e = tt
-leads_new (due.Part c) (win side count) next leads = tt
-leads_new (due.Part c) (hold side count) next leads = tt
-leads_new (due.Part c) end next e = tt
-leads_new (due.Entry c part left) l next (longer, (adds, e)) = adds_new c part left l longer adds
+leads_new : (d : Place) (l : Line) (next : Place) → Leads d l next → IfSome (field_of l) (IsNew d)
+leads_new at_title title next e = tt
+leads_new at_table (table pieces) next leads = tt
+leads_new (at_position pieces) (position field) next says = record { fen = (says.p, (says.lawful, says.fen)); free = λ q lawful e taken. taken }
+leads_new (at_claim pieces p) (claim c) next e = tt
+leads_new (at_part c) (win side count) next leads = tt
+leads_new (at_part c) (hold side count) next leads = tt
+leads_new (at_part c) end next e = tt
+leads_new (at_entry c part left) l next (longer, (adds, e)) = adds_new c part left l longer adds
 leads_new d l next none = absurd none
 
 -- the field of a line that leads on and is spelled as this line, which may stand there too
-field_new : (d : Due) (said l : Line) (next : Due) (field : List ℕ) → IsSound d → Leads d l next → MayStand d said → line_text said ≡ line_text l → field_of said ≡ Some field → IsNew d field
+field_new : (d : Place) (said l : Line) (next : Place) (field : List ℕ) → IsSound d → Leads d l next → MayStand d said → line_text said ≡ line_text l → field_of said ≡ Some field → IsNew d field
 field_new d said l next field sound leads may same has =
     subst (λ o. IfSome o (IsNew d)) (ap field_of (sym (one_line d said l may (leads_may d l next sound leads) same)) ∙ has) (leads_new d l next leads)
 
-pub no_line_leads_not : (d : Due) (line : List ℕ) (l : Line) (next : Due) → IsSound d → IsNoLine d line → line ≡ line_text l → Leads d l next → ⊥
+pub no_line_leads_not : (d : Place) (line : List ℕ) (l : Line) (next : Place) → IsSound d → IsNoLine d line → line ≡ line_text l → Leads d l next → ⊥
 no_line_leads_not d line l next sound fault same leads = fault l (leads_may d l next sound leads) same
 
-pub bad_fen_leads_not : (d : Due) (line : List ℕ) (l : Line) (next : Due) → IsSound d → HasBadFen d line → line ≡ line_text l → Leads d l next → ⊥
+pub bad_fen_leads_not : (d : Place) (line : List ℕ) (l : Line) (next : Place) → IsSound d → HasBadFen d line → line ≡ line_text l → Leads d l next → ⊥
 bad_fen_leads_not d line l next sound fault same leads =
     let new = field_new d fault.said l next fault.field sound leads fault.may (sym fault.spelled ∙ same) fault.has in
     fault.wrong new.fen
 
-pub doubled_leads_not : (d : Due) (line : List ℕ) (l : Line) (next : Due) → IsSound d → IsDoubled d line → line ≡ line_text l → Leads d l next → ⊥
+pub doubled_leads_not : (d : Place) (line : List ℕ) (l : Line) (next : Place) → IsSound d → IsDoubled d line → line ≡ line_text l → Leads d l next → ⊥
 doubled_leads_not d line l next sound fault same leads =
     let new = field_new d fault.said l next (fen_of fault.p) sound leads fault.may (sym fault.spelled ∙ same) fault.has in
     new.free fault.p fault.lawful refl fault.taken
 
 -- ---- a line is refused in one way
 
-pub no_line_bad_fen : (d : Due) (line : List ℕ) → IsNoLine d line → HasBadFen d line → ⊥
+pub no_line_bad_fen : (d : Place) (line : List ℕ) → IsNoLine d line → HasBadFen d line → ⊥
 no_line_bad_fen d line none fault = none fault.said fault.may fault.spelled
 
-pub no_line_doubled : (d : Due) (line : List ℕ) → IsNoLine d line → IsDoubled d line → ⊥
+pub no_line_doubled : (d : Place) (line : List ℕ) → IsNoLine d line → IsDoubled d line → ⊥
 no_line_doubled d line none fault = none fault.said fault.may fault.spelled
 
-pub bad_fen_doubled : (d : Due) (line : List ℕ) → HasBadFen d line → IsDoubled d line → ⊥
+pub bad_fen_doubled : (d : Place) (line : List ℕ) → HasBadFen d line → IsDoubled d line → ⊥
 bad_fen_doubled d line fault twice =
     let same = one_line d twice.said fault.said twice.may fault.may (sym twice.spelled ∙ fault.spelled) in
     let fields : Some (fen_of twice.p) ≡ Some fault.field = sym twice.has ∙ ap field_of same ∙ fault.has in

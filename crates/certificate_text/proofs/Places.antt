@@ -3,30 +3,30 @@ use Rattle.std.proofs.Common.{◌≡◌, ℕ, suc, List, [], ◌∷◌, ◌++◌
 use Rattle.certificate_text.specs.Lines.{Line, line_text, text_of_lines}
 use Rattle.certificate_text.specs.Text.{IsSound}
 use Rattle.certificate_text.specs.Steps.{Leads}
-use Rattle.certificate_text.specs.declared.due.Due.{Due}
-use Rattle.certificate_text.proofs.Bytes.{halves_agree}
+use Rattle.certificate_text.specs.Places.{Place}
+use Rattle.shared_words.proofs.LackingBytes.{halves_agree}
 use Rattle.certificate_text.proofs.Leading.{leads_has}
 use Rattle.certificate_text.proofs.OneSpelling.{one_line, leads_may, leads_one, leads_bare}
 use Rattle.certificate_text.proofs.Runs.{Runs}
 
 -- a line that leads on stands first in the rest
-pub record GoesOn (d : Due) (rest : List ℕ) : Type 0 where
+pub record GoesOn (d : Place) (rest : List ℕ) : Type 0 where
   pub line : Line
-  pub next : Due
+  pub next : Place
   pub behind : List ℕ
   pub leads : Leads d line next
   pub spelled : rest ≡ line_text line ++ 10 ∷ behind
 
 -- two readings stand at one place
-pub record IsSamePlace (d e : Due) (lines more : List Line) (rest left : List ℕ) : Type 0 where
+pub record IsSamePlace (d e : Place) (lines more : List Line) (rest left : List ℕ) : Type 0 where
   pub one_due : d ≡ e
   pub one_rest : rest ≡ left
   pub one_count : length lines ≡ length more
 
-abbrev pub Meet : Due → Due → List Line → List Line → List ℕ → List ℕ → Type 0
+abbrev pub Meet : Place → Place → List Line → List Line → List ℕ → List ℕ → Type 0
 Meet d e lines more rest left = IsSamePlace d e lines more rest left ⊎ (GoesOn d rest ⊎ GoesOn e left)
 
-one_longer : (d e : Due) (l m : Line) (lines more : List Line) (rest left : List ℕ) → Meet d e lines more rest left → Meet d e (l ∷ lines) (m ∷ more) rest left
+one_longer : (d e : Place) (l m : Line) (lines more : List Line) (rest left : List ℕ) → Meet d e lines more rest left → Meet d e (l ∷ lines) (m ∷ more) rest left
 one_longer d e l m lines more rest left (inl same) = inl (record { one_due = same.one_due; one_rest = same.one_rest; one_count = ap suc same.one_count })
 one_longer d e l m lines more rest left (inr on) = inr on
 
@@ -36,7 +36,7 @@ line_first line lines rest =
     append_assoc (line_text line ++ 10 ∷ []) (text_of_lines lines) rest ∙ append_assoc (line_text line) (10 ∷ []) (text_of_lines lines ++ rest)
 
 -- two readings of one text from one place stand at one place, or a line leads one of them on
-pub places : (d : Due) (lines more : List Line) (e f : Due) (rest left : List ℕ) → IsSound d → Runs d lines e → Runs d more f
+pub places : (d : Place) (lines more : List Line) (e f : Place) (rest left : List ℕ) → IsSound d → Runs d lines e → Runs d more f
     → text_of_lines lines ++ rest ≡ text_of_lines more ++ left → Meet e f lines more rest left
 places d [] [] e f rest left sound here there text = inl (record { one_due = sym here ∙ there; one_rest = text; one_count = refl })
 places d [] (m ∷ more) e f rest left sound here (next, (leads, runs)) text =

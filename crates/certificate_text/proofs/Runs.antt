@@ -17,16 +17,15 @@ use Rattle.strategy_certificate.specs.declared.certificates.Certificate.{Certifi
 use Rattle.strategy_certificate.specs.Parts.{IsWinRow, IsHoldRow, HasDistinctPositions, HasEntry, positions_of}
 use Rattle.certificate_text.specs.Lines.{Line, end}
 use Rattle.certificate_text.specs.Text.{size, win_line, hold_line, part_line, entry_lines, part_lines, head_lines, open_lines, IsPart, IsPrinted, IsPrintedPart, before, IsSound}
-use Rattle.certificate_text.specs.Steps.{Leads, settled}
-use Rattle.certificate_text.specs.declared.due.Due.{Due}
-use Rattle.certificate_text.specs.declared.due.Due.TheVariants as due
+use Rattle.certificate_text.specs.Steps.{Adds, Leads, settled}
+use Rattle.certificate_text.specs.Places.{Place, at_title, at_table, at_position, at_claim, at_part, at_entry, at_end}
 
 -- by these lines, one behind the other, what is due goes from the first to the last
-abbrev pub Runs : Due → List Line → Due → Type 0
+abbrev pub Runs : Place → List Line → Place → Type 0
 Runs d [] last = d ≡ last
-Runs d (line ∷ lines) last = (next : Due) × (Leads d line next × Runs next lines last)
+Runs d (line ∷ lines) last = (next : Place) × (Leads d line next × Runs next lines last)
 
-pub runs_append : (d : Due) (lines more : List Line) (middle last : Due) → Runs d lines middle → Runs middle more last → Runs d (lines ++ more) last
+pub runs_append : (d : Place) (lines more : List Line) (middle last : Place) → Runs d lines middle → Runs middle more last → Runs d (lines ++ more) last
 runs_append d [] more middle last e runs = subst (λ m. Runs m more last) (sym e) runs
 runs_append d (line ∷ lines) more middle last (next, (leads, runs)) others = (next, (leads, runs_append next lines more middle last runs others))
 
@@ -67,123 +66,112 @@ abbrev hold_part : Side → List (Board × Option (List ℕ)) → Part
 hold_part side rows = Hold (record { side = side; entries = rows })
 
 -- what is due goes from the first entries to all, where n entries are left behind the first, and `left` behind all
-win_runs : (c : Certificate) (side : Side) (done more : List (Board × WinEntry)) (n left : ℕ) → n ≡ length more + left → IsPart (win_part side (done ++ more))
-    → Runs (settled c (win_part side done) n) (map win_line more) (settled c (win_part side (done ++ more)) left)
-win_runs c side done [] n left e valid =
+rows_run : {E : Type 0} (part_of : List (Board × E) → Part) (line_of : Board × E → Line) (c : Certificate)
+    → ((done : List (Board × E)) (row : Board × E) (more : List (Board × E)) → IsPart (part_of (done ++ row ∷ more)) → Adds (part_of done) (line_of row) (part_of (done ++ row ∷ [])))
+    → (done more : List (Board × E)) (n left : ℕ) → n ≡ length more + left → IsPart (part_of (done ++ more))
+    → Runs (settled c (part_of done) n) (map line_of more) (settled c (part_of (done ++ more)) left)
+rows_run part_of line_of c adds done [] n left e valid =
     let same : n ≡ left = omega (arith, e) in
-    λ i. settled c (win_part side (sym (append-nil done) i)) (same i)
-win_runs c side done (row ∷ more) zero left e valid = absurd (omega (arith, e))
-win_runs c side done (row ∷ more) (suc n) left e valid =
-    let longer = win_part side (done ++ row ∷ []) in
+    λ i. settled c (part_of (sym (append-nil done) i)) (same i)
+rows_run part_of line_of c adds done (row ∷ more) zero left e valid = absurd (omega (arith, e))
+rows_run part_of line_of c adds done (row ∷ more) (suc n) left e valid =
+    let longer = part_of (done ++ row ∷ []) in
     let rows : (done ++ row ∷ []) ++ more ≡ done ++ row ∷ more = append_assoc done (row ∷ []) more in
-    let keeps = here_all IsWinRow done row more valid.rows in
     let back : n ≡ suc n - 1 = omega arith in
-    let part_valid : IsPart (win_part side ((done ++ row ∷ []) ++ more)) = subst (λ all. IsPart (win_part side all)) (sym rows) valid in (
+    let part_valid : IsPart (part_of ((done ++ row ∷ []) ++ more)) = subst (λ all. IsPart (part_of all)) (sym rows) valid in (
       settled c longer n,
       (
-        (
-          longer,
-          (
-            record {
-              p = row.0;
-              lawful = keeps.0;
-              fen = refl;
-              absent = absent done row more valid.distinct;
-              range = keeps.1;
-              behind = refl;
-              valid = record { distinct = front_distinct (done ++ row ∷ []) more part_valid.distinct; rows = front_all IsWinRow (done ++ row ∷ []) more part_valid.rows };
-            },
-            ap (settled c longer) back,
-          ),
-        ),
-        subst (λ all. Runs (settled c longer n) (map win_line more) (settled c (win_part side all) left)) rows
-            (win_runs c side (done ++ row ∷ []) more n left (omega (arith, e)) part_valid),
+        (longer, (adds done row more valid, ap (settled c longer) back)),
+        subst (λ all. Runs (settled c longer n) (map line_of more) (settled c (part_of all) left)) rows
+            (rows_run part_of line_of c adds (done ++ row ∷ []) more n left (omega (arith, e)) part_valid),
       ),
     )
 
-hold_runs : (c : Certificate) (side : Side) (done more : List (Board × Option (List ℕ))) (n left : ℕ) → n ≡ length more + left → IsPart (hold_part side (done ++ more))
-    → Runs (settled c (hold_part side done) n) (map hold_line more) (settled c (hold_part side (done ++ more)) left)
-hold_runs c side done [] n left e valid =
-    let same : n ≡ left = omega (arith, e) in
-    λ i. settled c (hold_part side (sym (append-nil done) i)) (same i)
-hold_runs c side done (row ∷ more) zero left e valid = absurd (omega (arith, e))
-hold_runs c side done (row ∷ more) (suc n) left e valid =
-    let longer = hold_part side (done ++ row ∷ []) in
-    let rows : (done ++ row ∷ []) ++ more ≡ done ++ row ∷ more = append_assoc done (row ∷ []) more in
+adds_win : (side : Side) (done : List (Board × WinEntry)) (row : Board × WinEntry) (more : List (Board × WinEntry)) → IsPart (win_part side (done ++ row ∷ more))
+    → Adds (win_part side done) (win_line row) (win_part side (done ++ row ∷ []))
+adds_win side done row more valid =
+    let keeps = here_all IsWinRow done row more valid.rows in
+    let split = sym (append_assoc done (row ∷ []) more) in
+    record {
+      p = row.0;
+      lawful = keeps.0;
+      fen = refl;
+      absent = absent done row more valid.distinct;
+      range = keeps.1;
+      behind = refl;
+      valid = record {
+        distinct = front_distinct (done ++ row ∷ []) more (subst HasDistinctPositions split valid.distinct);
+        rows = front_all IsWinRow (done ++ row ∷ []) more (subst (All IsWinRow) split valid.rows);
+      };
+    }
+
+adds_hold : (side : Side) (done : List (Board × Option (List ℕ))) (row : Board × Option (List ℕ)) (more : List (Board × Option (List ℕ))) → IsPart (hold_part side (done ++ row ∷ more))
+    → Adds (hold_part side done) (hold_line row) (hold_part side (done ++ row ∷ []))
+adds_hold side done row more valid =
     let keeps = here_all IsHoldRow done row more valid.rows in
-    let back : n ≡ suc n - 1 = omega arith in
-    let part_valid : IsPart (hold_part side ((done ++ row ∷ []) ++ more)) = subst (λ all. IsPart (hold_part side all)) (sym rows) valid in (
-      settled c longer n,
-      (
-        (
-          longer,
-          (
-            record {
-              p = row.0;
-              lawful = keeps.0;
-              fen = refl;
-              absent = absent done row more valid.distinct;
-              path = keeps.1;
-              behind = refl;
-              valid = record { distinct = front_distinct (done ++ row ∷ []) more part_valid.distinct; rows = front_all IsHoldRow (done ++ row ∷ []) more part_valid.rows };
-            },
-            ap (settled c longer) back,
-          ),
-        ),
-        subst (λ all. Runs (settled c longer n) (map hold_line more) (settled c (hold_part side all) left)) rows
-            (hold_runs c side (done ++ row ∷ []) more n left (omega (arith, e)) part_valid),
-      ),
-    )
+    let split = sym (append_assoc done (row ∷ []) more) in
+    record {
+      p = row.0;
+      lawful = keeps.0;
+      fen = refl;
+      absent = absent done row more valid.distinct;
+      path = keeps.1;
+      behind = refl;
+      valid = record {
+        distinct = front_distinct (done ++ row ∷ []) more (subst HasDistinctPositions split valid.distinct);
+        rows = front_all IsHoldRow (done ++ row ∷ []) more (subst (All IsHoldRow) split valid.rows);
+      };
+    }
 
 -- what is due goes from the first line of a part to its last entry, where `left` more are announced
-part_runs : (c : Certificate) (part : Part) (left : ℕ) → IsPart part → size part + left < 2 ^ 32 → Runs (due.Part c) (part_line part (size part + left) ∷ entry_lines part) (settled c part left)
+part_runs : (c : Certificate) (part : Part) (left : ℕ) → IsPart part → size part + left < 2 ^ 32 → Runs (at_part c) (part_line part (size part + left) ∷ entry_lines part) (settled c part left)
 part_runs c (Win part) left valid small =
     let n = length part.entries + left in
-    (settled c (win_part part.side []) n, ((small, refl), win_runs c part.side [] part.entries n left refl valid))
+    (settled c (win_part part.side []) n, ((small, refl), rows_run (win_part part.side) win_line c (adds_win part.side) [] part.entries n left refl valid))
 part_runs c (Hold part) left valid small =
     let n = length part.entries + left in
-    (settled c (hold_part part.side []) n, ((small, refl), hold_runs c part.side [] part.entries n left refl valid))
+    (settled c (hold_part part.side []) n, ((small, refl), rows_run (hold_part part.side) hold_line c (adds_hold part.side) [] part.entries n left refl valid))
 
 -- ---- a certificate
 
 abbrev of_parts : Certificate → List Part → Certificate
 of_parts c parts = record c { parts = parts }
 
-parts_run : (c : Certificate) (done more : List Part) → All IsPrintedPart more → Runs (due.Part (of_parts c done)) (flat_map part_lines more) (due.Part (of_parts c (done ++ more)))
-parts_run c done [] all = ap (λ parts. due.Part (of_parts c parts)) (sym (append-nil done))
+parts_run : (c : Certificate) (done more : List Part) → All IsPrintedPart more → Runs (at_part (of_parts c done)) (flat_map part_lines more) (at_part (of_parts c (done ++ more)))
+parts_run c done [] all = ap (λ parts. at_part (of_parts c parts)) (sym (append-nil done))
 parts_run c done (part ∷ more) all =
     let printed = All-head IsPrintedPart part more all in
     let none : size part + 0 ≡ size part = omega arith in
-    let first = subst (λ n. Runs (due.Part (of_parts c done)) (part_line part n ∷ entry_lines part) (due.Part (of_parts c (done ++ part ∷ [])))) none
+    let first = subst (λ n. Runs (at_part (of_parts c done)) (part_line part n ∷ entry_lines part) (at_part (of_parts c (done ++ part ∷ [])))) none
     (part_runs (of_parts c done) part 0 printed.0 (omega (arith, printed.1))) in
-    runs_append (due.Part (of_parts c done)) (part_lines part) (flat_map part_lines more) (due.Part (of_parts c (done ++ part ∷ []))) (due.Part (of_parts c (done ++ part ∷ more))) first
-    (subst (λ parts. Runs (due.Part (of_parts c (done ++ part ∷ []))) (flat_map part_lines more) (due.Part (of_parts c parts))) (append_assoc done (part ∷ []) more)
+    runs_append (at_part (of_parts c done)) (part_lines part) (flat_map part_lines more) (at_part (of_parts c (done ++ part ∷ []))) (at_part (of_parts c (done ++ part ∷ more))) first
+    (subst (λ parts. Runs (at_part (of_parts c (done ++ part ∷ []))) (flat_map part_lines more) (at_part (of_parts c parts))) (append_assoc done (part ∷ []) more)
     (parts_run c (done ++ part ∷ []) more (All-tail IsPrintedPart part more all)))
 
-open_reached : (c : Certificate) → IsPrinted c → Runs due.Title (open_lines c) (due.Part c)
+open_reached : (c : Certificate) → IsPrinted c → Runs at_title (open_lines c) (at_part c)
 open_reached c printed =
-    runs_append due.Title (head_lines c) (flat_map part_lines c.parts) (due.Part (of_parts c [])) (due.Part c) (
-      due.Table,
+    runs_append at_title (head_lines c) (flat_map part_lines c.parts) (at_part (of_parts c [])) (at_part c) (
+      at_table,
       (
         refl,
         (
-          due.Position c.pieces,
-          ((printed.pieces, refl), (due.Claim c.pieces c.position, (record { p = c.position; lawful = printed.lawful; fen = refl; leads = refl }, (due.Part (of_parts c []), (refl, refl))))),
+          at_position c.pieces,
+          ((printed.pieces, refl), (at_claim c.pieces c.position, (record { p = c.position; lawful = printed.lawful; fen = refl; leads = refl }, (at_part (of_parts c []), (refl, refl))))),
         ),
       ),
     )
     (parts_run c [] c.parts printed.parts)
 
 -- by the lines that stand before it, each due is reached from the first line on
-pub reached : (d : Due) → IsSound d → Runs due.Title (before d) d
-reached due.Title sound = refl
-reached due.Table sound = (due.Table, (refl, refl))
-reached (due.Position pieces) sound = (due.Table, (refl, (due.Position pieces, ((sound, refl), refl))))
-reached (due.Claim pieces p) sound =
-    (due.Table, (refl, (due.Position pieces, ((sound.0, refl), (due.Claim pieces p, (record { p = p; lawful = sound.1; fen = refl; leads = refl }, refl))))))
-reached (due.Part c) sound = open_reached c sound
-reached (due.Entry c part zero) (printed, (valid, (some, small))) = absurd (let h : 0 < 0 = some in omega arith)
-reached (due.Entry c part (suc left)) (printed, (valid, (some, small))) =
-    runs_append due.Title (open_lines c) (part_line part (size part + suc left) ∷ entry_lines part) (due.Part c) (due.Entry c part (suc left)) (open_reached c printed) (part_runs c part (suc left) valid small)
-reached (due.Nothing c) sound =
-    runs_append due.Title (open_lines c) (end ∷ []) (due.Part c) (due.Nothing c) (open_reached c sound) (due.Nothing c, (refl, refl))
+pub reached : (d : Place) → IsSound d → Runs at_title (before d) d
+reached at_title sound = refl
+reached at_table sound = (at_table, (refl, refl))
+reached (at_position pieces) sound = (at_table, (refl, (at_position pieces, ((sound, refl), refl))))
+reached (at_claim pieces p) sound =
+    (at_table, (refl, (at_position pieces, ((sound.0, refl), (at_claim pieces p, (record { p = p; lawful = sound.1; fen = refl; leads = refl }, refl))))))
+reached (at_part c) sound = open_reached c sound
+reached (at_entry c part zero) (printed, (valid, (some, small))) = absurd (let h : 0 < 0 = some in omega arith)
+reached (at_entry c part (suc left)) (printed, (valid, (some, small))) =
+    runs_append at_title (open_lines c) (part_line part (size part + suc left) ∷ entry_lines part) (at_part c) (at_entry c part (suc left)) (open_reached c printed) (part_runs c part (suc left) valid small)
+reached (at_end c) sound =
+    runs_append at_title (open_lines c) (end ∷ []) (at_part c) (at_end c) (open_reached c sound) (at_end c, (refl, refl))

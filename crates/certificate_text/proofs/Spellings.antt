@@ -15,47 +15,30 @@ use Rattle.strategy_certificate.specs.declared.claims.Claim.TheVariants.{Win, Ho
 use Rattle.strategy_certificate.specs.Parts.{IsPath}
 use Rattle.fen_text.specs.Printed.{fen_of}
 use Rattle.fen_text.specs.Laws.{is_printed_byte}
-use Rattle.fen_text.proofs.Plain.{printed_is_plain}
-use Rattle.certificate_text.specs.Lines.{Lacks, side_word, claim_word, separator, squares_text, further_squares, move_text, choice_text}
-use Rattle.certificate_text.proofs.Bytes.{halves_agree, Lacks-append}
-use Rattle.certificate_text.proofs.Numbers.{Lacks-decimal}
+use Rattle.fen_text.proofs.Plain.{Lacks-fen}
+use Rattle.certificate_text.specs.Lines.{side_word, claim_word, separator, squares_text, further_squares, move_text, choice_text}
+use Rattle.shared_words.specs.Bytes.{Lacks}
+use Rattle.shared_words.proofs.LackingBytes.{halves_agree, Lacks-cons, Lacks-first, Lacks-rest, Lacks-append}
+use Rattle.shared_words.proofs.Numerals.{Lacks-decimal}
 use Rattle.certificate_text.proofs.Squares.{IsSeparator, bare, same_paths}
 use Rattle.certificate_text.proofs.Fields.{side_bare}
 
 -- ---- bytes that do not stand in a text
 
--- another byte than this at each place
-abbrev pub is_without : ℕ → List ℕ → Bool
-is_without byte [] = true
-is_without byte (x ∷ text) = if x == byte then false else is_without byte text
-
-first_without : (byte x : ℕ) (rest same : Bool) → (x == byte) ≡ same → (if same then false else rest) ≡ true → (x ≢ byte) × (rest ≡ true)
-first_without byte x rest true same h = absurd (true≢false (sym h))
-first_without byte x rest false other h = (eqb-false x byte other, h)
-
-pub Lacks-without : (byte : ℕ) (text : List ℕ) → is_without byte text ≡ true → Lacks byte text
-Lacks-without byte [] e = tt
-Lacks-without byte (x ∷ text) e = let both = first_without byte x (is_without byte text) (x == byte) refl e in (both.0, Lacks-without byte text both.1)
-
-lacks_plain : (byte : ℕ) (text : List ℕ) → is_printed_byte byte ≡ false → AllByRecursion (λ b. is_printed_byte b ≡ true) text → Lacks byte text
-lacks_plain byte [] other all = tt
-lacks_plain byte (x ∷ text) other all = ((λ same. true≢false (sym all.0 ∙ ap is_printed_byte same ∙ other)), lacks_plain byte text other all.1)
-
--- a printed position has no such byte
-pub Lacks-fen : (byte : ℕ) (p : Board) (field : List ℕ) → is_printed_byte byte ≡ false → IsLawful p → field ≡ fen_of p → Lacks byte field
-Lacks-fen byte p field other lawful e =
-    subst (Lacks byte) (sym e) (lacks_plain byte (fen_of p) other (recursion_from_All (λ b. is_printed_byte b ≡ true) (fen_of p) (printed_is_plain p lawful)))
+-- the field of a position has no such byte
+pub Lacks-field : (byte : ℕ) (p : Board) (field : List ℕ) → is_printed_byte byte ≡ false → IsLawful p → field ≡ fen_of p → Lacks byte field
+Lacks-field byte p field other lawful e = subst (Lacks byte) (sym e) (Lacks-fen byte p other lawful)
 
 pub Lacks-side : (side : Side) → Lacks 10 (side_word side)
-Lacks-side Black = Lacks-without 10 (side_word Black) refl
-Lacks-side White = Lacks-without 10 (side_word White) refl
+Lacks-side Black = refl
+Lacks-side White = refl
 
 pub Lacks-claim : (c : Claim) → Lacks 10 (claim_word c)
-Lacks-claim (Win Black) = Lacks-without 10 (claim_word (Win Black)) refl
-Lacks-claim (Win White) = Lacks-without 10 (claim_word (Win White)) refl
-Lacks-claim (Hold Black) = Lacks-without 10 (claim_word (Hold Black)) refl
-Lacks-claim (Hold White) = Lacks-without 10 (claim_word (Hold White)) refl
-Lacks-claim Draw = Lacks-without 10 (claim_word Draw) refl
+Lacks-claim (Win Black) = refl
+Lacks-claim (Win White) = refl
+Lacks-claim (Hold Black) = refl
+Lacks-claim (Hold White) = refl
+Lacks-claim Draw = refl
 
 -- ---- words
 
@@ -97,9 +80,9 @@ one_side_and_count s t n k small low e =
 -- where neither of two bytes stands before them, the bytes that end the first words are the same
 first_ends_agree : (b c : ℕ) (x y r s : List ℕ) → Lacks b y → Lacks c x → x ++ b ∷ r ≡ y ++ c ∷ s → b ≡ c
 first_ends_agree b c [] [] r s h g e = cc
-first_ends_agree b c [] (d ∷ y) r s h g e = absurd (h.0 (let same : d ≡ b = cc in same))
-first_ends_agree b c (d ∷ x) [] r s h g e = absurd (g.0 (let same : d ≡ c = cc in same))
-first_ends_agree b c (d ∷ x) (f ∷ y) r s h g e = first_ends_agree b c x y r s h.1 g.1 (let rest : x ++ b ∷ r ≡ y ++ c ∷ s = cc in rest)
+first_ends_agree b c [] (d ∷ y) r s h g e = absurd (Lacks-first b d y h (let same : d ≡ b = cc in same))
+first_ends_agree b c (d ∷ x) [] r s h g e = absurd (Lacks-first c d x g (let same : d ≡ c = cc in same))
+first_ends_agree b c (d ∷ x) (f ∷ y) r s h g e = first_ends_agree b c x y r s (Lacks-rest b f y h) (Lacks-rest c d x g) (let rest : x ++ b ∷ r ≡ y ++ c ∷ s = cc in rest)
 
 one_of_two : (b : Bool) → IsSeparator (if b then 120 else 45)
 one_of_two true = inr refl
@@ -131,20 +114,19 @@ one_choice (Some p) None one two e = absurd (let h : ◌≡◌ {A = ℕ} 32 0 = 
 one_choice (Some p) (Some q) one two e = ap (λ path. Some path) (one_move p q one two (ap (drop 1) e))
 
 Lacks-square : (square : ℕ) → IsSquare square → Lacks 10 (decimal square)
-Lacks-square square one = Lacks-decimal 10 square (inl (omega arith)) (let top : square ≤ 32 = one.1 in omega arith)
+Lacks-square square one = Lacks-decimal 10 square refl (let top : square ≤ 32 = one.1 in omega arith)
 
 Lacks-further : (sep : ℕ) (squares : List ℕ) → IsSeparator sep → All IsSquare squares → Lacks 10 (further_squares sep squares)
-Lacks-further sep [] h each = tt
-Lacks-further sep (a ∷ squares) h each = (
-  (λ same. elim h [ inl e ↦ omega arith | inr e ↦ omega arith ]),
-  Lacks-append 10 (decimal a) (further_squares sep squares) (Lacks-square a (All-head IsSquare a squares each)) (Lacks-further sep squares h (All-tail IsSquare a squares each)),
-)
+Lacks-further sep [] h each = refl
+Lacks-further sep (a ∷ squares) h each =
+    Lacks-cons 10 sep (decimal a ++ further_squares sep squares) (λ same. elim h [ inl e ↦ omega arith | inr e ↦ omega arith ])
+    (Lacks-append 10 (decimal a) (further_squares sep squares) (Lacks-square a (All-head IsSquare a squares each)) (Lacks-further sep squares h (All-tail IsSquare a squares each)))
 
 Lacks-squares : (sep : ℕ) (squares : List ℕ) → IsSeparator sep → All IsSquare squares → Lacks 10 (squares_text sep squares)
-Lacks-squares sep [] h each = tt
+Lacks-squares sep [] h each = refl
 Lacks-squares sep (a ∷ squares) h each =
     Lacks-append 10 (decimal a) (further_squares sep squares) (Lacks-square a (All-head IsSquare a squares each)) (Lacks-further sep squares h (All-tail IsSquare a squares each))
 
 pub Lacks-choice : (chosen : Option (List ℕ)) → IfSome chosen IsPath → Lacks 10 (choice_text chosen)
-Lacks-choice None path = tt
-Lacks-choice (Some p) path = ((λ same. omega arith), Lacks-squares (separator p) p (separator_is p) path.2)
+Lacks-choice None path = refl
+Lacks-choice (Some p) path = Lacks-squares (separator p) p (separator_is p) path.2

@@ -1,5 +1,5 @@
 -- Squares in decimal with a separator between each two, square by square.
-use Rattle.std.proofs.Common.{◌≡◌, ℕ, suc, ◌+◌, ◌<◌, ◌≤◌, ◌⊎◌, inl, inr, List, [], ◌∷◌, ◌++◌, length, refl, sym, ◌∙◌, ap, subst, arith, append_assoc, append-nil, decimal, take, set, Option, Some, None}
+use Rattle.std.proofs.Common.{◌≡◌, ℕ, zero, suc, false, ◌+◌, ◌<◌, ◌≤◌, ◌⊎◌, inl, inr, List, [], ◌∷◌, ◌++◌, length, refl, sym, ◌∙◌, ap, subst, arith, append_assoc, append-nil, decimal, take, set, Option, Some, None}
 use Rattle.std.specs.Prelude.{All}
 use Rattle.std.specs.List.{flat_map}
 use Rattle.std.proofs.lemmas.Grind.{flat_map-append}
@@ -8,13 +8,15 @@ use Rattle.std.proofs.lemmas.Fmt.{decimal_injective}
 use Rattle.std.proofs.lemmas.Bool.{true≢false}
 use Rattle.std.proofs.lemmas.List.{length-append}
 use Rattle.std.proofs.Math.Seq.{take-suc-set}
-use Rattle.std.specs.Option.{IfSome}
+use Rattle.std.specs.Char.{is_ascii_digit}
+use Rattle.std.specs.Option.{IfSome, IfNone}
 use Rattle.std.specs.Prelude.{◌↔◌, IsNone}
 use Rattle.draughts_board.specs.Geometry.{IsSquare}
 use Rattle.strategy_certificate.specs.Parts.{IsPath}
-use Rattle.certificate_text.specs.Lines.{Lacks, squares_text, further_squares}
-use Rattle.certificate_text.proofs.Bytes.{halves_agree, Lacks-split}
-use Rattle.certificate_text.proofs.Numbers.{Lacks-decimal}
+use Rattle.certificate_text.specs.Lines.{squares_text, further_squares}
+use Rattle.shared_words.specs.Bytes.{Lacks}
+use Rattle.shared_words.proofs.LackingBytes.{halves_agree, Lacks-split}
+use Rattle.shared_words.proofs.Numerals.{Lacks-decimal}
 
 -- squares, each with the separator behind it
 abbrev pub ended : ℕ → List ℕ → List ℕ
@@ -54,12 +56,12 @@ Left-start sep (a ∷ more) text path e = record { here = a; more = more; whole 
 abbrev pub IsSeparator : ℕ → Type 0
 IsSeparator sep = (sep ≡ 45) ⊎ (sep ≡ 120)
 
-outside : (sep : ℕ) → IsSeparator sep → (sep < 48) ⊎ (57 < sep)
-outside sep (inl e) = inl (omega arith)
-outside sep (inr e) = inr (omega arith)
+no_digit : (sep : ℕ) → IsSeparator sep → is_ascii_digit sep ≡ false
+no_digit sep (inl e) = subst (λ b. is_ascii_digit b ≡ false) (sym e) refl
+no_digit sep (inr e) = subst (λ b. is_ascii_digit b ≡ false) (sym e) refl
 
 pub bare : (sep s : ℕ) → IsSeparator sep → IsSquare s → Lacks sep (decimal s)
-bare sep s h one = Lacks-decimal sep s (outside sep h) (let top : s ≤ 32 = one.1 in omega arith)
+bare sep s h one = Lacks-decimal sep s (no_digit sep h) (let top : s ≤ 32 = one.1 in omega arith)
 
 -- where a separator stands, the word before it is the next square, and there is one more
 pub record Stepped (sep : ℕ) (full front word behind : List ℕ) : Type 0 where
@@ -151,3 +153,16 @@ pub same_paths : (sep : ℕ) (p q : List ℕ) → IsSeparator sep → IsPath p �
 same_paths sep [] q h one two e = absurd (let k : 2 ≤ 0 = one.0 in omega arith)
 same_paths sep (a ∷ p) [] h one two e = absurd (let k : 2 ≤ 0 = two.0 in omega arith)
 same_paths sep (a ∷ p) (b ∷ q) h one two e = same_squares sep a p b q h one.2 two.2 e
+
+-- ---- one square
+
+pub square_some : (r : Option ℕ) (n : ℕ) (text : List ℕ) → IsNone r ↔ (¬ IsSquare n) → IfSome r (λ s. s ≡ n) → n ≤ 32 → text ≡ decimal n → IfSome r (λ s. IsSquare s × (text ≡ decimal s))
+square_some None n text none some most e = tt
+square_some (Some s) zero text none some most e = absurd (true≢false (none.1 (λ one. let h : 1 ≤ 0 = one.0 in omega arith)))
+square_some (Some s) (suc n) text none some most e =
+    let one : IsSquare (suc n) = (omega arith, most) in (subst IsSquare (sym some) one, e ∙ ap decimal (sym some))
+
+pub square_none : (r : Option ℕ) (n : ℕ) (text : List ℕ) → IsNone r ↔ (¬ IsSquare n) → n ≤ 32 → text ≡ decimal n → IfNone r ((s : ℕ) → IsSquare s → text ≡ decimal s → ⊥)
+square_none None n text none most e =
+    λ s one same. none.0 refl (subst IsSquare (decimal_injective s n (let top : s ≤ 32 = one.1 in omega arith) (omega arith) (sym same ∙ e)) one)
+square_none (Some s) n text none most e = tt

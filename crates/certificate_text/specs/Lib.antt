@@ -1,4 +1,5 @@
 pub mod Lines
+pub mod Places
 pub mod Text
 pub mod Refusals
 pub mod Steps

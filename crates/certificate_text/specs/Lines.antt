@@ -1,20 +1,14 @@
 -- The lines of a certificate's text: what each says, and its one spelling.
-use Rattle.std.specs.Prelude.{◌≢◌, ℕ, List, [], ◌∷◌, ◌++◌, Option, Some, None, codes, decimal, ◌==◌, if◌then◌else◌}
+use Rattle.std.specs.Prelude.{ℕ, List, [], ◌∷◌, ◌++◌, Option, Some, None, codes, decimal, ◌==◌, if◌then◌else◌}
 use Rattle.std.specs.List.{flat_map}
+use Rattle.shared_words.specs.Bytes.{line_end}
 use Rattle.draughts_board.specs.Geometry.{row, distance}
 use Rattle.draughts_board.specs.declared.pieces.Side.{Side}
 use Rattle.draughts_board.specs.declared.pieces.Side.TheVariants.{Black, White}
 use Rattle.strategy_certificate.specs.declared.claims.Claim.{Claim}
 use Rattle.strategy_certificate.specs.declared.claims.Claim.TheVariants.{Win, Hold, Draw}
 
--- ---- bytes: 10 ends a line, 32 is a blank, 45 is `-`, 120 is `x`
-
--- the byte does not stand in the text
-abbrev pub Lacks : ℕ → List ℕ → Type 0
-Lacks byte [] = Unit {0}
-Lacks byte (x ∷ text) = (x ≢ byte) × Lacks byte text
-
--- ---- words
+-- ---- words: 32 is a blank, 45 is `-`, 120 is `x`
 
 abbrev pub side_word : Side → List ℕ
 side_word Black = codes "black"
@@ -69,7 +63,7 @@ pub data Line : Type 0 where
   hold_entry : List ℕ → Option (List ℕ) → Line
   end : Line
 
--- its spelling, without the byte 10 that ends it
+-- its spelling, without the byte that ends it
 abbrev pub line_text : Line → List ℕ
 line_text title = codes "certificate 1"
 line_text (table pieces) = codes "table " ++ decimal pieces
@@ -93,6 +87,6 @@ field_of (win_entry field rank chosen) = Some field
 field_of (hold_entry field chosen) = Some field
 field_of end = None
 
--- lines one after the other, each ended by the byte 10
+-- lines one after the other, each with its end
 abbrev pub text_of_lines : List Line → List ℕ
-text_of_lines lines = flat_map (λ line. line_text line ++ 10 ∷ []) lines
+text_of_lines lines = flat_map (λ line. line_text line ++ line_end ∷ []) lines

@@ -1,16 +1,16 @@
 -- The text of a certificate, and how far a reader of it has come.
-use Rattle.std.specs.Prelude.{◌≡◌, ℕ, ◌+◌, ◌<◌, ◌^◌, ◌⊎◌, List, [], ◌∷◌, ◌++◌, All, map, length, Option}
+use Rattle.std.specs.Prelude.{◌≡◌, ℕ, ◌+◌, ◌<◌, ◌^◌, List, [], ◌∷◌, ◌++◌, All, map, length, Option}
 use Rattle.std.specs.List.{flat_map}
 use Rattle.draughts_board.specs.Board.{Board, IsLawful}
 use Rattle.strategy_certificate.specs.declared.entries.WinEntry.{WinEntry}
 use Rattle.strategy_certificate.specs.declared.certificates.Part.{Part}
 use Rattle.strategy_certificate.specs.declared.certificates.Part.TheVariants.{Win, Hold}
 use Rattle.strategy_certificate.specs.declared.certificates.Certificate.{Certificate}
+use Rattle.strategy_certificate.specs.Tables.{IsTableSize}
 use Rattle.strategy_certificate.specs.Parts.{IsWinList, IsHoldList}
 use Rattle.fen_text.specs.Printed.{fen_of}
 use Rattle.certificate_text.specs.Lines.{Line, title, table, position, claim, win, hold, win_entry, hold_entry, end, text_of_lines}
-use Rattle.certificate_text.specs.declared.due.Due.{Due}
-use Rattle.certificate_text.specs.declared.due.Due.TheVariants as due
+use Rattle.certificate_text.specs.Places.{Place, at_title, at_table, at_position, at_claim, at_part, at_entry, at_end}
 
 -- ---- parts
 
@@ -36,7 +36,8 @@ entry_lines (Hold part) = map hold_line part.entries
 abbrev pub part_lines : Part → List Line
 part_lines part = part_line part (size part) ∷ entry_lines part
 
--- a part whose positions are lawful and stand once each, whose ranks are at most 2^62 and whose moves are paths
+-- a part whose positions are lawful and stand once each, whose ranks are at most MOST_RANK and
+-- whose moves are paths
 abbrev pub IsPart : Part → Type 0
 IsPart (Win part) = IsWinList part
 IsPart (Hold part) = IsHoldList part
@@ -61,39 +62,41 @@ text_of c = text_of_lines (lines_of c)
 abbrev pub IsPrintedPart : Part → Type 0
 IsPrintedPart part = IsPart part × (size part < 2 ^ 32)
 
--- 2 or 3 pieces
-abbrev pub IsTable : ℕ → Type 0
-IsTable pieces = (pieces ≡ 2) ⊎ (pieces ≡ 3)
-
 -- a certificate that a text can say
 pub record IsPrinted (c : Certificate) : Type 0 where
-  pub pieces : IsTable c.pieces
+  pub pieces : IsTableSize c.pieces
   pub lawful : IsLawful c.position
   pub parts : All IsPrintedPart c.parts
+
+-- it is the text of this certificate
+abbrev pub ReadsAs : List ℕ → Certificate → Type 0
+ReadsAs text c = IsPrinted c × (text ≡ text_of c)
 
 -- ---- how far a reader has come: what is due next, behind what it has read
 
 -- the lines that stand before
-abbrev pub before : Due → List Line
-before due.Title = []
-before due.Table = title ∷ []
-before (due.Position pieces) = title ∷ table pieces ∷ []
-before (due.Claim pieces p) = title ∷ table pieces ∷ position (fen_of p) ∷ []
-before (due.Part c) = open_lines c
-before (due.Entry c part left) = open_lines c ++ (part_line part (size part + left) ∷ entry_lines part)
-before (due.Nothing c) = lines_of c
+abbrev pub before : Place → List Line
+before at_title = []
+before at_table = title ∷ []
+before (at_position pieces) = title ∷ table pieces ∷ []
+before (at_claim pieces p) = title ∷ table pieces ∷ position (fen_of p) ∷ []
+before (at_part c) = open_lines c
+before (at_entry c part left) =
+    open_lines c ++ (part_line part (size part + left) ∷ entry_lines part)
+before (at_end c) = lines_of c
 
 -- what stands before is sound
-abbrev pub IsSound : Due → Type 0
-IsSound due.Title = Unit {0}
-IsSound due.Table = Unit {0}
-IsSound (due.Position pieces) = IsTable pieces
-IsSound (due.Claim pieces p) = IsTable pieces × IsLawful p
-IsSound (due.Part c) = IsPrinted c
-IsSound (due.Entry c part left) = IsPrinted c × (IsPart part × ((0 < left) × (size part + left < 2 ^ 32)))
-IsSound (due.Nothing c) = IsPrinted c
+abbrev pub IsSound : Place → Type 0
+IsSound at_title = Unit {0}
+IsSound at_table = Unit {0}
+IsSound (at_position pieces) = IsTableSize pieces
+IsSound (at_claim pieces p) = IsTableSize pieces × IsLawful p
+IsSound (at_part c) = IsPrinted c
+IsSound (at_entry c part left) =
+    IsPrinted c × (IsPart part × ((0 < left) × (size part + left < 2 ^ 32)))
+IsSound (at_end c) = IsPrinted c
 
 -- a line is due
-abbrev pub IsOpen : Due → Type 0
-IsOpen (due.Nothing c) = ⊥
+abbrev pub IsOpen : Place → Type 0
+IsOpen (at_end c) = ⊥
 IsOpen d = Unit {0}

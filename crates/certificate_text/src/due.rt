@@ -1,10 +1,9 @@
 //! What a reader has come to, and how a line leads on.
 ghost use Rattle.std.specs.Prelude.{◌≡◌, ◌<◌, ◌^◌, ℕ, [], IfOk, IfErr, OnOk, OnErr};
 ghost use Rattle.certificate_text.specs.Lines.{Line, line_text};
-ghost use Rattle.certificate_text.specs.Refusals.{IsMemory};
 ghost use Rattle.certificate_text.specs.Text.{IsSound, IsOpen};
-ghost use Rattle.certificate_text.specs.Steps.{Adds, Advances, Refuses, settled, with_part};
-ghost use Rattle.certificate_text.specs.declared.due.Due.TheVariants as dues;
+ghost use Rattle.certificate_text.specs.Steps.{place_of, Adds, Advances, Refuses, settled, with_part};
+ghost use Rattle.certificate_text.specs.Places.{at_position, at_part, at_entry};
 ghost use Rattle.strategy_certificate.specs.declared.certificates.Certificate.{Certificate as Read};
 ghost use Rattle.strategy_certificate.specs.declared.certificates.Part.TheVariants as parts;
 
@@ -37,14 +36,11 @@ pub(crate) enum Due {
 }
 
 /// The certificate with one more part.
-fn with_part(c: Certificate, part: Part) -> Result<Certificate, TextRefusal>
-    ensures ok { IfOk result (λ longer. longer ≡ with_part c part) }
-    ensures err { IfErr result IsMemory }
+fn with_part(c: Certificate, part: Part) -> Result<Certificate, AllocError>
+    ensures { IfOk result (λ longer. longer ≡ with_part c part) }
 {
     let mut parts = c.parts.into_vec();
-    parts
-        .push(part)
-        .map_err(|_| TextRefusal::Memory(AllocError))?;
+    parts.push(part)?;
     Ok(Certificate {
         position: c.position,
         claim: c.claim,
@@ -54,9 +50,8 @@ fn with_part(c: Certificate, part: Part) -> Result<Certificate, TextRefusal>
 }
 
 /// What is due where so many entries of the part are left.
-fn settled(c: Certificate, part: Part, left: u32) -> Result<Due, TextRefusal>
-    ensures ok { IfOk result (λ next. next ≡ settled c part left) }
-    ensures err { IfErr result IsMemory }
+fn settled(c: Certificate, part: Part, left: u32) -> Result<Due, AllocError>
+    ensures { IfOk result (λ next. place_of next ≡ settled c part left) }
 {
     if left == 0 {
         Ok(Due::Part(with_part(c, part)?))
@@ -67,8 +62,8 @@ fn settled(c: Certificate, part: Part, left: u32) -> Result<Due, TextRefusal>
 
 /// What is due behind the line of the position.
 fn after_position(pieces: u8, number: usize, line: &[u8]) -> Result<Due, TextRefusal>
-    ensures ok { IfOk result (λ next. Advances (dues.Position pieces) line.now next) }
-    ensures err { IfErr result (Refuses (dues.Position pieces) line.now number) }
+    ensures ok { IfOk result (λ next. Advances (at_position pieces) line.now (place_of next)) }
+    ensures err { IfErr result (Refuses (at_position pieces) line.now number) }
 {
     let Some(field) = position_field(line) else {
         return Err(TextRefusal::BadLine(number));
@@ -92,19 +87,17 @@ fn without_parts(alloc: Global, pieces: u8, position: Position, claim: Claim) ->
 }
 
 /// A win part without entries.
-fn new_win(alloc: Global, side: Side) -> Result<Part, TextRefusal>
-    ensures ok { IfOk result (λ p. p ≡ parts.Win (record { side = side; entries = [] })) }
-    ensures err { IfErr result IsMemory }
+fn new_win(alloc: Global, side: Side) -> Result<Part, AllocError>
+    ensures { IfOk result (λ p. p ≡ parts.Win (record { side = side; entries = [] })) }
 {
-    Ok(Part::Win(WinPart::new(alloc, side).map_err(TextRefusal::Memory)?))
+    Ok(Part::Win(WinPart::new(alloc, side)?))
 }
 
 /// A hold part without entries.
-fn new_hold(alloc: Global, side: Side) -> Result<Part, TextRefusal>
-    ensures ok { IfOk result (λ p. p ≡ parts.Hold (record { side = side; entries = [] })) }
-    ensures err { IfErr result IsMemory }
+fn new_hold(alloc: Global, side: Side) -> Result<Part, AllocError>
+    ensures { IfOk result (λ p. p ≡ parts.Hold (record { side = side; entries = [] })) }
 {
-    Ok(Part::Hold(HoldPart::new(alloc, side).map_err(TextRefusal::Memory)?))
+    Ok(Part::Hold(HoldPart::new(alloc, side)?))
 }
 
 /// What is due behind a part's first line or the last line.
@@ -114,12 +107,12 @@ fn after_heading(
     number: usize,
     line: &[u8],
 ) -> Result<Due, TextRefusal>
-    ensures ok { IfOk result (λ next. Advances (dues.Part c) line.now next) }
-    ensures err { IfErr result (Refuses (dues.Part c) line.now number) }
+    ensures ok { IfOk result (λ next. Advances (at_part c) line.now (place_of next)) }
+    ensures err { IfErr result (Refuses (at_part c) line.now number) }
 {
     match heading_of(line) {
-        Some(Heading::Win(side, count)) => settled(c, new_win(alloc, side)?, count),
-        Some(Heading::Hold(side, count)) => settled(c, new_hold(alloc, side)?, count),
+        Some(Heading::Win(side, count)) => Ok(settled(c, new_win(alloc, side)?, count)?),
+        Some(Heading::Hold(side, count)) => Ok(settled(c, new_hold(alloc, side)?, count)?),
         Some(Heading::End) => Ok(Due::Nothing(c)),
         None => Err(TextRefusal::BadLine(number)),
     }
@@ -127,8 +120,10 @@ fn after_heading(
 
 /// Adds the entry of a line to a win part.
 fn add_win(part: &mut WinPart, number: usize, line: &[u8]) -> Result<(), TextRefusal>
-    ensures ok { OnOk result ((said : Line) × ((line.now ≡ line_text said) × Adds (parts.Win part.old) said (parts.Win part.new))) }
-    ensures err { IfErr result (λ r. (c : Read) (left : ℕ) → Refuses (dues.Entry c (parts.Win part.old) left) line.now number r) }
+    ensures ok { OnOk result ((said : Line) × ((line.now ≡ line_text said)
+        × Adds (parts.Win part.old) said (parts.Win part.new))) }
+    ensures err { IfErr result (λ r. (c : Read) (left : ℕ)
+        → Refuses (at_entry c (parts.Win part.old) left) line.now number r) }
 {
     let Some((field, rank, chosen)) = win_entry(line) else {
         return Err(TextRefusal::BadLine(number));
@@ -136,22 +131,19 @@ fn add_win(part: &mut WinPart, number: usize, line: &[u8]) -> Result<(), TextRef
     let Some(p) = printed_position(field) else {
         return Err(TextRefusal::BadFen(number));
     };
-    if part.find(&p).is_some() {
-        return Err(TextRefusal::Doubled(number));
-    }
-    match part.add(p, WinEntry { rank, chosen }) {
-        Ok(()) => {
-            let _side = part.side();
-            Ok(())
-        }
+    match part.add_new(p, WinEntry { rank, chosen }) {
+        Ok(true) => Ok(()),
+        Ok(false) => Err(TextRefusal::Doubled(number)),
         Err(error) => Err(TextRefusal::Memory(error)),
     }
 }
 
 /// Adds the entry of a line to a hold part.
 fn add_hold(part: &mut HoldPart, number: usize, line: &[u8]) -> Result<(), TextRefusal>
-    ensures ok { OnOk result ((said : Line) × ((line.now ≡ line_text said) × Adds (parts.Hold part.old) said (parts.Hold part.new))) }
-    ensures err { IfErr result (λ r. (c : Read) (left : ℕ) → Refuses (dues.Entry c (parts.Hold part.old) left) line.now number r) }
+    ensures ok { OnOk result ((said : Line) × ((line.now ≡ line_text said)
+        × Adds (parts.Hold part.old) said (parts.Hold part.new))) }
+    ensures err { IfErr result (λ r. (c : Read) (left : ℕ)
+        → Refuses (at_entry c (parts.Hold part.old) left) line.now number r) }
 {
     let Some((field, chosen)) = hold_entry(line) else {
         return Err(TextRefusal::BadLine(number));
@@ -159,14 +151,9 @@ fn add_hold(part: &mut HoldPart, number: usize, line: &[u8]) -> Result<(), TextR
     let Some(p) = printed_position(field) else {
         return Err(TextRefusal::BadFen(number));
     };
-    if part.find(&p).is_some() {
-        return Err(TextRefusal::Doubled(number));
-    }
-    match part.add(p, chosen) {
-        Ok(()) => {
-            let _side = part.side();
-            Ok(())
-        }
+    match part.add_new(p, chosen) {
+        Ok(true) => Ok(()),
+        Ok(false) => Err(TextRefusal::Doubled(number)),
         Err(error) => Err(TextRefusal::Memory(error)),
     }
 }
@@ -180,16 +167,16 @@ fn after_entry(
     line: &[u8],
 ) -> Result<Due, TextRefusal>
     requires { 0 < left }
-    ensures ok { IfOk result (λ next. Advances (dues.Entry c part left) line.now next) }
-    ensures err { IfErr result (Refuses (dues.Entry c part left) line.now number) }
+    ensures ok { IfOk result (λ next. Advances (at_entry c part left) line.now (place_of next)) }
+    ensures err { IfErr result (Refuses (at_entry c part left) line.now number) }
 {
     match part {
         Part::Win(mut part) => match add_win(&mut part, number, line) {
-            Ok(()) => settled(c, Part::Win(part), left - 1),
+            Ok(()) => Ok(settled(c, Part::Win(part), left - 1)?),
             Err(refusal) => Err(refusal),
         },
         Part::Hold(mut part) => match add_hold(&mut part, number, line) {
-            Ok(()) => settled(c, Part::Hold(part), left - 1),
+            Ok(()) => Ok(settled(c, Part::Hold(part), left - 1)?),
             Err(refusal) => Err(refusal),
         },
     }
@@ -197,10 +184,10 @@ fn after_entry(
 
 /// What is due behind a line, which is line `number` of the text and stands where `due` is due.
 pub(crate) fn after(alloc: Global, due: Due, number: usize, line: &[u8]) -> Result<Due, TextRefusal>
-    requires sound { IsSound due }
-    requires open { IsOpen due }
-    ensures ok { IfOk result (λ next. Advances due line.now next) }
-    ensures err { IfErr result (Refuses due line.now number) }
+    requires sound { IsSound (place_of due) }
+    requires open { IsOpen (place_of due) }
+    ensures ok { IfOk result (λ next. Advances (place_of due) line.now (place_of next)) }
+    ensures err { IfErr result (Refuses (place_of due) line.now number) }
 {
     match due {
         Due::Title if is(line, "certificate 1") => Ok(Due::Table),

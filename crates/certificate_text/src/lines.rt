@@ -4,10 +4,12 @@ ghost use Rattle.draughts_board.specs.Geometry.{IsSquare};
 ghost use Rattle.draughts_board.specs.Board.{Board, IsLawful};
 ghost use Rattle.draughts_board.specs.declared.pieces.Side.{Side as Player};
 ghost use Rattle.strategy_certificate.specs.declared.claims.Claim.{Claim as Value};
+ghost use Rattle.strategy_certificate.specs.declared.entries.TheConstants.{MOST_RANK};
 ghost use Rattle.strategy_certificate.specs.Parts.{IsPath};
 ghost use Rattle.fen_text.specs.Printed.{fen_of};
-ghost use Rattle.certificate_text.specs.Lines.{Line, table, position, claim, win_entry, hold_entry, line_text, Lacks, separator as separator_of, squares_text, move_text, choice_text, side_word};
-ghost use Rattle.certificate_text.specs.Text.{IsTable};
+ghost use Rattle.shared_words.specs.Bytes.{Lacks};
+ghost use Rattle.certificate_text.specs.Lines.{Line, table, position, claim, win_entry, hold_entry, line_text, separator as separator_of, squares_text, move_text, choice_text, side_word};
+ghost use Rattle.strategy_certificate.specs.Tables.{IsTableSize};
 ghost use Rattle.certificate_text.specs.Refusals.{BeginsPart};
 ghost use Rattle.certificate_text.specs.Steps.{behind_field};
 ghost use Rattle.certificate_text.specs.Headings.{said};
@@ -15,20 +17,8 @@ ghost use Rattle.certificate_text.specs.Headings.{said};
 use crate::printing;
 use draughts_board::{Move, Position, Side, Square};
 use fen_text::{print_fen, read_fen};
-use strategy_certificate::Claim;
-
-/// The bytes before the first such byte, and those behind it.
-pub(crate) fn split_once(text: &[u8], byte: u8) -> Option<(&[u8], &[u8])>
-    ensures some { IfSome result (λ halves. Lacks byte halves.0.now × (text.now ≡ halves.0.now ++ byte ∷ halves.1.now)) }
-    ensures none { IfNone result (Lacks byte text.now) }
-{
-    for (place, b) in text.iter().enumerate() {
-        if *b == byte {
-            return Some((&text[..place], &text[place + 1..]));
-        }
-    }
-    None
-}
+use shared_words::{number_to, split_once};
+use strategy_certificate::{Claim, MOST_RANK};
 
 /// The bytes are this text.
 pub(crate) fn is(bytes: &[u8], text: &str) -> bool
@@ -48,32 +38,6 @@ fn split_field(line: &[u8]) -> (&[u8], Option<&[u8]>)
     }
 }
 
-/// The number that these bytes are in decimal digits, without leading zeros.
-fn number(text: &[u8]) -> Option<u64>
-    ensures digits { IfSome result (λ n. text.now ≡ decimal n) }
-    ensures other { IfNone result ((n : ℕ) → n < 2 ^ 64 → text.now ≢ decimal n) }
-{
-    if text.is_empty() || text[0] == b'+' {
-        return None;
-    }
-    if text[0] == b'0' && text.len() > 1 {
-        return None;
-    }
-    let Ok(digits) = str::from_utf8(text) else {
-        return None;
-    };
-    digits.parse().ok()
-}
-
-/// The number that these bytes are, which is at most `most`.
-fn number_to(text: &[u8], most: u64) -> Option<u64>
-    ensures digits { IfSome result (λ n. (n ≤ most) × (text.now ≡ decimal n)) }
-    ensures other { IfNone result ((n : ℕ) → n ≤ most → text.now ≢ decimal n) }
-{
-    let n = number(text)?;
-    if n <= most { Some(n) } else { None }
-}
-
 /// The square whose number these bytes are.
 fn square(text: &[u8]) -> Option<Square>
     ensures some { IfSome result (λ s. IsSquare s × (text.now ≡ decimal s)) }
@@ -87,7 +51,8 @@ fn square(text: &[u8]) -> Option<Square>
 fn squares(text: &[u8], separator: u8) -> Option<Move>
     requires { (separator ≡ 45) ⊎ (separator ≡ 120) }
     ensures some { IfSome result (λ path. IsPath path × (text.now ≡ squares_text separator path)) }
-    ensures none { IfNone result ((path : List ℕ) → IsPath path → text.now ≢ squares_text separator path) }
+    ensures none { IfNone result ((path : List ℕ) → IsPath path
+        → text.now ≢ squares_text separator path) }
 {
     let mut path = [Square::new(1).unwrap(); 13];
     let mut count = 0;
@@ -108,7 +73,8 @@ fn squares(text: &[u8], separator: u8) -> Option<Move>
 fn move_with(text: &[u8], separator: u8) -> Option<Move>
     requires { (separator ≡ 45) ⊎ (separator ≡ 120) }
     ensures some { IfSome result (λ path. IsPath path × (text.now ≡ move_text path)) }
-    ensures none { IfNone result ((path : List ℕ) → IsPath path → separator_of path ≡ separator → text.now ≢ move_text path) }
+    ensures none { IfNone result ((path : List ℕ) → IsPath path
+        → separator_of path ≡ separator → text.now ≢ move_text path) }
 {
     let chosen = squares(text, separator)?;
     if printing::separator(chosen.path()) == separator {
@@ -131,8 +97,10 @@ fn move_of(text: &[u8]) -> Option<Move>
 
 /// What is chosen where these bytes stand behind a field; none where they are no move.
 fn choice(behind: Option<&[u8]>) -> Option<Option<Move>>
-    ensures some { IfSome result (λ chosen. IfSome chosen IsPath × (behind_field (option_copied behind.entry) ≡ choice_text chosen)) }
-    ensures none { IfNone result ((chosen : Option (List ℕ)) → IfSome chosen IsPath → behind_field (option_copied behind.entry) ≢ choice_text chosen) }
+    ensures some { IfSome result (λ chosen. IfSome chosen IsPath
+        × (behind_field (option_copied behind.entry) ≡ choice_text chosen)) }
+    ensures none { IfNone result ((chosen : Option (List ℕ)) → IfSome chosen IsPath
+        → behind_field (option_copied behind.entry) ≢ choice_text chosen) }
 {
     match behind {
         Some(text) => Some(Some(move_of(text)?)),
@@ -157,8 +125,10 @@ pub(crate) fn printed_position(field: &[u8]) -> Option<Position>
 
 /// The number of pieces that a line says.
 pub(crate) fn table_of(line: &[u8]) -> Option<u8>
-    ensures some { IfSome result (λ pieces. IsTable pieces × (line.now ≡ line_text (table pieces))) }
-    ensures none { IfNone result ((pieces : ℕ) → IsTable pieces → line.now ≢ line_text (table pieces)) }
+    ensures some { IfSome result (λ pieces. IsTableSize pieces
+        × (line.now ≡ line_text (table pieces))) }
+    ensures none { IfNone result ((pieces : ℕ) → IsTableSize pieces
+        → line.now ≢ line_text (table pieces)) }
 {
     if is(line, "table 2") {
         Some(2)
@@ -184,8 +154,10 @@ fn behind<'a>(line: &'a [u8], beginning: &str) -> Option<&'a [u8]>
 
 /// The field of the position that a line says.
 pub(crate) fn position_field(line: &[u8]) -> Option<&[u8]>
-    ensures some { IfSome result (λ field. Lacks 32 field.now × (line.now ≡ line_text (position field.now))) }
-    ensures none { IfNone result ((field : List ℕ) → Lacks 32 field → line.now ≢ line_text (position field)) }
+    ensures some { IfSome result (λ field. Lacks 32 field.now
+        × (line.now ≡ line_text (position field.now))) }
+    ensures none { IfNone result ((field : List ℕ) → Lacks 32 field
+        → line.now ≢ line_text (position field)) }
 {
     let field = behind(line, "position ")?;
     match split_once(field, b' ') {
@@ -227,8 +199,10 @@ pub(crate) enum Heading {
 
 /// The side and the count of entries that a part's first line says behind the part's kind.
 fn side_and_count(text: &[u8]) -> Option<(Side, u32)>
-    ensures some { IfSome result (λ found. (found.1 < 2 ^ 32) × (text.now ≡ side_word found.0 ++ 32 ∷ decimal found.1)) }
-    ensures none { IfNone result ((side : Player) (count : ℕ) → count < 2 ^ 32 → text.now ≢ side_word side ++ 32 ∷ decimal count) }
+    ensures some { IfSome result (λ found. (found.1 < 2 ^ 32)
+        × (text.now ≡ side_word found.0 ++ 32 ∷ decimal found.1)) }
+    ensures none { IfNone result ((side : Player) (count : ℕ) → count < 2 ^ 32
+        → text.now ≢ side_word side ++ 32 ∷ decimal count) }
 {
     let (word, count) = split_once(text, b' ')?;
     let count = number_to(count, u64::from(u32::MAX))? as u32;
@@ -260,20 +234,25 @@ pub(crate) fn heading_of(line: &[u8]) -> Option<Heading>
 
 /// The field of the position, the rank and the move that an entry line of a win part says.
 pub(crate) fn win_entry(line: &[u8]) -> Option<(&[u8], u64, Option<Move>)>
-    ensures some { IfSome result (λ e. Lacks 32 e.0.now × ((e.1 ≤ 2 ^ 62) × (IfSome e.2 IsPath × (line.now ≡ line_text (win_entry e.0.now e.1 e.2))))) }
-    ensures none { IfNone result ((field : List ℕ) (rank : ℕ) (chosen : Option (List ℕ)) → Lacks 32 field → rank ≤ 2 ^ 62 → IfSome chosen IsPath → line.now ≢ line_text (win_entry field rank chosen)) }
+    ensures some { IfSome result (λ e. Lacks 32 e.0.now × ((e.1 ≤ MOST_RANK) × (IfSome e.2 IsPath
+        × (line.now ≡ line_text (win_entry e.0.now e.1 e.2))))) }
+    ensures none { IfNone result ((field : List ℕ) (rank : ℕ) (chosen : Option (List ℕ))
+        → Lacks 32 field → rank ≤ MOST_RANK → IfSome chosen IsPath
+        → line.now ≢ line_text (win_entry field rank chosen)) }
 {
     let (field, behind) = split_once(line, b' ')?;
     let (rank, behind) = split_field(behind);
-    let rank = number_to(rank, 1 << 62)?;
+    let rank = number_to(rank, MOST_RANK)?;
     let chosen = choice(behind)?;
     Some((field, rank, chosen))
 }
 
 /// The field of the position and the move that an entry line of a hold part says.
 pub(crate) fn hold_entry(line: &[u8]) -> Option<(&[u8], Option<Move>)>
-    ensures some { IfSome result (λ e. Lacks 32 e.0.now × (IfSome e.1 IsPath × (line.now ≡ line_text (hold_entry e.0.now e.1)))) }
-    ensures none { IfNone result ((field : List ℕ) (chosen : Option (List ℕ)) → Lacks 32 field → IfSome chosen IsPath → line.now ≢ line_text (hold_entry field chosen)) }
+    ensures some { IfSome result (λ e. Lacks 32 e.0.now × (IfSome e.1 IsPath
+        × (line.now ≡ line_text (hold_entry e.0.now e.1)))) }
+    ensures none { IfNone result ((field : List ℕ) (chosen : Option (List ℕ)) → Lacks 32 field
+        → IfSome chosen IsPath → line.now ≢ line_text (hold_entry field chosen)) }
 {
     let (field, behind) = split_field(line);
     let chosen = choice(behind)?;

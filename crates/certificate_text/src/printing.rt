@@ -3,12 +3,13 @@ ghost use Rattle.std.specs.Prelude.{◌≡◌, ◌++◌, ◌∷◌, ◌<◌, ◌
 ghost use Rattle.draughts_board.specs.Board.{IsLawful};
 ghost use Rattle.fen_text.specs.Printed.{fen_of};
 ghost use Rattle.certificate_text.specs.Lines.{line_text, text_of_lines, choice_text, separator, further_squares, side_word, claim_word};
-ghost use Rattle.certificate_text.specs.Text.{text_of, part_lines, win_line, hold_line, head_lines, IsPrinted, IsPrintedPart, IsTable};
+ghost use Rattle.certificate_text.specs.Text.{text_of, part_lines, win_line, hold_line, head_lines, IsPrinted, IsPrintedPart};
+ghost use Rattle.strategy_certificate.specs.Tables.{IsTableSize};
 ghost use Rattle.strategy_certificate.specs.declared.certificates.Part.TheVariants as parts;
 
 use draughts_board::{Move, Position, Side, Square};
 use fen_text::print_fen;
-use itoa::Buffer;
+use shared_words::push_number;
 use std::alloc::{AllocError, Global};
 use strategy_certificate::{Certificate, Claim, HoldPart, Part, WinEntry, WinPart};
 
@@ -47,14 +48,6 @@ pub(crate) fn separator(path: &[Square]) -> u8
     }
 }
 
-/// Appends a number in decimal.
-fn push_number(text: &mut Vec<u8>, n: u64) -> Result<(), AllocError>
-    ensures { OnOk result (text.new.items ≡ text.old.items ++ decimal n) }
-{
-    let mut buffer = Buffer::new();
-    text.extend_from_slice(buffer.format(n).as_bytes())
-}
-
 /// Appends a word.
 fn push_word(text: &mut Vec<u8>, word: &str) -> Result<(), AllocError>
     ensures { OnOk result (text.new.items ≡ text.old.items ++ word.now) }
@@ -64,14 +57,16 @@ fn push_word(text: &mut Vec<u8>, word: &str) -> Result<(), AllocError>
 
 /// Appends the printed FEN of a position.
 fn push_position(text: &mut Vec<u8>, p: &Position) -> Result<(), AllocError>
-    ensures { OnOk result (text.new.items ≡ text.old.items ++ fen_of p.now) }
+    ensures text { OnOk result (text.new.items ≡ text.old.items ++ fen_of p.now) }
+    ensures lawful { IsLawful p.now }
 {
     text.extend_from_slice(print_fen(p).as_bytes())
 }
 
 /// Appends squares, each behind the separator.
 fn push_further(text: &mut Vec<u8>, separator: u8, squares: &[Square]) -> Result<(), AllocError>
-    ensures { OnOk result (text.new.items ≡ text.old.items ++ further_squares separator squares.now) }
+    ensures { OnOk result (text.new.items ≡ text.old.items
+        ++ further_squares separator squares.now) }
 {
     for square in squares {
         text.push(separator)?;
@@ -95,7 +90,8 @@ fn push_choice(text: &mut Vec<u8>, chosen: &Option<Move>) -> Result<(), AllocErr
 
 /// Appends the line of an entry of a win part.
 fn push_win_entry(text: &mut Vec<u8>, p: &Position, entry: &WinEntry) -> Result<(), AllocError>
-    ensures { OnOk result (text.new.items ≡ text.old.items ++ (line_text (win_line (p.now, entry.now)) ++ 10 ∷ [])) }
+    ensures { OnOk result (text.new.items ≡ text.old.items
+        ++ (line_text (win_line (p.now, entry.now)) ++ 10 ∷ [])) }
 {
     push_position(text, p)?;
     text.push(b' ')?;
@@ -111,7 +107,8 @@ fn push_hold_entry(
     p: &Position,
     chosen: &Option<Move>,
 ) -> Result<(), AllocError>
-    ensures { OnOk result (text.new.items ≡ text.old.items ++ (line_text (hold_line (p.now, chosen.now)) ++ 10 ∷ [])) }
+    ensures { OnOk result (text.new.items ≡ text.old.items
+        ++ (line_text (hold_line (p.now, chosen.now)) ++ 10 ∷ [])) }
 {
     push_position(text, p)?;
     push_choice(text, chosen)?;
@@ -126,7 +123,8 @@ fn push_part_line(
     side: Side,
     count: usize,
 ) -> Result<(), AllocError>
-    ensures line { OnOk result (text.new.items ≡ text.old.items ++ ((kind.now ++ (side_word side ++ 32 ∷ decimal count)) ++ 10 ∷ [])) }
+    ensures line { OnOk result (text.new.items ≡ text.old.items ++ ((kind.now
+        ++ (side_word side ++ 32 ∷ decimal count)) ++ 10 ∷ [])) }
     ensures count { OnOk result (count < 2 ^ 32) }
 {
     if count > u32::MAX as usize {
@@ -142,7 +140,8 @@ fn push_part_line(
 
 /// Appends the lines of a win part.
 fn push_win_part(text: &mut Vec<u8>, part: &WinPart) -> Result<(), AllocError>
-    ensures lines { OnOk result (text.new.items ≡ text.old.items ++ text_of_lines (part_lines (parts.Win part.now))) }
+    ensures lines { OnOk result (text.new.items ≡ text.old.items
+        ++ text_of_lines (part_lines (parts.Win part.now))) }
     ensures printed { OnOk result (IsPrintedPart (parts.Win part.now)) }
 {
     push_part_line(text, "win ", part.side(), part.len())?;
@@ -155,7 +154,8 @@ fn push_win_part(text: &mut Vec<u8>, part: &WinPart) -> Result<(), AllocError>
 
 /// Appends the lines of a hold part.
 fn push_hold_part(text: &mut Vec<u8>, part: &HoldPart) -> Result<(), AllocError>
-    ensures lines { OnOk result (text.new.items ≡ text.old.items ++ text_of_lines (part_lines (parts.Hold part.now))) }
+    ensures lines { OnOk result (text.new.items ≡ text.old.items
+        ++ text_of_lines (part_lines (parts.Hold part.now))) }
     ensures printed { OnOk result (IsPrintedPart (parts.Hold part.now)) }
 {
     push_part_line(text, "hold ", part.side(), part.len())?;
@@ -168,7 +168,8 @@ fn push_hold_part(text: &mut Vec<u8>, part: &HoldPart) -> Result<(), AllocError>
 
 /// Appends the lines of a part.
 fn push_part(text: &mut Vec<u8>, part: &Part) -> Result<(), AllocError>
-    ensures lines { OnOk result (text.new.items ≡ text.old.items ++ text_of_lines (part_lines part.now)) }
+    ensures lines { OnOk result (text.new.items ≡ text.old.items
+        ++ text_of_lines (part_lines part.now)) }
     ensures printed { OnOk result (IsPrintedPart part.now) }
 {
     match part {
@@ -179,10 +180,10 @@ fn push_part(text: &mut Vec<u8>, part: &Part) -> Result<(), AllocError>
 
 /// Appends the first four lines.
 fn push_head(text: &mut Vec<u8>, c: &Certificate) -> Result<(), AllocError>
-    ensures lines { OnOk result (text.new.items ≡ text.old.items ++ text_of_lines (head_lines c.now)) }
+    ensures lines { OnOk result (text.new.items ≡ text.old.items
+        ++ text_of_lines (head_lines c.now)) }
     ensures lawful { OnOk result (IsLawful c.now.position) }
 {
-    let _mover = c.position.to_move();
     push_word(text, "certificate 1\ntable ")?;
     push_number(text, u64::from(c.pieces))?;
     push_word(text, "\nposition ")?;
@@ -195,7 +196,7 @@ fn push_head(text: &mut Vec<u8>, c: &Certificate) -> Result<(), AllocError>
 
 /// The text of a certificate. A part of 2^32 entries or more, which no text can say, is answered as want of memory.
 pub fn print_certificate(alloc: Global, c: &Certificate) -> Result<Vec<u8>, AllocError>
-    requires { IsTable c.now.pieces }
+    requires { IsTableSize c.now.pieces }
     ensures text { IfOk result (λ text. text.items ≡ text_of c.now) }
     ensures printed { OnOk result (IsPrinted c.now) }
 {

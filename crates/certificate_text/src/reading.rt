@@ -1,28 +1,29 @@
 //! Reading the text of a certificate.
-ghost use Rattle.std.specs.Prelude.{◌≡◌, ◌↔◌, IfOk, IfErr, Ok, Err, IsTrue};
-ghost use Rattle.certificate_text.specs.Text.{text_of, IsPrinted, IsOpen};
-ghost use Rattle.certificate_text.specs.Refusals.{IsTextRefusal, IsMemory};
-ghost use Rattle.certificate_text.specs.declared.due.Due.TheVariants as dues;
-ghost use Rattle.certificate_text.specs.declared.refusal.TextRefusal.{TextRefusal as Refusal};
-ghost use Rattle.strategy_certificate.specs.declared.certificates.Certificate.{Certificate as Read};
+ghost use Rattle.std.specs.Prelude.{◌≡◌, ◌↔◌, IfOk, IfErr, IsTrue};
+ghost use Rattle.std.specs.Bool.{OnFalse};
+ghost use Rattle.shared_words.specs.Answers.{IsExact};
+ghost use Rattle.certificate_text.specs.Text.{ReadsAs, IsOpen};
+ghost use Rattle.certificate_text.specs.Refusals.{IsTextRefusal, is_memory};
+ghost use Rattle.certificate_text.specs.Places.{at_end};
+ghost use Rattle.certificate_text.specs.Steps.{place_of};
 
 use crate::due::{Due, after};
-use crate::lines::split_once;
 use crate::refusal::TextRefusal;
+use shared_words::split_once;
 use std::alloc::Global;
 use strategy_certificate::Certificate;
 
 /// A line is due.
 fn is_open(due: &Due) -> bool
-    ensures { IsTrue result ↔ IsOpen due.now }
+    ensures { IsTrue result ↔ IsOpen (place_of due.now) }
 {
     !matches!(due, Due::Nothing(_))
 }
 
 /// The certificate where no line is due.
 fn whole(due: Due) -> Certificate
-    requires { ¬ IsOpen due }
-    ensures { due ≡ dues.Nothing result }
+    requires { ¬ IsOpen (place_of due) }
+    ensures { place_of due ≡ at_end result }
 {
     match due {
         Due::Nothing(c) => c,
@@ -32,18 +33,21 @@ fn whole(due: Due) -> Certificate
 
 /// The certificate of which this is the text.
 ///
-/// A text that is no certificate's is refused, by line from 1, for what goes wrong first ([`TextRefusal`]); there is one
-/// refusal of it, and none of the text of a certificate ([`crate::laws`]). Want of memory is answered for any text. The
-/// text is gone over a fixed number of times, and a position is looked up among the entries, not searched for.
+/// A text that is no certificate's is refused, by line from 1, for what goes wrong first ([`TextRefusal`]); there is
+/// one refusal of it, and none of the text of a certificate ([`crate::laws`]). Want of memory may be answered for any
+/// text. The text is gone over a fixed number of times, and a position is looked up among the entries, not searched
+/// for.
 pub fn read_certificate(alloc: Global, text: &[u8]) -> Result<Certificate, TextRefusal>
-    // What is read is the text of a certificate.
-    ensures read { IfOk result (λ c. IsPrinted c × (text.now ≡ text_of c)) }
-    // Each refusal is what it says.
-    ensures refused { IfErr result (λ refusal. IsTextRefusal text.now refusal) }
-    // It is the text of no other certificate.
-    ensures only { IfOk result (λ found. (c : Read) → IsPrinted c → text.now ≡ text_of c → found ≡ c) }
-    // The text of a certificate is refused for want of memory alone.
-    ensures accepts { IfErr result (λ refusal. (c : Read) → IsPrinted c → text.now ≡ text_of c → IsMemory refusal) }
+    // The certificate of which this is the text, or what goes wrong first: exactly that, unless memory ran out.
+    ensures { IsExact is_memory (ReadsAs text.now) (IsTextRefusal text.now) result }
+{
+    read_lines(alloc, text)
+}
+
+/// Reads line after line, up to the last or to the first that is refused.
+fn read_lines(alloc: Global, text: &[u8]) -> Result<Certificate, TextRefusal>
+    ensures read { IfOk result (ReadsAs text.now) }
+    ensures refused { IfErr result (λ e. OnFalse (is_memory e) (IsTextRefusal text.now e)) }
 {
     let mut due = Due::Title;
     let mut lines = 0;

@@ -1,4 +1,7 @@
 //! Why a text is no certificate's.
+ghost use Rattle.std.specs.Prelude.{◌≡◌};
+ghost use Rattle.certificate_text.specs.declared.refusal.TextRefusal.TheVariants as refusals;
+
 use std::alloc::AllocError;
 use thiserror::Error;
 
@@ -23,4 +26,13 @@ pub enum TextRefusal {
     /// There was no memory for the certificate.
     #[error("out of memory")]
     Memory(AllocError),
+}
+
+impl From<AllocError> for TextRefusal {
+    ghost from_gives = { λ error refusal. refusal ≡ refusals.Memory error };
+
+    /// Want of memory.
+    fn from(error: AllocError) -> TextRefusal {
+        TextRefusal::Memory(error)
+    }
 }

@@ -1,6 +1,6 @@
 //! Texts and their outcomes, worked out by hand from the format.
 use crate::{TextRefusal, print_certificate, read_certificate};
-use std::alloc::Global;
+use std::alloc::{AllocError, Global};
 use std::test::Fail;
 
 const WIN: &str =
@@ -21,6 +21,7 @@ enum Want {
 
 use Want::*;
 
+/// The text is refused so.
 fn is_refused(alloc: Global, text: &[u8], want: Want) -> bool {
     match read_certificate(alloc, text) {
         Ok(_) => false,
@@ -185,12 +186,22 @@ fn reads_what_fits(rt: HostRuntime) -> Result<(), Fail> {
 }
 
 #[test]
-fn nothing_stands_behind_the_end(rt: HostRuntime) -> Result<(), Fail> {
-    let mut text = Vec::from_slice(rt.alloc(), WIN.as_bytes())?;
-    text.extend_from_slice(b"x\n")?;
-    assert!(rt; is_refused(rt.alloc(), text.as_slice(), AfterEnd(9)));
-    let mut text = Vec::from_slice(rt.alloc(), WIN.as_bytes())?;
-    text.push(b'\n')?;
-    assert!(rt; is_refused(rt.alloc(), text.as_slice(), AfterEnd(9)));
+fn refusals_name_their_data(rt: HostRuntime) -> Result<(), Fail> {
+    for (refusal, want) in [
+        (TextRefusal::BadLine(7), "line 7 may not stand there"),
+        (
+            TextRefusal::BadFen(7),
+            "the position of line 7 is no printed FEN",
+        ),
+        (
+            TextRefusal::Doubled(7),
+            "the position of line 7 stands in its part already",
+        ),
+        (TextRefusal::Truncated, "the text ends too early"),
+        (TextRefusal::AfterEnd(9), "line 9 stands behind the end"),
+        (TextRefusal::Memory(AllocError), "out of memory"),
+    ] {
+        assert_eq!(rt; format!(in rt.alloc(); "{refusal}")?.as_str(), want);
+    }
     Ok(())
 }

@@ -1,14 +1,13 @@
 pub mod AtRestLemmas
 pub mod AttachLemmas
 pub mod BodyLemmas
+pub mod DurableLemmas
 pub mod ExactLemmas
 pub mod FrameLemmas
 pub mod FreshLemmas
 pub mod GateLemmas
 pub mod JournalLemmas
-pub mod LooksLemmas
 pub mod ReadLemmas
 pub mod ReceiptLemmas
 pub mod RestLemmas
-pub mod SeveralLemmas
-pub mod TextLemmas
+pub mod StagedLemmas

@@ -91,3 +91,7 @@ IsPrefixOf low high = (rest : _) × (high ≡ low ++ rest)
 -- the file stands for the low list of payloads or for more of them, but for none beyond the high list
 abbrev pub StandsBetween : ℕ → List (List ℕ) → List (List ℕ) → List ℕ → Type 0
 StandsBetween pieces low high file = (payloads : List (List ℕ)) × HasPayloads pieces file payloads × IsPrefixOf low payloads × IsPrefixOf payloads high
+
+-- the file stands for the first list of payloads, or for the second one
+abbrev pub StandsForEither : ℕ → List (List ℕ) → List (List ℕ) → List ℕ → Type 0
+StandsForEither pieces first second file = HasPayloads pieces file first ⊎ HasPayloads pieces file second

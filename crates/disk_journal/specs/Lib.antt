@@ -1,7 +1,7 @@
 pub mod Format
 pub mod FormatLaws
+pub mod Frame
 pub mod Gate
 pub mod Log
-pub mod Looks
 pub mod Refusals
 pub mod Rest

@@ -1,10 +1,8 @@
 -- A journal as its callers see it, and what its receipts say.
-use Rattle.std.specs.Prelude.{◌≡◌, ◌⊎◌, ◌<◌, ◌≤◌, ◌^◌, ℕ, All, List, length, Bool, false, Vec}
+use Rattle.std.specs.Prelude.{◌≡◌, ◌⊎◌, ◌<◌, ◌≤◌, ◌^◌, ℕ, List, length, Bool, false}
 use Rattle.std.specs.List.{flat_map}
-use Rattle.std.specs.declared.alloc.Global.{Global}
 use Rattle.bench_disk.specs.Disk.{IsHonest, NothingPending}
 use Rattle.disk_journal.specs.Format.{IsFresh, IsJournal, StandsBetween, front}
-use Rattle.disk_journal.specs.Gate.{IsText}
 
 -- A journal: its disk, the pieces of its tables, what is staged, how many payloads it has, the moment when it was
 -- opened, and whether it failed.
@@ -32,9 +30,8 @@ StandsSince images_since disk t pieces low high = (image : List ℕ) → images_
 abbrev pub StaysOrFresh : (List ℕ → Type 0) → List ℕ → List ℕ → Type 0
 StaysOrFresh images file image = images image ⊎ (IsFresh file × IsFresh image)
 
--- What a journal keeps: what is staged are texts of payloads, and unless it failed its disk is at rest.
-pub record IsSound {D : Type 0} (tells : Bool) (reads : D → List ℕ) (images : D → List ℕ → Type 0) (disk : D) (texts : List (Vec ℕ Global)) (pieces gate count : ℕ) (failed : Bool) : Type 0 where
+-- What a journal keeps: unless it failed its disk is at rest.
+pub record IsSound {D : Type 0} (tells : Bool) (reads : D → List ℕ) (images : D → List ℕ → Type 0) (disk : D) (pieces gate count : ℕ) (failed : Bool) : Type 0 where
   pub bound : gate < 2 ^ 62
   pub counted : count ≤ gate
-  pub staged : All (λ v. IsText v.items) texts
   pub at_rest : IsHonest tells → failed ≡ false → (payloads : List (List ℕ)) × IsAtRest reads images disk pieces gate payloads × (length payloads ≡ count)

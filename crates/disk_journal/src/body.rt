@@ -16,8 +16,10 @@ pub fn read_body(
     requires { at + length bytes.now ≤ 2 ^ 62 }
     ensures { IfOk result (λ whole. MatchBool whole
         ((found : List (List ℕ)) × All IsPayload found × (bytes.now ≡ body found)
-        × (map (λ p. p.bytes.items) payloads.new.items ≡ map (λ p. p.bytes.items) payloads.old.items ++ found)
-        × (map (λ p. p.at) payloads.new.items ≡ map (λ p. p.at) payloads.old.items ++ places_in_body at found))
+        × (map (λ p. p.bytes.items) payloads.new.items ≡ map (λ p. p.bytes.items) payloads.old.items
+        ++ found)
+        × (map (λ p. p.at) payloads.new.items ≡ map (λ p. p.at) payloads.old.items ++ places_in_body
+        at found))
         (IsNoBody bytes.now)) }
 {
     let mut rest = bytes;

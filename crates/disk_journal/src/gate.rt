@@ -32,7 +32,8 @@ impl Gate {
 
     /// What stands there, by the first 9 bytes from the gate on, or all where there are fewer, and the count of all.
     pub fn of(start: &[u8], left: u64) -> Gate
-        ensures begins { (rest : List ℕ) → start.now ≡ take 9 rest → left ≡ length rest → Begins rest result }
+        ensures begins { (rest : List ℕ) → start.now ≡ take 9 rest → left ≡ length rest →
+            Begins rest result }
         ensures within { IsWithin left result }
     {
         if start.is_empty() || left == 0 {

@@ -1,15 +1,16 @@
 //! A journal that is attached to its disk.
-ghost use Rattle.std.specs.Prelude.{◌≡◌, ◌⊎◌, ◌+◌, ◌*◌, ◌≤◌, ◌<◌, ◌^◌, ◌↔◌, ◌++◌, [], ◌∷◌, ℕ, List, length, map, IsTrue, IsOk, IsErr, IfErr, IfOk, OnOk, OnErr, IsErrAnd, MatchResult, false};
-ghost use Rattle.bench_disk.specs.Disk.{HasCause, IsHonest, NothingPending, Rose};
+ghost use Rattle.std.specs.Prelude.{◌≡◌, ◌≢◌, ◌⊎◌, ◌+◌, ◌≤◌, ◌<◌, ◌^◌, ◌↔◌, ◌++◌, [], ◌∷◌, ℕ, List, length, map, IsTrue, IsOk, IsErr, IfErr, IfOk, OnOk, OnErr, IsErrAnd, MatchResult, false};
+ghost use Rattle.bench_disk.specs.Disk.{IsHonest, NothingPending};
+ghost use Rattle.shared_words.specs.Counts.{HasCause, Rose};
 ghost use Rattle.bench_disk.specs.Runs.{Leaves};
-ghost use Rattle.disk_journal.specs.Format.{HasPayloads, HasPlaces, IsFresh, IsPayload, IsTable, StandsBetween, head};
+ghost use Rattle.disk_journal.specs.Format.{HasPayloads, HasPlaces, IsFresh, IsJournal, IsTable, StandsBetween, StandsForEither, head};
 ghost use Rattle.disk_journal.specs.Refusals.{Explains, IsForCause, IsOfNoBytes};
 
-use crate::append::append_frames;
+use crate::append::append_frame;
+use crate::frame::Frame;
 use crate::load::load;
 use crate::payload::Payload;
 use crate::refusal::JournalRefusal;
-use crate::text::text_of;
 use bench_disk::{Disk, DiskFault};
 use std::alloc::{AllocError, Global};
 use std::marker::Model;
@@ -26,14 +27,13 @@ pub struct Receipt {
 /// A journal on a disk, to which payloads are staged and then committed.
 ///
 /// On an honest disk a crash at any moment leaves the payloads that were acknowledged, and of those that are being
-/// committed the first few. Clauses on payloads speak of honest disks.
+/// committed all or none. Clauses on payloads speak of honest disks.
 #[derive(Drop)]
 pub struct Journal<D: Disk> {
-    alloc: Global,
     disk: D,
     pieces: u8,
-    // What is to be written behind the gates: a text for each payload that is staged.
-    texts: Vec<Vec<u8>>,
+    // What is staged.
+    frame: Frame,
     // The place of the closed gate.
     gate: u64,
     count: u64,
@@ -42,15 +42,22 @@ pub struct Journal<D: Disk> {
 }
 
 impl<D: Disk> Model for Journal<D> {
-    ghost use Rattle.std.specs.Prelude.{map};
-    ghost use Rattle.disk_journal.specs.Gate.{payload_of};
     ghost use Rattle.disk_journal.specs.Log.{IsSound, Log};
 
     ghost Value = { Log D };
 
-    ghost view = { λ j. record { disk = j.disk; pieces = j.pieces; staged = map (λ v. payload_of v.items) j.texts.items; count = j.count; opened = j.opened; failed = j.failed } };
+    ghost view = { λ j. record {
+      disk = j.disk;
+      pieces = j.pieces;
+      staged = j.frame;
+      count =
+          j.count;
+      opened = j.opened;
+      failed = j.failed;
+    } };
 
-    ghost invariant = { λ j. IsSound D.TELLS D.reads D.images j.disk j.texts.items j.pieces j.gate j.count j.failed };
+    ghost invariant = { λ j. IsSound D.TELLS D.reads D.images j.disk j.pieces j.gate j.count
+        j.failed };
 }
 
 impl<D: Disk> Journal<D> {
@@ -69,34 +76,57 @@ impl<D: Disk> Journal<D> {
         requires { IsTable pieces }
 
         // The journal has exactly the payloads of what the disk read as, and the disk reads as them still.
-        ensures payloads { IsHonest D.TELLS → IfOk result (λ r. HasPayloads pieces (D.reads disk) (map (λ p. p.bytes.items) r.1.items)) }
-        ensures places { IsHonest D.TELLS → IfOk result (λ r. HasPlaces pieces (D.reads disk) (map (λ p. p.at) r.1.items)) }
-        ensures same { IsHonest D.TELLS → IfOk result (λ r. HasPayloads pieces (D.reads r.0.disk) (map (λ p. p.bytes.items) r.1.items)) }
-        ensures begun { IsHonest D.TELLS → IsFresh (D.reads disk) → IfOk result (λ r. D.reads r.0.disk ≡ head pieces ++ 0 ∷ []) }
-        ensures unwritten { IsHonest D.TELLS → 9 < length (D.reads disk) → MatchResult result (λ r. D.reads r.0.disk ≡ D.reads disk) (λ e. D.reads e.0 ≡ D.reads disk) }
-        ensures state { IfOk result (λ r. (r.0.pieces ≡ pieces) × (r.0.staged ≡ []) × (r.0.count ≡ length r.1.items) × (r.0.failed ≡ false)) }
+        ensures payloads { IsHonest D.TELLS →
+            IfOk result (λ r. HasPayloads pieces (D.reads disk)
+            (map (λ p. p.bytes.items) r.1.items)) }
+        ensures places { IsHonest D.TELLS →
+            IfOk result (λ r. HasPlaces pieces (D.reads disk) (map (λ p. p.at) r.1.items)) }
+        ensures same { IsHonest D.TELLS → IfOk result
+            (λ r. HasPayloads pieces (D.reads r.0.disk) (map (λ p. p.bytes.items) r.1.items)) }
+        ensures begun { IsHonest D.TELLS → IsFresh (D.reads disk) →
+            IfOk result (λ r. D.reads r.0.disk ≡ head pieces ++ 0 ∷ []) }
+        ensures unwritten { IsHonest D.TELLS → 9 < length (D.reads disk) →
+            MatchResult result (λ r. D.reads r.0.disk ≡ D.reads disk)
+            (λ e. D.reads e.0 ≡ D.reads disk) }
+        ensures state { IfOk result (λ r. (r.0.pieces ≡ pieces) × (r.0.staged ≡ []) ×
+            (r.0.count ≡ length r.1.items) × (r.0.failed ≡ false)) }
 
         // The moment behind the opening sync, since which each crash leaves these payloads.
         ensures opened { IfOk result (λ r. r.0.opened ≡ D.moment disk + 1) }
-        ensures durable { IsHonest D.TELLS → IfOk result (λ r. NothingPending (D.reads r.0.disk) (D.images r.0.disk)) }
-        ensures since_opened { IsHonest D.TELLS → IfOk result (λ r. (payloads : List (List ℕ)) → HasPayloads pieces (D.reads disk) payloads →
+        ensures reached { IfOk result (λ r. r.0.opened ≤ D.moment r.0.disk) }
+        ensures durable { IsHonest D.TELLS →
+            IfOk result (λ r. NothingPending (D.reads r.0.disk) (D.images r.0.disk)) }
+        ensures since_opened { IsHonest D.TELLS →
+            IfOk result (λ r. (payloads : List (List ℕ)) →
+            HasPayloads pieces (D.reads disk) payloads →
             StandsSince D.images_since r.0.disk r.0.opened pieces payloads payloads) }
 
         // A crash since the call began leaves what it might have left before, or a fresh file of a fresh one.
         ensures crash { IsHonest D.TELLS → MatchResult result
-            (λ r. Leaves D.moment D.images_since disk r.0.disk (StaysOrFresh (D.images disk) (D.reads disk)))
-            (λ e. Leaves D.moment D.images_since disk e.0 (StaysOrFresh (D.images disk) (D.reads disk))) }
+            (λ r. Leaves D.moment D.images_since disk r.0.disk
+            (StaysOrFresh (D.images disk) (D.reads disk)))
+            (λ e. Leaves D.moment D.images_since disk e.0
+            (StaysOrFresh (D.images disk) (D.reads disk))) }
 
         // Each refusal comes for its cause, and where the bytes have a cause no other comes for them.
-        ensures refused { IsHonest D.TELLS → IfErr result (λ e. Explains (D.reads disk) pieces e.1) }
-        ensures exactly { IsHonest D.TELLS → (cause : _) → Explains (D.reads disk) pieces cause → IsOfNoBytes cause ⊎ IsErrAnd result (λ e. IsForCause cause e.1) }
-        ensures cause { MatchResult result (λ r. D.faults disk ≤ D.faults r.0.disk) (λ e. (D.faults disk ≤ D.faults e.0) × (e.1 ≡ JournalRefusal.DiskFault → Rose (D.faults disk) (D.faults e.0))) }
+        ensures refused { IsHonest D.TELLS →
+            IfErr result (λ e. Explains (D.reads disk) pieces e.1) }
+        ensures exactly { IsHonest D.TELLS → (cause : _) → Explains (D.reads disk) pieces cause →
+            IsOfNoBytes cause ⊎ IsErrAnd result (λ e. IsForCause cause e.1) }
+        ensures cause { MatchResult result (λ r. D.faults disk ≤ D.faults r.0.disk)
+            (λ e. (D.faults disk ≤ D.faults e.0) ×
+            (e.1 ≡ JournalRefusal.DiskFault → Rose (D.faults disk) (D.faults e.0))) }
 
         // A refusal leaves nothing pending where nothing was, unless faults rose on a fresh disk.
         ensures settled { IsHonest D.TELLS → NothingPending (D.reads disk) (D.images disk) →
-            IfErr result (λ e. NothingPending (D.reads e.0) (D.images e.0) ⊎ (IsFresh (D.reads disk) × Rose (D.faults disk) (D.faults e.0))) }
+            IfErr result (λ e. NothingPending (D.reads e.0) (D.images e.0) ⊎
+            (IsFresh (D.reads disk) × Rose (D.faults disk) (D.faults e.0))) }
     {
         let mut disk = disk;
+        let frame = match Frame::new(alloc) {
+            Ok(frame) => frame,
+            Err(error) => return Err((disk, JournalRefusal::Memory(error))),
+        };
         if disk.sync().is_err() {
             return Err((disk, JournalRefusal::DiskFault));
         }
@@ -104,10 +134,9 @@ impl<D: Disk> Journal<D> {
         match load(alloc, &mut disk, pieces) {
             Ok(found) => Ok((
                 Journal {
-                    alloc,
                     disk,
                     pieces,
-                    texts: Vec::new(alloc),
+                    frame,
                     gate: found.gate,
                     count: found.payloads.len() as u64,
                     opened,
@@ -119,20 +148,19 @@ impl<D: Disk> Journal<D> {
         }
     }
 
-    /// Stages a payload, which `commit` then makes durable. It takes all memory that `commit` needs. A payload of
-    /// 2^32 bytes or more is answered as want of memory.
+    /// Stages a payload, which `commit` then makes durable with all others that are staged. It makes the room of the
+    /// whole frame, so that `commit` takes no memory. A payload of 2^32 bytes or more is answered as want of memory.
     pub fn stage(&mut self, payload: &[u8]) -> Result<(), AllocError>
         requires unfailed { self.old.failed ≡ false }
         requires some { 0 < length payload.now }
-        ensures ok { OnOk result (self.new ≡ record self.old { staged = self.old.staged ++ payload.now ∷ [] }) }
+        ensures ok { OnOk result (self.new ≡ record self.old
+            { staged = self.old.staged ++ payload.now ∷ [] }) }
         ensures err { OnErr result (self.new ≡ self.old) }
     {
         if payload.len() > MAX_PAYLOAD {
             return Err(AllocError);
         }
-        let text = text_of(self.alloc, payload)?;
-        self.texts.push(text)?;
-        Ok(())
+        self.frame.push(payload)
     }
 
     /// Drops the payload that was staged last.
@@ -141,11 +169,12 @@ impl<D: Disk> Journal<D> {
         ensures staged { (last : List ℕ) × (self.old.staged ≡ self.new.staged ++ last ∷ []) }
         ensures rest { self.new ≡ record self.old { staged = self.new.staged } }
     {
-        let _ = self.texts.pop();
+        self.frame.pop();
     }
 
-    /// Makes the staged payloads durable, in order, and leaves none staged. With none staged it makes no call of the
-    /// device. For each payload it writes the frame and the next gate, closed, syncs, opens the gate and syncs.
+    /// Makes the staged payloads durable, in order and in one frame, and leaves none staged. It writes the frame and the
+    /// next gate, closed, syncs, opens the gate before the frame and syncs: four calls of the device, whatever is
+    /// staged. With nothing staged it makes none.
     ///
     /// After a fault the journal is failed, and its payloads are known again only after a new `attach`.
     pub fn commit(&mut self) -> Result<Receipt, DiskFault>
@@ -156,43 +185,68 @@ impl<D: Disk> Journal<D> {
         ensures moment { IfOk result (λ receipt. receipt.moment ≡ D.moment self.new.disk) }
         ensures count { OnOk result (self.new.count ≡ self.old.count + length self.old.staged) }
         ensures staged { OnOk result (self.new.staged ≡ []) }
-        ensures calls { OnOk result (D.moment self.new.disk ≡ D.moment self.old.disk + 4 * length self.old.staged) }
+        ensures calls { D.moment self.new.disk ≤ D.moment self.old.disk + 4 }
+        ensures four { self.old.staged ≢ [] →
+            OnOk result (D.moment self.new.disk ≡ D.moment self.old.disk + 4) }
         ensures idle { self.old.staged ≡ [] → (self.new.disk ≡ self.old.disk) × IsOk result }
         ensures stays { (self.new.pieces ≡ self.old.pieces) × (self.new.opened ≡ self.old.opened) }
 
         // The disk then reads as the payloads of before and the staged ones, with nothing pending.
-        ensures payloads { IsHonest D.TELLS → (payloads : List (List ℕ)) → HasPayloads self.old.pieces (D.reads self.old.disk) payloads →
-            OnOk result (HasPayloads self.old.pieces (D.reads self.new.disk) (payloads ++ self.old.staged)) }
-        ensures durable { IsHonest D.TELLS → OnOk result (NothingPending (D.reads self.new.disk) (D.images self.new.disk)) }
+        ensures payloads { IsHonest D.TELLS → (payloads : List (List ℕ)) →
+            HasPayloads self.old.pieces (D.reads self.old.disk) payloads →
+            OnOk result (HasPayloads self.old.pieces (D.reads self.new.disk)
+            (payloads ++ self.old.staged)) }
+        ensures durable { IsHonest D.TELLS →
+            OnOk result (NothingPending (D.reads self.new.disk) (D.images self.new.disk)) }
 
-        // A crash since the call began leaves the payloads of before and the first few of the staged ones.
-        ensures crash { IsHonest D.TELLS → (payloads : List (List ℕ)) → HasPayloads self.old.pieces (D.reads self.old.disk) payloads →
-            Leaves D.moment D.images_since self.old.disk self.new.disk (StandsBetween self.old.pieces payloads (payloads ++ self.old.staged)) }
+        // All that was staged stands in one frame, the last one.
+        ensures frame { IsHonest D.TELLS → self.old.staged ≢ [] → (frames : List (List (List ℕ))) →
+            IsJournal self.old.pieces frames (D.reads self.old.disk) →
+            OnOk result (IsJournal self.old.pieces (frames ++ self.old.staged ∷ [])
+            (D.reads self.new.disk)) }
+
+        // A crash since the call began leaves the payloads of before, with all of the staged ones or with none.
+        ensures atomic { IsHonest D.TELLS → (payloads : List (List ℕ)) →
+            HasPayloads self.old.pieces (D.reads self.old.disk) payloads →
+            Leaves D.moment D.images_since self.old.disk self.new.disk
+            (StandsForEither self.old.pieces payloads (payloads ++ self.old.staged)) }
+        ensures crash { IsHonest D.TELLS → (payloads : List (List ℕ)) →
+            HasPayloads self.old.pieces (D.reads self.old.disk) payloads →
+            Leaves D.moment D.images_since self.old.disk self.new.disk
+            (StandsBetween self.old.pieces payloads (payloads ++ self.old.staged)) }
 
         // What was acknowledged at an earlier moment stays so.
-        ensures kept { IsHonest D.TELLS → (t : ℕ) (low payloads : List (List ℕ)) → t ≤ D.moment self.old.disk → HasPayloads self.old.pieces (D.reads self.old.disk) payloads →
-            StandsSince D.images_since self.old.disk t self.old.pieces low payloads → StandsSince D.images_since self.new.disk t self.old.pieces low (payloads ++ self.old.staged) }
+        ensures kept { IsHonest D.TELLS → (t : ℕ) (low payloads : List (List ℕ)) →
+            t ≤ D.moment self.old.disk → HasPayloads self.old.pieces (D.reads self.old.disk)
+            payloads →
+            StandsSince D.images_since self.old.disk t self.old.pieces low payloads →
+            StandsSince D.images_since self.new.disk t self.old.pieces low
+            (payloads ++ self.old.staged) }
 
         // A crash since the receipt's moment leaves all payloads.
-        ensures acknowledged { IsHonest D.TELLS → IfOk result (λ receipt. (payloads : List (List ℕ)) → HasPayloads self.old.pieces (D.reads self.new.disk) payloads →
-            StandsSince D.images_since self.new.disk receipt.moment self.old.pieces payloads payloads) }
+        ensures acknowledged { IsHonest D.TELLS →
+            IfOk result (λ receipt. (payloads : List (List ℕ)) →
+            HasPayloads self.old.pieces (D.reads self.new.disk) payloads →
+            StandsSince D.images_since self.new.disk receipt.moment self.old.pieces payloads
+            payloads) }
 
         // A fault, which leaves the journal failed.
         ensures failed { IsTrue self.new.failed ↔ IsErr result }
-        ensures unchanged { OnErr result ((self.new.staged ≡ self.old.staged) × (self.new.count ≡ self.old.count)) }
+        ensures unchanged { OnErr result ((self.new.staged ≡ self.old.staged) ×
+            (self.new.count ≡ self.old.count)) }
         ensures cause { HasCause (D.faults self.old.disk) (D.faults self.new.disk) result }
     {
-        if self.texts.is_empty() {
+        if self.frame.len() == 0 {
             return Ok(Receipt {
                 number: self.count,
                 moment: self.disk.moment(),
             });
         }
-        match append_frames(&mut self.disk, self.gate, &self.texts) {
+        match append_frame(&mut self.disk, self.gate, self.frame.text()) {
             Ok(gate) => {
                 self.gate = gate;
-                self.count += self.texts.len() as u64;
-                self.texts.clear();
+                self.count += self.frame.len() as u64;
+                self.frame.clear();
                 Ok(Receipt {
                     number: self.count,
                     moment: self.disk.moment(),
@@ -223,7 +277,7 @@ impl<D: Disk> Journal<D> {
     pub fn staged(&self) -> usize
         ensures { result ≡ length self.now.staged }
     {
-        self.texts.len()
+        self.frame.len()
     }
 
     /// The pieces of the tables that the journal is for.

@@ -6,13 +6,15 @@
 //! bytes. Any other gate is closed, and what stands behind it is never read. A file of at most 9 bytes is fresh: it is
 //! taken as a new journal, whatever its bytes are.
 //!
-//! [`Journal::commit`] writes a frame behind the closed gate, with the next gate closed behind it, makes that durable,
-//! and only then opens the gate. So on an honest disk each image that a crash may leave reads as a list of payloads
-//! that begins with all that was acknowledged by a [`Receipt`] before, and that goes on with what was being committed.
+//! [`Journal::commit`] writes all that is staged as one frame behind the closed gate, with the next gate closed behind
+//! it, makes that durable, and only then opens the gate. So on an honest disk each image that a crash may leave reads
+//! as the payloads that were acknowledged by a [`Receipt`] before, and then all of those that were being committed, or
+//! none of them.
 #![tactic(auto)]
 
 mod append;
 mod body;
+mod frame;
 mod gate;
 mod journal;
 mod load;
@@ -21,7 +23,6 @@ mod reader;
 mod refusal;
 #[cfg(test)]
 mod tests;
-mod text;
 
 pub use journal::{Journal, Receipt};
 pub use load::read_journal;

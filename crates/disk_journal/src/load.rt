@@ -1,10 +1,11 @@
 //! Reading a journal, and beginning one on a fresh disk.
 ghost use Rattle.std.specs.Prelude.{◌≡◌, ◌⊎◌, ◌+◌, ◌≤◌, ◌<◌, ◌^◌, [], ◌∷◌, ◌++◌, ℕ, List, length, map, IfErr, IfOk, OnErr, OnOk, IsErrAnd};
-ghost use Rattle.bench_disk.specs.Disk.{HasCause, IsHonest, NothingPending, Rose};
+ghost use Rattle.bench_disk.specs.Disk.{IsHonest, NothingPending};
+ghost use Rattle.shared_words.specs.Counts.{HasCause, Rose};
 ghost use Rattle.bench_disk.specs.Runs.{Leaves};
 ghost use Rattle.disk_journal.specs.Format.{HasPayloads, HasPlaces, IsFresh, IsTable, head};
 ghost use Rattle.disk_journal.specs.Log.{IsAtRest, StaysOrFresh};
-ghost use Rattle.disk_journal.specs.Looks.{OnlyLooks};
+ghost use Rattle.bench_disk.specs.Runs.{OnlyLooks};
 ghost use Rattle.disk_journal.specs.Refusals.{Explains, ExplainsAny, IsForCause, IsOfNoBytes};
 ghost use Rattle.disk_journal.specs.Rest.{HoldsFrames};
 
@@ -23,17 +24,23 @@ pub fn read_journal<D: Disk>(
     alloc: Global,
     disk: &mut D,
 ) -> Result<(u8, Vec<Payload>), JournalRefusal>
-    ensures payloads { IsHonest D.TELLS → IfOk result (λ r. HasPayloads r.0 (D.reads disk.old) (map (λ p. p.bytes.items) r.1.items)) }
-    ensures places { IsHonest D.TELLS → IfOk result (λ r. HasPlaces r.0 (D.reads disk.old) (map (λ p. p.at) r.1.items)) }
+    ensures payloads { IsHonest D.TELLS →
+        IfOk result (λ r. HasPayloads r.0 (D.reads disk.old) (map (λ p. p.bytes.items) r.1.items)) }
+    ensures places { IsHonest D.TELLS →
+        IfOk result (λ r. HasPlaces r.0 (D.reads disk.old) (map (λ p. p.at) r.1.items)) }
     ensures table { IfOk result (λ r. IsTable r.0) }
     ensures fresh { IsHonest D.TELLS → IsFresh (D.reads disk.old) → IfOk result (λ r. r.0 ≡ 2) }
 
     // Each refusal comes for its cause, and where the bytes have a cause no other comes for them.
     ensures refused { IsHonest D.TELLS → IfErr result (ExplainsAny (D.reads disk.old)) }
-    ensures exactly { IsHonest D.TELLS → (cause : _) → ExplainsAny (D.reads disk.old) cause → IsOfNoBytes cause ⊎ IsErrAnd result (IsForCause cause) }
-    ensures looks { IsHonest D.TELLS → OnlyLooks D.reads D.images D.images_since D.moment disk.old disk.new }
+    ensures exactly { IsHonest D.TELLS → (cause : _) → ExplainsAny (D.reads disk.old) cause →
+        IsOfNoBytes cause ⊎ IsErrAnd result (IsForCause cause) }
+    ensures looks { IsHonest D.TELLS → OnlyLooks D.reads D.images D.images_since D.moment disk.old
+        disk.new }
+    ensures later { D.moment disk.old ≤ D.moment disk.new }
     ensures faults { D.faults disk.old ≤ D.faults disk.new }
-    ensures cause { result ≡ Err JournalRefusal.DiskFault → Rose (D.faults disk.old) (D.faults disk.new) }
+    ensures cause { result ≡ Err JournalRefusal.DiskFault →
+        Rose (D.faults disk.old) (D.faults disk.new) }
 {
     let len = measure(disk)?;
     if len <= MAX_FRESH {
@@ -44,7 +51,7 @@ pub fn read_journal<D: Disk>(
     Ok((pieces, found.payloads))
 }
 
-// Reads a journal for tables of these pieces on a disk of so many bytes.
+/// Reads a journal for tables of these pieces on a disk of so many bytes.
 fn read_asked<D: Disk>(
     alloc: Global,
     disk: &mut D,
@@ -54,12 +61,16 @@ fn read_asked<D: Disk>(
     requires len { IsHonest D.TELLS → len ≡ length (D.reads disk.old) }
     requires long { 9 < len }
     requires bound { len ≤ 2 ^ 62 }
-    ensures frames { IsHonest D.TELLS → IfOk result (λ f. HoldsFrames pieces (D.reads disk.old) f.gate f.payloads.items) }
+    ensures frames { IsHonest D.TELLS →
+        IfOk result (λ f. HoldsFrames pieces (D.reads disk.old) f.gate f.payloads.items) }
     ensures bound { IfOk result (λ f. (length f.payloads.items ≤ f.gate) × (f.gate < 2 ^ 62)) }
     ensures refused { IsHonest D.TELLS → IfErr result (Explains (D.reads disk.old) pieces) }
-    ensures looks { IsHonest D.TELLS → OnlyLooks D.reads D.images D.images_since D.moment disk.old disk.new }
+    ensures looks { IsHonest D.TELLS → OnlyLooks D.reads D.images D.images_since D.moment disk.old
+        disk.new }
+    ensures later { D.moment disk.old ≤ D.moment disk.new }
     ensures faults { D.faults disk.old ≤ D.faults disk.new }
-    ensures cause { result ≡ Err JournalRefusal.DiskFault → Rose (D.faults disk.old) (D.faults disk.new) }
+    ensures cause { result ≡ Err JournalRefusal.DiskFault →
+        Rose (D.faults disk.old) (D.faults disk.new) }
 {
     let found = read_head(disk)?;
     if found != pieces {
@@ -71,14 +82,16 @@ fn read_asked<D: Disk>(
     read_frames(alloc, disk, len, pieces)
 }
 
-// Writes the head and a closed gate over a fresh disk.
+/// Writes the head and a closed gate over a fresh disk.
 fn begin<D: Disk>(disk: &mut D, pieces: u8) -> Result<(), DiskFault>
     requires table { IsTable pieces }
     requires fresh { IsHonest D.TELLS → IsFresh (D.reads disk.old) }
     requires settled { IsHonest D.TELLS → NothingPending (D.reads disk.old) (D.images disk.old) }
-    ensures at_rest { IsHonest D.TELLS → OnOk result (IsAtRest D.reads D.images disk.new pieces 8 []) }
+    ensures at_rest { IsHonest D.TELLS →
+        OnOk result (IsAtRest D.reads D.images disk.new pieces 8 []) }
     ensures begun { IsHonest D.TELLS → OnOk result (D.reads disk.new ≡ head pieces ++ 0 ∷ []) }
     ensures crash { IsHonest D.TELLS → Leaves D.moment D.images_since disk.old disk.new IsFresh }
+    ensures later { D.moment disk.old ≤ D.moment disk.new }
     ensures cause { HasCause (D.faults disk.old) (D.faults disk.new) result }
 {
     write_durably(
@@ -92,17 +105,30 @@ fn begin<D: Disk>(disk: &mut D, pieces: u8) -> Result<(), DiskFault>
 pub fn load<D: Disk>(alloc: Global, disk: &mut D, pieces: u8) -> Result<Frames, JournalRefusal>
     requires table { IsTable pieces }
     requires settled { IsHonest D.TELLS → NothingPending (D.reads disk.old) (D.images disk.old) }
-    ensures at_rest { IsHonest D.TELLS → IfOk result (λ f. IsAtRest D.reads D.images disk.new pieces f.gate (map (λ p. p.bytes.items) f.payloads.items)) }
-    ensures payloads { IsHonest D.TELLS → IfOk result (λ f. HasPayloads pieces (D.reads disk.old) (map (λ p. p.bytes.items) f.payloads.items)) }
-    ensures places { IsHonest D.TELLS → IfOk result (λ f. HasPlaces pieces (D.reads disk.old) (map (λ p. p.at) f.payloads.items)) }
+    ensures at_rest { IsHonest D.TELLS →
+        IfOk result (λ f. IsAtRest D.reads D.images disk.new pieces f.gate
+        (map (λ p. p.bytes.items) f.payloads.items)) }
+    ensures payloads { IsHonest D.TELLS →
+        IfOk result (λ f. HasPayloads pieces (D.reads disk.old)
+        (map (λ p. p.bytes.items) f.payloads.items)) }
+    ensures places { IsHonest D.TELLS →
+        IfOk result (λ f. HasPlaces pieces (D.reads disk.old) (map (λ p. p.at) f.payloads.items)) }
     ensures bound { IfOk result (λ f. (length f.payloads.items ≤ f.gate) × (f.gate < 2 ^ 62)) }
-    ensures begun { IsHonest D.TELLS → IsFresh (D.reads disk.old) → OnOk result (D.reads disk.new ≡ head pieces ++ 0 ∷ []) }
-    ensures unwritten { IsHonest D.TELLS → 9 < length (D.reads disk.old) → (D.reads disk.new ≡ D.reads disk.old) × NothingPending (D.reads disk.new) (D.images disk.new) }
-    ensures settled { IsHonest D.TELLS → OnErr result (NothingPending (D.reads disk.new) (D.images disk.new) ⊎ Rose (D.faults disk.old) (D.faults disk.new)) }
+    ensures begun { IsHonest D.TELLS → IsFresh (D.reads disk.old) →
+        OnOk result (D.reads disk.new ≡ head pieces ++ 0 ∷ []) }
+    ensures unwritten { IsHonest D.TELLS → 9 < length (D.reads disk.old) →
+        (D.reads disk.new ≡ D.reads disk.old) ×
+        NothingPending (D.reads disk.new) (D.images disk.new) }
+    ensures settled { IsHonest D.TELLS →
+        OnErr result (NothingPending (D.reads disk.new) (D.images disk.new) ⊎
+        Rose (D.faults disk.old) (D.faults disk.new)) }
     ensures refused { IsHonest D.TELLS → IfErr result (Explains (D.reads disk.old) pieces) }
-    ensures crash { IsHonest D.TELLS → Leaves D.moment D.images_since disk.old disk.new (StaysOrFresh (D.images disk.old) (D.reads disk.old)) }
+    ensures crash { IsHonest D.TELLS → Leaves D.moment D.images_since disk.old disk.new
+        (StaysOrFresh (D.images disk.old) (D.reads disk.old)) }
+    ensures later { D.moment disk.old ≤ D.moment disk.new }
     ensures faults { D.faults disk.old ≤ D.faults disk.new }
-    ensures cause { result ≡ Err JournalRefusal.DiskFault → Rose (D.faults disk.old) (D.faults disk.new) }
+    ensures cause { result ≡ Err JournalRefusal.DiskFault →
+        Rose (D.faults disk.old) (D.faults disk.new) }
 {
     let len = measure(disk)?;
     if len <= MAX_FRESH {

@@ -1,8 +1,9 @@
 //! Reading a journal from a disk, frame by frame.
 ghost use Rattle.std.specs.Prelude.{◌≡◌, ◌+◌, ◌-◌, ◌≤◌, ◌<◌, ◌^◌, length, take, drop, IfErr, IfNone, IfOk, IfSome, MatchBool, MatchOption};
-ghost use Rattle.bench_disk.specs.Disk.{HasCause, IsHonest, Rose};
+ghost use Rattle.bench_disk.specs.Disk.{IsHonest};
+ghost use Rattle.shared_words.specs.Counts.{HasCause, Rose};
 ghost use Rattle.disk_journal.specs.Format.{IsTable};
-ghost use Rattle.disk_journal.specs.Looks.{OnlyLooks};
+ghost use Rattle.bench_disk.specs.Runs.{OnlyLooks};
 ghost use Rattle.disk_journal.specs.Refusals.{HasHead};
 ghost use Rattle.disk_journal.specs.Rest.{AddsFrame, Begins, HoldsFrames, IsBrokenAt, IsClosed, IsDamage, IsWithin, LacksHead};
 
@@ -25,9 +26,12 @@ pub fn read_head<D: Disk>(disk: &mut D) -> Result<u8, JournalRefusal>
     ensures head { IsHonest D.TELLS → IfOk result (λ pieces. HasHead pieces (D.reads disk.old)) }
     ensures table { IfOk result IsTable }
     ensures refused { IsHonest D.TELLS → IfErr result (LacksHead (D.reads disk.old)) }
-    ensures looks { IsHonest D.TELLS → OnlyLooks D.reads D.images D.images_since D.moment disk.old disk.new }
+    ensures looks { IsHonest D.TELLS → OnlyLooks D.reads D.images D.images_since D.moment disk.old
+        disk.new }
+    ensures later { D.moment disk.old ≤ D.moment disk.new }
     ensures faults { D.faults disk.old ≤ D.faults disk.new }
-    ensures cause { result ≡ Err JournalRefusal.DiskFault → Rose (D.faults disk.old) (D.faults disk.new) }
+    ensures cause { result ≡ Err JournalRefusal.DiskFault →
+        Rose (D.faults disk.old) (D.faults disk.new) }
 {
     let mut start = [0; 8];
     let count = disk.read_at(0, &mut start)?;
@@ -37,13 +41,15 @@ pub fn read_head<D: Disk>(disk: &mut D) -> Result<u8, JournalRefusal>
     }
 }
 
-// What stands at a gate's place, on a disk of so many bytes.
+/// What stands at a gate's place, on a disk of so many bytes.
 fn read_gate<D: Disk>(disk: &mut D, len: u64, gate: u64) -> Result<Gate, DiskFault>
     requires len { IsHonest D.TELLS → len ≡ length (D.reads disk.old) }
     requires within { gate ≤ len }
     ensures begins { IsHonest D.TELLS → IfOk result (Begins (drop gate (D.reads disk.old))) }
     ensures within { IfOk result (IsWithin (len - gate)) }
-    ensures looks { IsHonest D.TELLS → OnlyLooks D.reads D.images D.images_since D.moment disk.old disk.new }
+    ensures looks { IsHonest D.TELLS → OnlyLooks D.reads D.images D.images_since D.moment disk.old
+        disk.new }
+    ensures later { D.moment disk.old ≤ D.moment disk.new }
     ensures cause { HasCause (D.faults disk.old) (D.faults disk.new) result }
 {
     let mut start = [0; 9];
@@ -51,19 +57,21 @@ fn read_gate<D: Disk>(disk: &mut D, len: u64, gate: u64) -> Result<Gate, DiskFau
     Ok(Gate::of(&start[..count], len - gate))
 }
 
-// Fills the buffer with the bytes from a place on, and tells whether there were so many.
+/// Fills the buffer with the bytes from a place on, and tells whether there were so many.
 fn fill<D: Disk>(disk: &mut D, at: u64, into: &mut [u8]) -> Result<bool, DiskFault>
     ensures bytes { IsHonest D.TELLS → IfOk result (λ whole. MatchBool whole
         (into.new ≡ take (length into.old) (drop at (D.reads disk.old)))
         (length (drop at (D.reads disk.old)) < length into.old)) }
-    ensures looks { IsHonest D.TELLS → OnlyLooks D.reads D.images D.images_since D.moment disk.old disk.new }
+    ensures looks { IsHonest D.TELLS → OnlyLooks D.reads D.images D.images_since D.moment disk.old
+        disk.new }
+    ensures later { D.moment disk.old ≤ D.moment disk.new }
     ensures cause { HasCause (D.faults disk.old) (D.faults disk.new) result }
 {
     Ok(disk.read_at(at, into)? == into.len())
 }
 
-// Reads the frame at a gate's place, adds its payloads to those read, and tells the place of the next gate, or none
-// where the gate is closed. The buffer is for its body.
+/// Reads the frame at a gate's place, adds its payloads to those read, and tells the place of the next gate, or none
+/// where the gate is closed. The buffer is for its body.
 fn read_frame<D: Disk>(
     alloc: Global,
     disk: &mut D,
@@ -78,12 +86,19 @@ fn read_frame<D: Disk>(
     ensures frame { IsHonest D.TELLS → IfOk result (λ next. MatchOption next
         (IsClosed (drop gate (D.reads disk.old)))
         (λ n. AddsFrame gate n (D.reads disk.old) payloads.old.items payloads.new.items)) }
-    ensures closed { IfOk result (λ next. IfNone next ((gate < len) × (payloads.new.items ≡ payloads.old.items))) }
-    ensures goes { IfOk result (λ next. IfSome next (λ n. (gate < n) × (n ≤ len) × (length payloads.new.items + gate ≤ length payloads.old.items + n))) }
-    ensures refused { IsHonest D.TELLS → IfErr result (IsBrokenAt gate (drop gate (D.reads disk.old))) }
-    ensures looks { IsHonest D.TELLS → OnlyLooks D.reads D.images D.images_since D.moment disk.old disk.new }
+    ensures closed { IfOk result (λ next. IfNone next
+        ((gate < len) × (payloads.new.items ≡ payloads.old.items))) }
+    ensures goes { IfOk result (λ next. IfSome next
+        (λ n. (gate < n) × (n ≤ len) × (length payloads.new.items + gate ≤ length payloads.old.items
+        + n))) }
+    ensures refused { IsHonest D.TELLS →
+        IfErr result (IsBrokenAt gate (drop gate (D.reads disk.old))) }
+    ensures looks { IsHonest D.TELLS → OnlyLooks D.reads D.images D.images_since D.moment disk.old
+        disk.new }
+    ensures later { D.moment disk.old ≤ D.moment disk.new }
     ensures faults { D.faults disk.old ≤ D.faults disk.new }
-    ensures cause { result ≡ Err JournalRefusal.DiskFault → Rose (D.faults disk.old) (D.faults disk.new) }
+    ensures cause { result ≡ Err JournalRefusal.DiskFault →
+        Rose (D.faults disk.old) (D.faults disk.new) }
 {
     let size = match read_gate(disk, len, gate)? {
         Gate::Closed => return Ok(None),
@@ -112,12 +127,16 @@ pub fn read_frames<D: Disk>(
     requires head { IsHonest D.TELLS → HasHead pieces (D.reads disk.old) }
     requires long { 9 < len }
     requires bound { len ≤ 2 ^ 62 }
-    ensures frames { IsHonest D.TELLS → IfOk result (λ f. HoldsFrames pieces (D.reads disk.old) f.gate f.payloads.items) }
+    ensures frames { IsHonest D.TELLS →
+        IfOk result (λ f. HoldsFrames pieces (D.reads disk.old) f.gate f.payloads.items) }
     ensures bound { IfOk result (λ f. (length f.payloads.items ≤ f.gate) × (f.gate < len)) }
     ensures refused { IsHonest D.TELLS → IfErr result (IsDamage pieces (D.reads disk.old)) }
-    ensures looks { IsHonest D.TELLS → OnlyLooks D.reads D.images D.images_since D.moment disk.old disk.new }
+    ensures looks { IsHonest D.TELLS → OnlyLooks D.reads D.images D.images_since D.moment disk.old
+        disk.new }
+    ensures later { D.moment disk.old ≤ D.moment disk.new }
     ensures faults { D.faults disk.old ≤ D.faults disk.new }
-    ensures cause { result ≡ Err JournalRefusal.DiskFault → Rose (D.faults disk.old) (D.faults disk.new) }
+    ensures cause { result ≡ Err JournalRefusal.DiskFault →
+        Rose (D.faults disk.old) (D.faults disk.new) }
 {
     let mut gate = 8;
     let mut text = Vec::new(alloc);
@@ -133,9 +152,12 @@ pub fn measure<D: Disk>(disk: &mut D) -> Result<u64, JournalRefusal>
     ensures len { IsHonest D.TELLS → IfOk result (λ n. n ≡ length (D.reads disk.old)) }
     ensures bound { IfOk result (λ n. n ≤ 2 ^ 62) }
     ensures refused { IfErr result (λ refusal. refusal ≡ JournalRefusal.DiskFault) }
-    ensures looks { IsHonest D.TELLS → OnlyLooks D.reads D.images D.images_since D.moment disk.old disk.new }
+    ensures looks { IsHonest D.TELLS → OnlyLooks D.reads D.images D.images_since D.moment disk.old
+        disk.new }
+    ensures later { D.moment disk.old ≤ D.moment disk.new }
     ensures faults { D.faults disk.old ≤ D.faults disk.new }
-    ensures cause { result ≡ Err JournalRefusal.DiskFault → Rose (D.faults disk.old) (D.faults disk.new) }
+    ensures cause { result ≡ Err JournalRefusal.DiskFault →
+        Rose (D.faults disk.old) (D.faults disk.new) }
 {
     Ok(disk.len()?)
 }

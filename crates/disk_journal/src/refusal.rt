@@ -20,7 +20,7 @@ pub enum JournalRefusal {
     /// At this place, counted from 0, a gate is due, and the file ends there or no sound frame stands behind it.
     #[error("the journal is damaged at byte {0}")]
     Damaged(u64),
-    #[error("no memory is left")]
+    #[error("out of memory")]
     Memory(AllocError),
 }
 

@@ -3,27 +3,33 @@ ghost use Rattle.std.specs.Prelude.{◌≡◌, ◌<◌, false, length, OnOk};
 ghost use Rattle.disk_journal.specs.Format.{IsTable};
 
 use crate::{Journal, JournalRefusal, Payload, Receipt, read_journal};
-use bench_disk::{Disk, FaultDisk, FileDisk, FuseDisk, MemoryDisk};
-use std::alloc::Global;
+use bench_disk::{Disk, FaultDisk, FileDisk, Fuse, FuseDisk, MemoryDisk, ShortDisk};
+use std::alloc::{AllocError, Global};
 use std::fs;
 use std::process::Abort;
 use std::test::Fail;
 
-// The payloads 01 and 02, committed one by one, for tables of two pieces. The gates stand at 8, 22 and 36.
+/// The payloads 01 and 02, committed one by one, for tables of two pieces. The gates stand at 8, 22 and 36.
 const TWO: [u8; 37] = [
     0x44, 0x52, 0x42, 0x45, 0x4e, 0x43, 0x48, 2, 1, 0, 0, 0, 0, 0, 0, 0, 5, 0, 0, 0, 1, 0x01, 1, 0,
     0, 0, 0, 0, 0, 0, 5, 0, 0, 0, 1, 0x02, 0,
 ];
 
-// Five payloads, of 1, 1, 2, 1 and 3 bytes, for tables of three pieces: one in the frame at 8, three in that at 22,
-// one in that at 47. The closed gate stands at 63.
+/// The payloads 01, 02 and 03, committed at once. The gates stand at 8 and 32.
+const THREE: [u8; 33] = [
+    0x44, 0x52, 0x42, 0x45, 0x4e, 0x43, 0x48, 2, 1, 0, 0, 0, 0, 0, 0, 0, 15, 0, 0, 0, 1, 0x01, 0,
+    0, 0, 1, 0x02, 0, 0, 0, 1, 0x03, 0,
+];
+
+/// Five payloads, of 1, 1, 2, 1 and 3 bytes, for tables of three pieces: one in the frame at 8, three in that at 22,
+/// one in that at 47. The closed gate stands at 63.
 const FIVE: [u8; 64] = [
     0x44, 0x52, 0x42, 0x45, 0x4e, 0x43, 0x48, 3, 1, 0, 0, 0, 0, 0, 0, 0, 5, 0, 0, 0, 1, 0xaa, 1, 0,
     0, 0, 0, 0, 0, 0, 16, 0, 0, 0, 1, 0xb1, 0, 0, 0, 2, 0xc1, 0xc2, 0, 0, 0, 1, 0xd1, 1, 0, 0, 0,
     0, 0, 0, 0, 7, 0, 0, 0, 3, 0xe1, 0xe2, 0xe3, 0,
 ];
 
-// How many payloads are attached, or why none is. A refusal hands the disk back as it was.
+/// How many payloads are attached, or why none is. A refusal hands the disk back as it was.
 fn attach_to(
     rt: &impl Abort,
     alloc: Global,
@@ -45,7 +51,7 @@ fn attach_to(
     }
 }
 
-// The journal on a disk of these bytes.
+/// The journal on a disk of these bytes.
 fn journal_on<D: Disk + Drop>(rt: &impl Abort, alloc: Global, disk: D) -> (Journal<D>, Vec<Payload>)
     ensures { result.0.failed ≡ false }
 {
@@ -55,7 +61,7 @@ fn journal_on<D: Disk + Drop>(rt: &impl Abort, alloc: Global, disk: D) -> (Journ
     }
 }
 
-// Stages and commits one payload.
+/// Stages and commits one payload.
 fn put<D: Disk>(journal: &mut Journal<D>, payload: &[u8]) -> Result<Receipt, Fail>
     requires unfailed { journal.old.failed ≡ false }
     requires some { 0 < length payload.now }
@@ -130,19 +136,42 @@ fn commits_what_is_staged(rt: HostRuntime) -> Result<(), Fail> {
     journal.stage(&[2])?;
     journal.stage(&[9, 9, 9])?;
     journal.unstage();
-    assert_eq!(rt; journal.staged(), 2);
+    journal.stage(&[3])?;
+    assert_eq!(rt; journal.staged(), 3);
     assert_eq!(rt;
         journal.commit()?,
         Receipt {
-            number: 2,
-            moment: moment + 8
+            number: 3,
+            moment: moment + 4
         }
     );
-    assert_eq!(rt; journal.disk().bytes(), TWO.as_slice());
+    assert_eq!(rt; journal.disk().bytes(), THREE.as_slice());
+    assert_eq!(rt; (journal.staged(), journal.count()), (0, 3));
+    assert_eq!(rt;
+        journal.commit()?,
+        Receipt {
+            number: 3,
+            moment: moment + 4
+        },
+        "nothing is staged any more"
+    );
+
+    let (mut journal, payloads) = journal_on(&rt, rt.alloc(), journal.into_disk());
+    assert_eq!(rt; payloads.len(), 3);
+    for (payload, (at, byte)) in payloads.iter().zip([(17, 1), (22, 2), (27, 3)]) {
+        assert_eq!(rt;
+            (payload.at, payload.bytes.as_slice()),
+            (at, [byte].as_slice())
+        );
+    }
+    // The next frame stands behind that one.
+    let _ = put(&mut journal, &[4])?;
+    assert_eq!(rt; journal.disk().bytes().len(), 47);
+    assert!(rt; journal.disk().bytes()[32..] == [1, 0, 0, 0, 0, 0, 0, 0, 5, 0, 0, 0, 1, 4, 0]);
     Ok(())
 }
 
-// Whether some image that a crash leaves, of at least so many bytes, has two payloads, and whether some has three.
+/// Whether some image that a crash leaves, of at least so many bytes, has two payloads, and whether some has three.
 fn payloads_of_images(
     rt: &impl Abort,
     alloc: Global,
@@ -167,37 +196,139 @@ fn payloads_of_images(
     Ok((two, three))
 }
 
+/// Attaches, stages these payloads of one byte and commits them. The receipt's number, if there is one.
+fn commit_to<D: Disk + Drop>(
+    rt: &impl Abort,
+    alloc: Global,
+    disk: D,
+    payloads: &[u8],
+) -> Result<(Option<u64>, D), Fail> {
+    let (mut journal, _) = journal_on(rt, alloc, disk);
+    for payload in payloads {
+        journal.stage(&[*payload])?;
+    }
+    let number = journal.commit().ok().map(|receipt| receipt.number);
+    assert_eq!(rt; journal.is_failed(), number.is_none());
+    Ok((number, journal.into_disk()))
+}
+
+/// A disk over a file in memory that holds these bytes, takes five at a call and does not tell them.
+fn quiet(alloc: Global, bytes: &[u8]) -> Result<ShortDisk<Fuse>, Fail> {
+    let inner = MemoryDisk::of(alloc, bytes.to_vec(alloc)?)?;
+    Ok(ShortDisk::new(inner, Fuse::new(u64::MAX), 5))
+}
+
+/// How many syncs a commit does of which so many calls are passed: the second call and the fourth are syncs.
+fn syncs_of(passed: u64) -> u64 {
+    (passed >= 2) as u64 + (passed >= 4) as u64
+}
+
 #[test]
 fn crash_leaves_what_was_acknowledged(rt: HostRuntime) -> Result<(), Fail> {
     let alloc = rt.alloc();
     let (probe, _) = journal_on(&rt, alloc, MemoryDisk::of(alloc, TWO.to_vec(alloc)?)?);
     let calls = probe.disk().moment();
     for passed in 0..5u64 {
-        let fuse = FuseDisk::new(
-            MemoryDisk::of(alloc, TWO.to_vec(alloc)?)?,
-            calls.saturating_add(passed),
-        );
-        let (mut journal, _) = journal_on(&rt, alloc, fuse);
-        journal.stage(&[3])?;
-        let number = journal.commit().ok().map(|receipt| receipt.number);
-        assert_eq!(rt; number, if passed == 4 { Some(3) } else { None });
-        assert_eq!(rt; journal.is_failed(), passed < 4);
-        let disk = journal.into_disk().into_inner();
+        let pass = calls.saturating_add(passed);
         let (least, expected) = match passed {
             0..=2 => (37, (true, false)),
             3 => (51, (true, true)),
             _ => (51, (false, true)),
         };
-        assert_eq!(rt;
-            payloads_of_images(&rt, alloc, &disk, least)?,
-            expected,
-            "{passed} calls"
-        );
+        let wanted = if passed == 4 { Some(3) } else { None };
+        let disk = FuseDisk::new(MemoryDisk::of(alloc, TWO.to_vec(alloc)?)?, pass);
+        let (number, disk) = commit_to(&rt, alloc, disk, &[3])?;
+        assert_eq!(rt; number, wanted);
+        let found = payloads_of_images(&rt, alloc, &disk.into_inner(), least)?;
+        assert_eq!(rt; found, expected, "{passed} calls");
+
+        // The same over a disk that does not tell its bytes.
+        let (number, disk) = commit_to(&rt, alloc, FuseDisk::new(quiet(alloc, &TWO)?, pass), &[3])?;
+        assert_eq!(rt; number, wanted);
+        let disk = disk.into_inner();
+        let found = payloads_of_images(&rt, alloc, disk.file().disk(), least)?;
+        assert_eq!(rt; found, expected, "{passed} calls");
+        assert_eq!(rt; disk.file().syncs(), syncs_of(passed).saturating_add(1));
     }
     Ok(())
 }
 
-// What the five payloads are read as with this other value at a place.
+/// Whether some image that a crash leaves has no payload, and whether some has three. None has any other number.
+fn none_or_three(rt: &impl Abort, alloc: Global, disk: &MemoryDisk) -> Result<(bool, bool), Fail> {
+    let mut none = false;
+    let mut three = false;
+    for choice in 0..64u64 {
+        let (_, payloads) = journal_on(rt, alloc, disk.crash(choice)?);
+        assert!(rt;
+            payloads.is_empty() || payloads.len() == 3,
+            "choice {choice}"
+        );
+        none |= payloads.is_empty();
+        three |= payloads.len() == 3;
+    }
+    Ok((none, three))
+}
+
+#[test]
+fn crash_leaves_all_of_a_commit_or_none(rt: HostRuntime) -> Result<(), Fail> {
+    let alloc = rt.alloc();
+    let (fresh, _) = journal_on(&rt, alloc, MemoryDisk::new(alloc));
+    let calls = fresh.disk().moment();
+    for passed in 0..5u64 {
+        let pass = calls.saturating_add(passed);
+        let expected = (passed < 4, passed > 2);
+        let wanted = if passed == 4 { Some(3) } else { None };
+        let disk = FuseDisk::new(MemoryDisk::new(alloc), pass);
+        let (number, disk) = commit_to(&rt, alloc, disk, &[1, 2, 3])?;
+        assert_eq!(rt; number, wanted);
+        let found = none_or_three(&rt, alloc, &disk.into_inner())?;
+        assert_eq!(rt; found, expected, "{passed} calls");
+
+        // The same over a disk that does not tell its bytes. Attaching to a fresh one syncs twice.
+        let disk = FuseDisk::new(quiet(alloc, &[])?, pass);
+        let (number, disk) = commit_to(&rt, alloc, disk, &[1, 2, 3])?;
+        assert_eq!(rt; number, wanted);
+        let disk = disk.into_inner();
+        let found = none_or_three(&rt, alloc, disk.file().disk())?;
+        assert_eq!(rt; found, expected, "{passed} calls");
+        assert_eq!(rt; disk.file().syncs(), syncs_of(passed).saturating_add(2));
+    }
+    Ok(())
+}
+
+#[test]
+fn reads_a_disk_that_does_not_tell(rt: HostRuntime) -> Result<(), Fail> {
+    let mut disk = quiet(rt.alloc(), &FIVE)?;
+    let (pieces, payloads) = read_journal(rt.alloc(), &mut disk)?;
+    assert_eq!(rt; (pieces, payloads.len()), (3, 5));
+    assert_eq!(rt; payloads[4].bytes.as_slice(), [0xe1, 0xe2, 0xe3].as_slice());
+    Ok(())
+}
+
+#[test]
+fn refusals_say_why(rt: HostRuntime) -> Result<(), Fail> {
+    let alloc = rt.alloc();
+    let table = [
+        (JournalRefusal::DiskFault, "the disk refused a call"),
+        (JournalRefusal::NotAJournal, "no journal"),
+        (
+            JournalRefusal::OtherTable { found: 2, asked: 3 },
+            "a journal for tables of 2 pieces, not of 3",
+        ),
+        (
+            JournalRefusal::Damaged(22),
+            "the journal is damaged at byte 22",
+        ),
+        (JournalRefusal::Memory(AllocError), "out of memory"),
+    ];
+    for (refusal, wanted) in table {
+        let text = format!(in alloc; "{refusal}")?;
+        assert_eq!(rt; text.as_str(), wanted);
+    }
+    Ok(())
+}
+
+/// What the five payloads are read as with this other value at a place.
 fn read_with_changed(place: usize, value: u8) -> Result<usize, JournalRefusal> {
     match (place, value) {
         // The head; the pieces.
@@ -314,8 +445,6 @@ fn refuses_what_is_no_journal(rt: HostRuntime) -> Result<(), Fail> {
     assert_eq!(rt; attach_to(&rt, alloc, &third, 2)?, Ok(3));
     third[36] = 7;
     assert_eq!(rt; attach_to(&rt, alloc, &third, 2)?, Ok(2));
-    let text = format!(in alloc; "{}", JournalRefusal::Damaged(22))?;
-    assert_eq!(rt; text.as_str(), "the journal is damaged at byte 22");
     Ok(())
 }
 

@@ -49,6 +49,18 @@ unfolding clear
 clear-fewer s [] cells = omega arith
 clear-fewer s (n ∷ ns) cells = omega (arith, clear-fewer s ns (put cells n Empty), put-fewer s cells (n - 1))
 
+-- a position without the piece on a square is one
+pub lifted_is_lawful : (p : Board) (x : ℕ) (s : Side) → IsLawful p → IsLawful (record { cells = put p.cells x Empty; to_move = s })
+lifted_is_lawful p x s lawful =
+    let most_black = lawful.black in
+    let most_white = lawful.white in
+    record {
+      squares = length-set p.cells (x - 1) Empty ∙ lawful.squares;
+      black = omega (arith, put-fewer Black p.cells (x - 1), most_black);
+      white = omega (arith, put-fewer White p.cells (x - 1), most_white);
+      men = all_allowed-set 1 p.cells (x - 1) Empty lawful.men refl;
+    }
+
 at_rest-allowed : (c : Cell) (z : ℕ) → is_allowed z (at_rest c z) ≡ true
 at_rest-allowed Empty z = refl
 at_rest-allowed (King s) z = refl
@@ -57,7 +69,7 @@ at_rest-allowed (Man s) z = elim (cases_Bool (row z == farthest_row s)) [
   | inr e ↦ ap (λ b. is_allowed z (cond b (King s) (Man s))) e ∙ not_from_false _ e
 ]
 
-at_rest-belongs : (t : Side) (c : Cell) (z : ℕ) → belongs t (at_rest c z) ≡ belongs t c
+pub at_rest-belongs : (t : Side) (c : Cell) (z : ℕ) → belongs t (at_rest c z) ≡ belongs t c
 at_rest-belongs t Empty z = refl
 at_rest-belongs t (King s) z = refl
 at_rest-belongs t (Man s) z = elim (cases_Bool (row z == farthest_row s)) [
@@ -83,11 +95,11 @@ last-jump : (p : Board) (s x z : ℕ) (rest : List ℕ) → all_following (is_ju
 last-jump p s x z [] h = first_so _ _ (first_so _ _ (first_so _ _ (first_so _ _ (first_so _ _ h))))
 last-jump p s x z (y ∷ rest) h = last-jump p s z y rest (second_so _ _ h)
 
-legal-own : (p : Board) (path : List ℕ) → IsLegal p path → is_own p (first_square path) ≡ true
+pub legal-own : (p : Board) (path : List ℕ) → IsLegal p path → is_own p (first_square path) ≡ true
 legal-own p path (inl c) = c.own
 legal-own p path (inr s) = s.own
 
-legal-last : (p : Board) (path : List ℕ) → IsLegal p path → is_square (last_square path) ≡ true
+pub legal-last : (p : Board) (path : List ℕ) → IsLegal p path → is_square (last_square path) ≡ true
 legal-last p [] (inl c) = let l = c.long in absurd (omega arith)
 legal-last p (x ∷ []) (inl c) = let l = c.long in absurd (omega arith)
 legal-last p (x ∷ z ∷ rest) (inl c) = last-jump p x x z rest c.jumps

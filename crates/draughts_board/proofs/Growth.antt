@@ -55,7 +55,7 @@ jump_apart p s x z h = second_so _ _ (first_so _ _ (first_so _ _ (first_so _ _ h
 
 -- ---- completeness
 
-further_has : (p : Board) (x : ℕ) (rest : List ℕ) (z : ℕ) (more : List ℕ) → IsCapture p ((x ∷ rest) ++ z ∷ more) → Contains (further_jumps p (x ∷ rest)) z
+pub further_has : (p : Board) (x : ℕ) (rest : List ℕ) (z : ℕ) (more : List ℕ) → IsCapture p ((x ∷ rest) ++ z ∷ more) → Contains (further_jumps p (x ∷ rest)) z
 further_has p x rest z more c =
     let jump : is_jump p x (last_square (x ∷ rest)) z ≡ true = following-middle (is_jump p x) x rest z more c.jumps in
     let once : are_distinct (jumped (x ∷ rest) ++ between (last_square (x ∷ rest)) z ∷ jumped (z ∷ more)) ≡ true = ap are_distinct (sym (jumped-middle x rest z more (jump_apart p x _ z jump))) ∙ c.once in
@@ -162,7 +162,7 @@ once-push p x rest z h g =
     ap are_distinct (jumped-middle x rest z [] (jump_apart p x _ z (first_so _ _ g)))
     ∙ distinct-push (jumped (x ∷ rest)) (between (last_square (x ∷ rest)) z) h.once (not-true _ (second_so _ _ g))
 
-prefix-push : (p : Board) (x : ℕ) (rest : List ℕ) (z : ℕ) → IsCapturePrefix p (x ∷ rest) → is_crowned_on (cell_at p x) (last_square (x ∷ rest)) ≡ false → goes_on p (x ∷ rest) z ≡ true → IsCapturePrefix p ((x ∷ rest) ++ z ∷ [])
+pub prefix-push : (p : Board) (x : ℕ) (rest : List ℕ) (z : ℕ) → IsCapturePrefix p (x ∷ rest) → is_crowned_on (cell_at p x) (last_square (x ∷ rest)) ≡ false → goes_on p (x ∷ rest) z ≡ true → IsCapturePrefix p ((x ∷ rest) ++ z ∷ [])
 prefix-push p x rest z h c g = record {
   own = h.own;
   jumps = jumps-push p x rest z h g;
@@ -283,7 +283,7 @@ Increasing-further p path = Increasing-filter (goes_on p path) squares Increasin
 less : (z w : ℕ) → z < w → nat_cmp z w ≡ Less
 less z w h = sym (nat_cmp_is z w Less h)
 
-level : (z : ℕ) → nat_cmp z z ≡ Equal
+pub level : (z : ℕ) → nat_cmp z z ≡ Equal
 level z = sym (nat_cmp_is z z Equal refl)
 
 pub before-branch : (path : List ℕ) (z w : ℕ) (a b : List ℕ) → z < w → slice_cmp nat_cmp ((path ++ z ∷ []) ++ a) ((path ++ w ∷ []) ++ b) ≡ Less

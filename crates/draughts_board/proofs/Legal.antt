@@ -18,7 +18,7 @@ use Rattle.draughts_board.specs.Play.{grown, starts, captures, steps, steps_from
 one_square : (p : Board) (x : ℕ) → is_own p x ≡ true → IsCapturePrefix p (x ∷ [])
 one_square p x h = record { own = h; jumps = refl; once = refl; crowned_last = refl }
 
-captures-sound : (p : Board) (path : List ℕ) → IsLawful p → Contains (captures p) path → IsCapture p path
+pub captures-sound : (p : Board) (path : List ℕ) → IsLawful p → Contains (captures p) path → IsCapture p path
 unfolding captures
 captures-sound p path lawful h =
     let r = Contains-from_flat_map (λ x. grown 12 p (x ∷ [])) (filter (starts p) squares) path h in
@@ -42,7 +42,7 @@ captures-complete p (x ∷ z ∷ more) lawful c =
     (Contains-filter (starts p) squares x (Contains-squares x (first_so _ _ own)) start)
     (grown-complete p 12 x [] (z ∷ more) c (capture-short p x (z ∷ more) lawful c))
 
-capture-has_jump : (p : Board) (path : List ℕ) → IsCapture p path → has_jump p ≡ true
+pub capture-has_jump : (p : Board) (path : List ℕ) → IsCapture p path → has_jump p ≡ true
 capture-has_jump p [] c = let l = c.long in absurd (omega arith)
 capture-has_jump p (x ∷ []) c = let l = c.long in absurd (omega arith)
 capture-has_jump p (x ∷ z ∷ more) c =
@@ -51,7 +51,7 @@ capture-has_jump p (x ∷ z ∷ more) c =
     any_true (λ w. is_own p w && list_any (is_jump p w w) squares) squares x (Contains-squares x (first_so _ _ own))
     (both_true own (any_true (is_jump p x x) squares z (Contains-squares z (first_so _ _ (first_so _ _ (first_so _ _ (first_so _ _ jump))))) jump))
 
-steps-sound : (p : Board) (path : List ℕ) → has_jump p ≡ false → Contains (steps p) path → IsStep p path
+pub steps-sound : (p : Board) (path : List ℕ) → has_jump p ≡ false → Contains (steps p) path → IsStep p path
 unfolding steps
 steps-sound p path no_jump h =
     let r = Contains-from_flat_map (steps_from p) (filter (is_own p) squares) path h in
@@ -95,7 +95,7 @@ pairs-across : (x z w : ℕ) → z < w → Each (λ q. Each (IsBefore q) ((x ∷
 unfolding Each
 pairs-across x z w l = ((ap is_lt (before-branch (x ∷ []) z w [] [] l), tt), tt)
 
-steps-Rising : (p : Board) → Rising (steps p)
+pub steps-Rising : (p : Board) → Rising (steps p)
 unfolding steps
 steps-Rising p =
     Rising-flat_map (steps_from p)

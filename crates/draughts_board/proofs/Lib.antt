@@ -1,3 +1,9 @@
+pub mod Bits
+pub mod LowestSquares
+pub mod OnSquares
+pub mod FourMasks
+pub mod PutInMasks
+pub mod CountMasks
 pub mod Allowed
 pub mod Turned
 pub mod Members
@@ -11,3 +17,12 @@ pub mod TurnedGeometry
 pub mod TurnedMoves
 pub mod TurnedWins
 pub mod Decided
+pub mod Filters
+pub mod Turns
+pub mod NoCapture
+pub mod FirstPlaces
+pub mod SomeMove
+pub mod LegalTests
+pub mod FirstTo
+pub mod Written
+pub mod Occupied

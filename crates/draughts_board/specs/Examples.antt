@@ -7,6 +7,7 @@ use Rattle.draughts_board.specs.declared.pieces.Cell.TheVariants.{Empty, Man, Ki
 use Rattle.draughts_board.specs.declared.pieces.Value.TheVariants.{BlackWins, WhiteWins, Draw}
 use Rattle.draughts_board.specs.Geometry.{squares, row, column, are_near, are_jump_apart, between}
 use Rattle.draughts_board.specs.Board.{Board, other, pieces, is_lawful, start_board, turned}
+use Rattle.draughts_board.specs.Masks.{squares_of, masks_of, are_apart, board_in}
 use Rattle.draughts_board.specs.Rules.{IsLegal, after, put}
 use Rattle.draughts_board.specs.Play.{legal_paths, successors_of}
 use Rattle.draughts_board.specs.Game.{Game, WinsIn, HasValue, is_at_sight, ShowsWin, ShowsHold}
@@ -112,6 +113,23 @@ pub record WorkedBoards : Type 0 where
   pub white_man_on_29 : is_lawful (men Black (29 ∷ []) []) ≡ true
   -- Thirteen pieces of one side are no position.
   pub thirteen_men : is_lawful (men Black (20 ∷ 21 ∷ 22 ∷ 23 ∷ 24 ∷ 25 ∷ 26 ∷ 27 ∷ 28 ∷ 29 ∷ 30 ∷ 31 ∷ 32 ∷ []) []) ≡ false
+
+-- ---- masks
+
+pub record WorkedMasks : Type 0 where
+  -- Square 1 is the lowest bit and square 32 the highest: the mask 5 holds the squares 1 and 3.
+  pub squares_of_5 : squares_of 5 ≡ 1 ∷ 3 ∷ []
+  pub square_32 : squares_of 2147483648 ≡ 32 ∷ []
+  -- The start: Black's men on 1 to 12, White's on 21 to 32, and no kings.
+  pub start_masks : masks_of start_board ≡ 4095 ∷ 0 ∷ 4293918720 ∷ 0 ∷ []
+  pub start_of_masks : board_in (4095 ∷ 0 ∷ 4293918720 ∷ 0 ∷ []) Black ≡ start_board
+  -- B:W6,7,14,15:BK2 has a Black king on 2 and four White men.
+  pub four_masks : masks_of king_at_four ≡ 0 ∷ 2 ∷ 24672 ∷ 0 ∷ []
+  pub four_apart : are_apart (0 ∷ 2 ∷ 24672 ∷ 0 ∷ []) ≡ true
+  -- A square in two masks, and a man on its farthest row, make no position.
+  pub shared_square : are_apart (1 ∷ 1 ∷ 0 ∷ 0 ∷ []) ≡ false
+  pub shared_by_sides : are_apart (0 ∷ 8 ∷ 8 ∷ 0 ∷ []) ≡ false
+  pub misplaced : is_lawful (board_in (268435456 ∷ 0 ∷ 0 ∷ 0 ∷ []) White) ≡ false
 
 -- ---- captures
 

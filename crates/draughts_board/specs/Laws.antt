@@ -1,11 +1,13 @@
 -- The laws that the definitions keep, each proved as the contract of a function of `src/laws.rt`.
-use Rattle.std.specs.Prelude.{◌≡◌, ◌↔◌, ◌≤◌, ◌<◌, ◌+◌, ◌-◌, ◌⊎◌, ℕ, Bool, true, List, [], All, Contains, IsTrue, length, map}
+use Rattle.std.specs.Prelude.{◌≡◌, ◌↔◌, ◌≤◌, ◌<◌, ◌+◌, ◌-◌, ◌^◌, ◌⊎◌, ℕ, Bool, true, List, [], All, Contains, IsTrue, length, map}
 use Rattle.draughts_board.specs.declared.pieces.Side.{Side}
 use Rattle.draughts_board.specs.declared.pieces.Side.TheVariants.{Black, White}
 use Rattle.draughts_board.specs.declared.pieces.Value.{Value}
 use Rattle.draughts_board.specs.declared.pieces.Value.TheVariants.{BlackWins, WhiteWins, Draw}
 use Rattle.draughts_board.specs.Geometry.{IsSquare}
 use Rattle.draughts_board.specs.Board.{Board, IsLawful, is_lawful, other, turned}
+use Rattle.draughts_board.specs.declared.pieces.Cell.{Cell}
+use Rattle.draughts_board.specs.Masks.{mask_of, masks_of, AreMasksOf, are_apart, board_in}
 use Rattle.draughts_board.specs.Rules.{IsLegal, after, AreLegalPaths, AreSuccessors}
 use Rattle.draughts_board.specs.Play.{legal_paths, successors_of}
 use Rattle.draughts_board.specs.Game.{Game, TakesTurns, CanForce, WinsIn, Wins, Holds, HasValue, ShowsWin, ShowsHold}
@@ -30,6 +32,27 @@ SuccessorsAreReached =
 -- The test `is_lawful` tells whether a board keeps the rule on pieces.
 abbrev pub TestOfPieces : Type 0
 TestOfPieces = (p : Board) → (is_lawful p ≡ true) ↔ IsLawful p
+
+-- ---- boards and masks
+
+-- The masks of a position have 32 bits, no two of them share a square, and their board is the position again.
+pub record MasksMakePosition (p : Board) : Type 0 where
+  pub fits : (piece : Cell) → mask_of piece p.cells < 2 ^ 32
+  pub apart : IsTrue (are_apart (masks_of p))
+  pub back : board_in (masks_of p) p.to_move ≡ p
+
+abbrev pub PositionsHaveMasks : Type 0
+PositionsHaveMasks = (p : Board) → IsLawful p → MasksMakePosition p
+
+-- Four masks of 32 bits, of which no two share a square, are the masks of their board.
+abbrev pub MasksOfTheirBoard : Type 0
+MasksOfTheirBoard =
+    (masks : List ℕ) (s : Side) → length masks ≡ 4 → All (λ m. m < 2 ^ 32) masks → IsTrue (are_apart masks)
+    → masks_of (board_in masks s) ≡ masks
+
+-- The same masks hold of a board square by square.
+abbrev pub MasksHoldPieces : Type 0
+MasksHoldPieces = (p : Board) → AreMasksOf p (masks_of p)
 
 -- ---- after a move
 

@@ -1,9 +1,13 @@
 pub mod Geometry
 pub mod Board
 pub mod Path
+pub mod Masks
+pub mod MasksBack
 pub mod Same
+pub mod Order
 pub mod Rules
 pub mod Play
+pub mod Resolution
 pub mod Game
 pub mod Draughts
 pub mod Laws

@@ -1,7 +1,6 @@
 -- `==` of positions is equality of what contracts see.
-use Rattle.std.specs.Prelude.{◌≡◌, ℕ, List, ◌++◌, Bool, true, refl}
+use Rattle.std.specs.Prelude.{◌≡◌, ℕ, ◌+◌, ◌*◌, ◌^◌, List, ◌++◌, Bool, true, refl}
 use Rattle.std.specs.Hash as fed
-use Rattle.draughts_board.specs.contracts.pieces.CellHash.TheImpl as cell_hash
 use Rattle.draughts_board.specs.contracts.pieces.SideHash.TheImpl as side_hash
 use Rattle.std.specs.Bool.{Decides}
 use Rattle.std.proofs.Common.{sym, ap}
@@ -11,6 +10,7 @@ use Rattle.std.specs.Cmp.Lexicographic.{pointwise_decides}
 use Rattle.std.proofs.lemmas.Bool.{false≢true}
 use Rattle.std.proofs.lemmas.Bool.Decides.{same_from_decides}
 use Rattle.draughts_board.specs.Board.{Board, same_side, same_cell, same_board}
+use Rattle.draughts_board.specs.Masks.{mask_of}
 use Rattle.draughts_board.specs.declared.pieces.Side.{Side}
 use Rattle.draughts_board.specs.declared.pieces.Side.TheVariants.{Black, White}
 use Rattle.draughts_board.specs.declared.pieces.Cell.{Cell}
@@ -48,9 +48,16 @@ same_board-equivalence = equiv_from_decides same_board same_board-Decides
 pub same_board-laws : IsPartialEquivalence same_board
 same_board-laws = partial_equiv_from_equiv same_board-equivalence
 
--- what a position's hash reads: its cells, and the side to move
+-- two numbers of 32 bits in one of 64
+abbrev pub paired : ℕ → ℕ → ℕ
+paired low high = low + 2 ^ 32 * high
+
+-- what a position's hash reads: its four masks, two to a number, and the side to move
 abbrev pub hash_input_of : Board → List (List ℕ)
-hash_input_of p = fed.slice (cell_hash.ghosts).hash_input p.cells ++ (side_hash.ghosts).hash_input p.to_move
+hash_input_of p =
+    fed.u64 (paired (mask_of (Man Black) p.cells) (mask_of (King Black) p.cells))
+    ++ fed.u64 (paired (mask_of (Man White) p.cells) (mask_of (King White) p.cells))
+    ++ (side_hash.ghosts).hash_input p.to_move
 
 pub hash_input_of-respects : (p q : Board) → same_board p q ≡ true → hash_input_of p ≡ hash_input_of q
 hash_input_of-respects p q e = ap hash_input_of ((same_board-Decides p q).0 e)

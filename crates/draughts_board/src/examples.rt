@@ -1,6 +1,6 @@
 //! Worked examples of the definitions, proved by computation: each function does nothing, and its contract is a
 //! record of `specs/Examples.antt`, one field an example.
-ghost use Rattle.draughts_board.specs.Examples.{WorkedSquares, WorkedBoards, WorkedCaptures, WorkedSteps, WorkedAfter, WorkedWins, WorkedLooks};
+ghost use Rattle.draughts_board.specs.Examples.{WorkedSquares, WorkedBoards, WorkedMasks, WorkedCaptures, WorkedSteps, WorkedAfter, WorkedWins, WorkedLooks};
 
 /// Squares: rows, columns, near squares and jumps.
 pub fn worked_squares()
@@ -10,6 +10,11 @@ pub fn worked_squares()
 /// Boards: the start, turned boards, and boards that are no position.
 pub fn worked_boards()
     ensures { WorkedBoards }
+{}
+
+/// Masks: their squares, those of two positions, and masks that make no position.
+pub fn worked_masks()
+    ensures { WorkedMasks }
 {}
 
 /// Captures: round four men and back, not stopped midway, ended by crowning, over no piece twice, compulsory.

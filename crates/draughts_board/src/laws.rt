@@ -1,7 +1,7 @@
 //! Laws over the definitions of play and of who wins: each function does nothing, and its contract is the law.
 ghost use Rattle.draughts_board.specs.Game.{Game};
 ghost use Rattle.draughts_board.specs.Draughts.{draughts};
-ghost use Rattle.draughts_board.specs.Laws.{LegalPathsAreLegal, SuccessorsAreAfterPaths, SuccessorsAreReached, TestOfPieces, AfterIsPosition, LegalPathsFit, DraughtsTakesTurns, LawsOfWinning, LostWithoutMove, PositionsHaveOneValue, TurningTwice, TurnedPathsLegal, TurnedAfter, TurnedSuccessors, TurnedWins, TurnedValues};
+ghost use Rattle.draughts_board.specs.Laws.{LegalPathsAreLegal, SuccessorsAreAfterPaths, SuccessorsAreReached, TestOfPieces, PositionsHaveMasks, MasksOfTheirBoard, MasksHoldPieces, AfterIsPosition, LegalPathsFit, DraughtsTakesTurns, LawsOfWinning, LostWithoutMove, PositionsHaveOneValue, TurningTwice, TurnedPathsLegal, TurnedAfter, TurnedSuccessors, TurnedWins, TurnedValues};
 
 /// What is computed is what the rules say: the legal paths, the successors, and which boards are positions.
 pub fn computed_as_ruled()
@@ -9,6 +9,13 @@ pub fn computed_as_ruled()
     ensures successors { SuccessorsAreAfterPaths }
     ensures reached { SuccessorsAreReached }
     ensures pieces { TestOfPieces }
+{}
+
+/// A position and its four masks give each other back.
+pub fn positions_as_masks()
+    ensures masks { PositionsHaveMasks }
+    ensures boards { MasksOfTheirBoard }
+    ensures squares { MasksHoldPieces }
 {}
 
 /// A legal path has 2 to 13 squares. After it stands a position with the other side to move, and no piece is added.

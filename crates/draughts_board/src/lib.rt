@@ -3,15 +3,20 @@
 //!
 //! A contract sees a square as its number from 1 to 32, a position as its 32 cells and the side to move
 //! (a `Board`), and a move as its path, a list of squares. Each position keeps the rule on pieces: at most 12
-//! a side, and no man on its farthest row.
+//! a side, and no man on its farthest row. It is kept as four masks of 32 bits, which `masks` and `of_masks` give
+//! and take.
 #![tactic(auto)]
 
 mod cells;
+mod display;
 pub mod examples;
 pub mod laws;
+mod masks;
+pub mod path_ends;
 mod paths;
 mod pieces;
 mod positions;
+mod resolution;
 mod squares;
 #[cfg(test)]
 mod tests;
@@ -19,4 +24,5 @@ mod tests;
 pub use paths::Move;
 pub use pieces::{Cell, Side, Value};
 pub use positions::{PlaceRefusal, Position};
+pub use resolution::{ResolveRefusal, is_written};
 pub use squares::Square;

@@ -31,7 +31,7 @@ impl Model for Move {
 }
 
 impl Move {
-    ghost use Rattle.std.specs.Prelude.{◌≡◌, ◌≤◌, ◌<◌, ◌⊎◌, ◌↔◌, IsNone, IfSome, length, All};
+    ghost use Rattle.std.specs.Prelude.{◌≡◌, ◌≤◌, ◌<◌, ◌⊎◌, ◌↔◌, ◌++◌, ◌∷◌, [], IsNone, IfSome, length, All};
     ghost use Rattle.draughts_board.specs.Geometry.{IsSquare};
 
     /// The move with this path; none exactly where the path has not 2 to 13 squares. Whether it is legal depends
@@ -43,18 +43,42 @@ impl Move {
         if path.len() < 2 || path.len() > 13 {
             return None;
         }
-        let mut squares = [Square::LEAST; 13];
-        for (i, square) in path.iter().enumerate() {
-            let _number = square.number();
-            squares[i] = *square;
-        }
         Some(Move {
-            squares,
+            squares: Square::padded(path),
             len: path.len() as u8,
         })
     }
 
+    /// The move from the one square to the other, with none between.
+    #[inline]
+    pub fn direct(from: Square, to: Square) -> Move
+        requires from { IsSquare from }
+        requires to { IsSquare to }
+        ensures { result ≡ from ∷ to ∷ [] }
+    {
+        let mut squares = [Square::LEAST; 13];
+        squares[0] = from;
+        squares[1] = to;
+        Move { squares, len: 2 }
+    }
+
+    /// The move with one more square at its end.
+    #[inline]
+    pub fn extended(&self, to: Square) -> Move
+        requires room { length self.now < 13 }
+        requires to { IsSquare to }
+        ensures { result ≡ self.now ++ to ∷ [] }
+    {
+        let mut squares = self.squares;
+        squares[self.len as usize] = to;
+        Move {
+            squares,
+            len: self.len + 1,
+        }
+    }
+
     /// Its path.
+    #[inline]
     pub fn path(&self) -> &[Square]
         ensures value { result.now ≡ self.now }
         ensures least { 2 ≤ length self.now }

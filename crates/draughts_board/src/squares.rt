@@ -27,8 +27,11 @@ impl Square {
     /// Square 1.
     pub(crate) const LEAST: Square = Square { number: 1 };
 
-    ghost use Rattle.std.specs.Prelude.{◌≡◌, ◌≤◌, ◌↔◌, IsNone, IfSome};
+    ghost use Rattle.std.specs.Prelude.{◌≡◌, ◌≤◌, ◌<◌, ◌↔◌, ◌==◌, ◌∷◌, ◌-◌, IsNone, IfSome, length, All};
+    ghost use Rattle.std.specs.Int.Bits.{bit_and};
+    ghost use Rattle.draughts_board.specs.Path.{padded};
     ghost use Rattle.draughts_board.specs.Geometry.{IsSquare, squares, row, column, are_jump_apart, are_near, between};
+    ghost use Rattle.draughts_board.specs.Masks.{IsMaskOf, squares_of};
 
     /// The square of this number; none exactly where the number is not 1 to 32.
     pub fn new(n: u8) -> Option<Square>
@@ -48,6 +51,27 @@ impl Square {
         ensures range { IsSquare self }
     {
         self.number
+    }
+
+    /// The mask of this square alone, in which square n is the bit of value 2^(n - 1).
+    #[inline]
+    pub fn bit(self) -> u32
+        ensures value { IsMaskOf (λ n. n == self) result }
+        ensures range { IsSquare self }
+    {
+        1 << (self.number() - 1)
+    }
+
+    /// The lowest square of the mask. `mask & (mask - 1)` holds the others.
+    #[inline]
+    pub fn lowest(mask: u32) -> Square
+        requires { 0 < mask }
+        ensures first { squares_of mask ≡ result ∷ squares_of (bit_and mask (mask - 1)) }
+        ensures square { IsSquare result }
+    {
+        Square {
+            number: mask.trailing_zeros() as u8 + 1,
+        }
     }
 
     /// Its row, 0 (Black's first) to 7 (White's first).
@@ -94,6 +118,21 @@ impl Square {
         Square {
             number: 4 * row + column / 2 + 1,
         }
+    }
+
+    /// The squares, and then square 1 in each of 13 places that is left.
+    pub(crate) fn padded(path: &[Square]) -> [Square; 13]
+        requires { length path.now ≤ 13 }
+        ensures value { result ≡ padded path.now }
+        ensures squares { All IsSquare path.now }
+    {
+        let mut squares = [Square::LEAST; 13];
+        for (i, square) in path.iter().enumerate() {
+            squares[i] = Square {
+                number: square.number,
+            };
+        }
+        squares
     }
 
     /// All squares, in rising order.

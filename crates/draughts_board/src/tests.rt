@@ -1,5 +1,6 @@
 //! Each public call once, with values read off a board of English draughts.
-use crate::{Cell, Move, PlaceRefusal, Position, Side, Square};
+use crate::{Cell, Move, PlaceRefusal, Position, ResolveRefusal, Side, Square};
+use std::alloc::AllocError;
 use std::test::Fail;
 
 #[test]
@@ -82,6 +83,77 @@ fn a_position_is_made_of_its_cells(rt: HostRuntime) -> Result<(), Fail> {
 }
 
 #[test]
+fn a_position_is_made_of_its_masks(rt: HostRuntime) -> Result<(), Fail> {
+    let start = Position::start();
+    assert!(rt; start.masks() == [0x0000_0FFF, 0, 0xFFF0_0000, 0]);
+    assert!(rt; Position::of_masks(start.masks(), Side::Black) == Some(start));
+    assert!(rt; Position::of_lawful_masks(start.masks(), Side::White) != start);
+    // A square in two masks; a Black man on 29 and a White one on 4; thirteen White kings.
+    assert!(rt; Position::of_masks([1, 1, 0, 0], Side::Black).is_none());
+    assert!(rt; Position::of_masks([0, 8, 8, 0], Side::Black).is_none());
+    assert!(rt; Position::of_masks([1 << 28, 0, 0, 0], Side::Black).is_none());
+    assert!(rt; Position::of_masks([0, 0, 1 << 3, 0], Side::Black).is_none());
+    assert!(rt; Position::of_masks([0, 0, 0, 0x1FFF], Side::Black).is_none());
+    assert!(rt; Position::of_masks([0, 1 << 28, 0, 0x0FFF], Side::Black).is_some());
+    assert_eq!(rt; Square::new(32).unwrap().bit(), 0x8000_0000);
+
+    // 11-15 by hand, and the man on 12 taken off.
+    let eleven = Square::new(11).unwrap();
+    let fifteen = Square::new(15).unwrap();
+    let man = Cell::Man(Side::Black);
+    let lifted = start.without(eleven).without(Square::new(12).unwrap());
+    assert!(rt; lifted.masks() == [0x0000_03FF, 0, 0xFFF0_0000, 0]);
+    assert_eq!(rt; lifted.to_move(), Side::Black);
+    let moved = Position::of_masks([0x0000_43FF, 0, 0xFFF0_0000, 0], Side::White);
+    assert!(rt; moved == Some(lifted.with(fifteen, man, Side::White)));
+    Ok(())
+}
+
+#[test]
+fn each_value_prints_as_the_field_writes_it(rt: HostRuntime) -> Result<(), Fail> {
+    let alloc = rt.alloc();
+    let of = |n: u8| Square::new(n).unwrap();
+    let step = Move::of(&[of(23), of(19)]).unwrap();
+    let capture = Move::of(&[of(1), of(10), of(17)]).unwrap();
+    let king = Position::of_masks([0, 1 << 1, 0x0000_6060, 0], Side::Black);
+    let shown = king.ok_or("no position")?;
+    // what is printed, and what it should say
+    for (text, wanted) in [
+        (format!(in alloc; "{}", of(32))?, "32"),
+        (
+            format!(in alloc; "{} {}", Side::Black, Side::White)?,
+            "Black White",
+        ),
+        (format!(in alloc; "{step}")?, "23-19"),
+        (format!(in alloc; "{capture}")?, "1x10x17"),
+        (format!(in alloc; "{shown}")?, "B:W6,7,14,15:BK2"),
+        (
+            format!(in alloc; "{}", PlaceRefusal::TooMany(Side::White))?,
+            "White has more than 12 pieces",
+        ),
+        (
+            format!(in alloc; "{}", PlaceRefusal::ManOnLastRow(of(29)))?,
+            "the man on 29 stands on its farthest row",
+        ),
+        (
+            format!(in alloc; "{}", ResolveRefusal::Illegal)?,
+            "no legal move is written so",
+        ),
+        (
+            format!(in alloc; "{}", ResolveRefusal::Ambiguous(step, capture))?,
+            "23-19 and 1x10x17 are both written so, and lead to different positions",
+        ),
+        (
+            format!(in alloc; "{}", ResolveRefusal::Memory(AllocError))?,
+            "out of memory",
+        ),
+    ] {
+        assert_eq!(rt; text.as_str(), wanted);
+    }
+    Ok(())
+}
+
+#[test]
 fn thirteen_pieces_and_misplaced_men_are_refused(rt: HostRuntime) -> Result<(), Fail> {
     let mut cells = [Cell::Empty; 32];
     cells[0] = Cell::King(Side::White);
@@ -112,5 +184,35 @@ fn moves_keep_their_path(rt: HostRuntime) -> Result<(), Fail> {
     assert_eq!(rt; left.path()[1], fifteen);
     assert!(rt; left < right);
     assert!(rt; left == Move::of(&[eleven, fifteen]).unwrap());
+    Ok(())
+}
+
+/// A position with one piece, on square 14.
+fn with_one_piece(cell: Cell, to_move: Side) -> Result<Position, PlaceRefusal> {
+    let mut cells = [Cell::Empty; 32];
+    cells[14 - 1] = cell;
+    Position::place(cells, to_move)
+}
+
+#[test]
+fn positions_are_ordered_square_by_square(rt: HostRuntime) -> Result<(), Fail> {
+    let bare = with_one_piece(Cell::Empty, Side::White)?;
+    let man = with_one_piece(Cell::Man(Side::Black), Side::Black)?;
+    assert!(rt; bare < man);
+    // The start has a piece on 1, and the others have none.
+    let rising = [
+        bare,
+        man,
+        with_one_piece(Cell::Man(Side::Black), Side::White)?,
+        with_one_piece(Cell::Man(Side::White), Side::Black)?,
+        with_one_piece(Cell::King(Side::Black), Side::Black)?,
+        with_one_piece(Cell::King(Side::White), Side::Black)?,
+        Position::start(),
+    ];
+    for (i, p) in rising.iter().enumerate() {
+        for (j, q) in rising.iter().enumerate() {
+            assert_eq!(rt; p.cmp(q), i.cmp(&j));
+        }
+    }
     Ok(())
 }

@@ -1,3 +1,2 @@
-pub mod Tables
+pub mod NearSquares
 pub mod Conditions
-pub mod Resolution

@@ -5,14 +5,16 @@ ghost use Rattle.draughts_board.specs.Board.{IsLawful};
 ghost use Rattle.draughts_board.specs.Rules.{is_own, further_jumps};
 ghost use Rattle.draughts_board.specs.Play.{IsCapturePrefix, is_done, grown, starts, captures};
 
-use crate::jumps::{can_jump, first, further_jumps, last};
+use crate::cell_board::CellBoard;
+use crate::jumps::{can_jump, further_jumps};
 use crate::pieces::is_crowned_on;
 use crate::square_list::SquareList;
-use draughts_board::{Move, Position, Square};
+use draughts_board::path_ends::{first, last};
+use draughts_board::{Move, Square};
 use std::alloc::{AllocError, Global};
 
 /// The capture ends with this path, behind which it may go on to `jumps`.
-pub(crate) fn is_done(p: &Position, path: &[Square], jumps: &[Square]) -> bool
+pub(crate) fn is_done(p: &CellBoard, path: &[Square], jumps: &[Square]) -> bool
     requires some { 1 ≤ length path.now }
     requires jumps { jumps.now ≡ further_jumps p.now path.now }
     ensures { result ≡ is_done p.now path.now }
@@ -21,7 +23,7 @@ pub(crate) fn is_done(p: &Position, path: &[Square], jumps: &[Square]) -> bool
 }
 
 /// Adds the captures that begin with the trail, in rising order.
-fn grow(p: &Position, trail: &SquareList, found: &mut Vec<Move>) -> Result<(), AllocError>
+fn grow(p: &CellBoard, trail: &SquareList, found: &mut Vec<Move>) -> Result<(), AllocError>
     requires lawful { IsLawful p.now }
     requires least { 1 ≤ length trail.now }
     requires prefix { IsCapturePrefix p.now trail.now }
@@ -45,7 +47,7 @@ fn grow(p: &Position, trail: &SquareList, found: &mut Vec<Move>) -> Result<(), A
 }
 
 /// Adds the captures of the mover's piece on the square, in rising order.
-fn add_captures(p: &Position, from: Square, found: &mut Vec<Move>) -> Result<(), AllocError>
+fn add_captures(p: &CellBoard, from: Square, found: &mut Vec<Move>) -> Result<(), AllocError>
     requires lawful { IsLawful p.now }
     requires own { is_own p.now from ≡ true }
     ensures { OnOk result
@@ -58,7 +60,11 @@ fn add_captures(p: &Position, from: Square, found: &mut Vec<Move>) -> Result<(),
 }
 
 /// The captures, in rising order, of the pieces on these squares, which are the mover's.
-pub(crate) fn captures(alloc: Global, p: &Position, own: &[Square]) -> Result<Vec<Move>, AllocError>
+pub(crate) fn captures(
+    alloc: Global,
+    p: &CellBoard,
+    own: &[Square],
+) -> Result<Vec<Move>, AllocError>
     requires lawful { IsLawful p.now }
     requires own { own.now ≡ filter (is_own p.now) squares }
     ensures { IfOk result (λ v. v.items ≡ captures p.now) }

@@ -3,18 +3,20 @@ ghost use Rattle.std.specs.Prelude.{◌≡◌, ◌≤◌, ◌<◌, ◌++◌, ◌
 ghost use Rattle.std.specs.List.{list_any};
 ghost use Rattle.draughts_board.specs.Geometry.{squares};
 ghost use Rattle.draughts_board.specs.Board.{IsLawful};
-ghost use Rattle.draughts_board.specs.Rules.{contains, jumped, first_square, last_square, is_jump, further_jumps, has_jump};
+ghost use Rattle.draughts_board.specs.Rules.{contains, jumped, is_jump, further_jumps, has_jump};
 ghost use Rattle.draughts_rules.specs.Conditions.{is_open_jump, is_open_further};
 
+use crate::cell_board::CellBoard;
+use crate::near_squares::jump_targets;
 use crate::pieces::{may_go, own_squares};
 use crate::square_list::SquareList;
-use crate::tables::jump_targets;
-use draughts_board::{Position, Square};
+use draughts_board::Square;
+use draughts_board::path_ends::{first, last};
 
 /// The piece that starts on `start` may jump from one square to that of the number, which is a jump away; never
 /// where the number is that of no square.
 #[inline]
-fn is_open_jump(p: &Position, start: Square, from: Square, number: u8) -> bool
+fn is_open_jump(p: &CellBoard, start: Square, from: Square, number: u8) -> bool
     ensures { result ≡ is_open_jump p.now start from number }
 {
     let Some(to) = Square::new(number) else {
@@ -27,7 +29,7 @@ fn is_open_jump(p: &Position, start: Square, from: Square, number: u8) -> bool
 }
 
 /// The piece that starts on `start` may jump from one square to the other.
-pub(crate) fn is_jump(p: &Position, start: Square, from: Square, to: Square) -> bool
+pub(crate) fn is_jump(p: &CellBoard, start: Square, from: Square, to: Square) -> bool
     ensures { result ≡ is_jump p.now start from to }
 {
     from.is_jump_apart(to) && is_open_jump(p, start, from, to.number())
@@ -35,7 +37,7 @@ pub(crate) fn is_jump(p: &Position, start: Square, from: Square, to: Square) -> 
 
 /// The piece on the square may jump to one of these numbers' squares, which are a jump away.
 #[inline]
-fn can_jump_to(p: &Position, from: Square, targets: &[u8]) -> bool
+fn can_jump_to(p: &CellBoard, from: Square, targets: &[u8]) -> bool
     ensures { result ≡ list_any (is_open_jump p.now from from) targets.now }
 {
     targets
@@ -45,23 +47,23 @@ fn can_jump_to(p: &Position, from: Square, targets: &[u8]) -> bool
 
 /// The piece on the square has a jump.
 #[inline]
-pub(crate) fn can_jump(p: &Position, from: Square) -> bool
+pub(crate) fn can_jump(p: &CellBoard, from: Square) -> bool
     ensures { result ≡ list_any (is_jump p.now from from) squares }
 {
     can_jump_to(p, from, &jump_targets(from))
 }
 
 /// A piece on one of these squares has a jump.
-fn can_any_jump(p: &Position, from: &[Square]) -> bool
+fn can_any_jump(p: &CellBoard, from: &[Square]) -> bool
     ensures { result ≡ list_any (λ x. list_any (is_jump p.now x x) squares) from.now }
 {
     from.iter().any(|square| can_jump(p, *square))
 }
 
 /// Some piece of the side to move has a jump.
-pub(crate) fn has_jump(p: &Position) -> bool
-    requires { IsLawful p.now }
-    ensures { result ≡ has_jump p.now }
+pub(crate) fn has_jump(p: &CellBoard) -> bool
+    ensures jump { result ≡ has_jump p.now }
+    ensures lawful { IsLawful p.now }
 {
     can_any_jump(p, own_squares(p).as_slice())
 }
@@ -78,24 +80,8 @@ pub(crate) fn has_jumped(path: &[Square], over: Square) -> bool
     }
 }
 
-/// Where the path starts.
-pub(crate) fn first(path: &[Square]) -> Square
-    requires { 1 ≤ length path.now }
-    ensures { result ≡ first_square path.now }
-{
-    path[0]
-}
-
-/// Where the path has come to.
-pub(crate) fn last(path: &[Square]) -> Square
-    requires { 1 ≤ length path.now }
-    ensures { result ≡ last_square path.now }
-{
-    path[path.len() - 1]
-}
-
 /// Adds the square of the number, which is a jump away from the end of the path, if the capture may go on to it.
-fn add_further(p: &Position, path: &[Square], number: u8, jumps: &mut SquareList)
+fn add_further(p: &CellBoard, path: &[Square], number: u8, jumps: &mut SquareList)
     requires some { 1 ≤ length path.now }
     requires room { length jumps.old < 13 }
     ensures { jumps.new ≡ jumps.old ++ (if is_open_further p.now path.now number then number ∷ [] else []) }
@@ -108,7 +94,7 @@ fn add_further(p: &Position, path: &[Square], number: u8, jumps: &mut SquareList
 }
 
 /// Where the capture may go on to behind the path, over a piece that it has not yet jumped, in rising order.
-pub(crate) fn further_jumps(p: &Position, path: &[Square]) -> SquareList
+pub(crate) fn further_jumps(p: &CellBoard, path: &[Square]) -> SquareList
     requires { 1 ≤ length path.now }
     ensures { result ≡ further_jumps p.now path.now }
 {

@@ -7,19 +7,21 @@
 #![tactic(auto)]
 
 mod captures;
+mod cell_board;
 mod jumps;
-mod legal;
-mod legality;
+mod move_lists;
+mod near_squares;
 mod next;
+mod path_tests;
 mod pieces;
 mod resolution;
 mod square_list;
 mod steps;
-mod tables;
 #[cfg(test)]
 mod tests;
 
-pub use legal::legal_moves;
-pub use legality::is_legal;
-pub use next::{apply, successors};
-pub use resolution::{ResolveRefusal, resolve};
+pub use draughts_board::ResolveRefusal;
+pub use move_lists::{has_move, legal_moves};
+pub use next::{apply, move_to, successors};
+pub use path_tests::is_legal;
+pub use resolution::resolve;

@@ -1,30 +1,39 @@
 //! Whose piece it is, and how it goes.
-ghost use Rattle.std.specs.Prelude.{◌≡◌, filter};
-ghost use Rattle.draughts_board.specs.Geometry.{squares};
-ghost use Rattle.draughts_board.specs.Board.{IsLawful};
+ghost use Rattle.std.specs.Prelude.{◌≡◌, ◌&&◌, filter};
+ghost use Rattle.draughts_board.specs.Geometry.{is_square, squares};
+ghost use Rattle.draughts_board.specs.Board.{IsLawful, belongs, cell_at};
 ghost use Rattle.draughts_board.specs.Rules.{is_own, may_go, is_crowned_on, at_rest};
 
+use crate::cell_board::CellBoard;
 use crate::square_list::SquareList;
-use draughts_board::{Cell, Position, Side, Square};
+use draughts_board::{Cell, Side, Square};
+
+/// A piece of the side stands on the square.
+#[inline]
+fn is_piece_of(p: &CellBoard, side: Side, square: Square) -> bool
+    ensures { result ≡ (is_square square && belongs side (cell_at p.now square)) }
+{
+    p.at(square).belongs_to(side)
+}
 
 /// A piece of the side to move stands on the square.
 #[inline]
-pub(crate) fn is_own(p: &Position, square: Square) -> bool
+pub(crate) fn is_own(p: &CellBoard, square: Square) -> bool
     ensures { result ≡ is_own p.now square }
 {
-    let _number = square.number();
-    p.at(square).belongs_to(p.to_move())
+    is_piece_of(p, p.to_move(), square)
 }
 
 /// The squares of the side to move, in rising order.
-pub(crate) fn own_squares(p: &Position) -> SquareList
-    requires { IsLawful p.now }
-    ensures { result ≡ filter (is_own p.now) squares }
+pub(crate) fn own_squares(p: &CellBoard) -> SquareList
+    ensures squares { result ≡ filter (is_own p.now) squares }
+    ensures lawful { IsLawful p.now }
 {
+    let mover = p.to_move();
     let all = Square::all();
     let mut own = SquareList::empty(all[0]);
     for square in &all {
-        own.push_if(*square, is_own(p, *square));
+        own.push_if(*square, is_piece_of(p, mover, *square));
     }
     own
 }

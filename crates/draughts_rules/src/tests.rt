@@ -1,5 +1,5 @@
 //! Counts and positions from outside: the published numbers of lists of moves, and the rule book's hard cases.
-use crate::{ResolveRefusal, apply, is_legal, legal_moves, resolve, successors};
+use crate::{ResolveRefusal, apply, has_move, is_legal, legal_moves, move_to, resolve, successors};
 use draughts_board::{Cell, Move, PlaceRefusal, Position, Side, Square};
 use std::alloc::{AllocError, Global};
 use std::test::Fail;
@@ -77,6 +77,13 @@ fn king_jumps_round_to_its_start(rt: HostRuntime) -> Result<(), Fail> {
     let bare = Position::place(cells, Side::White)?;
     let next = successors(rt.alloc(), &p)?;
     assert_eq!(rt; next.as_slice(), [bare].as_slice());
+    // Both ways round lead there, and the lesser path is found; no move leads back to the position itself.
+    let found = move_to(rt.alloc(), &p, &bare)?.ok_or("no move")?;
+    assert_eq!(rt;
+        numbers(rt.alloc(), &found)?.as_slice(),
+        [2, 9, 18, 11, 2].as_slice()
+    );
+    assert!(rt; move_to(rt.alloc(), &p, &p)?.is_none());
     Ok(())
 }
 
@@ -110,6 +117,19 @@ fn tells_legal_moves(rt: HostRuntime) -> Result<(), Fail> {
         let m = Move::of(path).ok_or("a path")?;
         assert_eq!(rt; is_legal(&p, &m), legal);
     }
+    Ok(())
+}
+
+#[test]
+fn a_blocked_man_has_no_move(rt: HostRuntime) -> Result<(), Fail> {
+    let mut cells = [Cell::Empty; 32];
+    cells[12 - 1] = BLACK_MAN;
+    cells[16 - 1] = WHITE_MAN;
+    cells[19 - 1] = WHITE_MAN;
+    assert!(rt; !has_move(&Position::place(cells, Side::Black)?));
+    assert!(rt; has_move(&Position::place(cells, Side::White)?));
+    cells[19 - 1] = Cell::Empty;
+    assert!(rt; has_move(&Position::place(cells, Side::Black)?));
     Ok(())
 }
 

@@ -9,11 +9,11 @@ use Rattle.draughts_board.proofs.Successors.{is_lawful-true, lawful-from_test, d
 use Rattle.draughts_board.proofs.Members.{Contains-nil, Contains-map, Contains-from_map}
 use Rattle.strategy_certificate.specs.declared.oracle.Answer.{Answer}
 use Rattle.strategy_certificate.specs.declared.oracle.Answer.TheVariants.{Win, Loss, Draw}
-use Rattle.strategy_certificate.specs.Tables.{IsRight}
+use Rattle.strategy_certificate.specs.Tables.{IsRight, IsTableSize}
 use Rattle.table_index.specs.Order.{entry_count, index_of, position_at}
 use Rattle.table_index.specs.Laws.{IsPositionOf}
 use Rattle.endgame_table.specs.Numbers.{no_position, answer_of}
-use Rattle.endgame_table.specs.Entries.{answers, IsTableSize, IsTable}
+use Rattle.endgame_table.specs.Entries.{answers, IsTable}
 use Rattle.endgame_table.specs.Rows.{indices_after, first_number, ListsMoves}
 use Rattle.endgame_table.specs.Rounds.{SomeTarget, EachTarget, win, loss, IsStart, FitsTargets, is_win, is_loss, is_draw, IsFilled}
 use Rattle.table_index.proofs.OrderLemmas.{block_sizes, positions_have_indices, positions_stand_at_their_indices, indices_hold_positions}
@@ -44,6 +44,13 @@ pub few-after : (p : Board) → IsLawful p → piece_count p ≤ 3 → All (λ q
 few-after p lawful few =
     All-weaker (Contains (successors_of p)) (λ q. piece_count q ≤ 3)
     (λ q next. let fewer = fewer-after p q lawful next in omega arith) (successors_of p) (All-contains_itself (successors_of p))
+
+-- in a table of k pieces they stand at its indices
+pub indices-few : (k : ℕ) → k ≤ 3 → (p : Board) → IsLawful p → piece_count p ≤ k → All (λ q. index_of q < entry_count k) (successors_of p)
+indices-few k most p lawful few =
+    All-weaker (Contains (successors_of p)) (λ q. index_of q < entry_count k)
+    (λ q next. let fewer = fewer-after p q lawful next in positions_have_indices q k (lawful-after p q lawful next) (omega arith) most)
+    (successors_of p) (All-contains_itself (successors_of p))
 
 -- ---- the start of the rounds
 

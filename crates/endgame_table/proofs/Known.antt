@@ -238,7 +238,7 @@ KeepsPlaces rows old new =
     (i : ℕ) → i < length rows
     → ((slice_index old i ≡ no_position) × (slice_index new i ≡ no_position)) ⊎ ((slice_index old i ≡ 0) × (slice_index new i ≢ no_position))
 
-target-below : (rows : List (List ℕ)) (numbers : List ℕ) → AreRows rows numbers → (i t : ℕ) → i < length rows → Contains (slice_index_or rows i []) t → t < length rows
+pub target-below : (rows : List (List ℕ)) (numbers : List ℕ) → AreRows rows numbers → (i t : ℕ) → i < length rows → Contains (slice_index_or rows i []) t → t < length rows
 target-below rows numbers are i t below here = All-contains (λ t. t < length rows) (slice_index_or rows i []) t (are.targets i below) here
 
 inside-now : (first now : ℕ) → first ≡ 0 → ((first ≡ no_position) × (now ≡ no_position)) ⊎ ((first ≡ 0) × (now ≢ no_position)) → now ≢ no_position
@@ -246,7 +246,7 @@ inside-now first now is_zero (inl is) = absurd (let e = is.0 in omega arith)
 inside-now first now is_zero (inr is) = is.1
 
 -- each target is a position still
-targets-inside : (rows : List (List ℕ)) (first numbers : List ℕ) → IsStart rows first → KeepsPlaces rows first numbers
+pub targets-inside : (rows : List (List ℕ)) (first numbers : List ℕ) → IsStart rows first → KeepsPlaces rows first numbers
     → (i : ℕ) → i < length rows → EachTarget numbers (slice_index_or rows i []) (λ n. n ≢ no_position)
 targets-inside rows first numbers start places i below t here =
     inside-now (slice_index first t) (slice_index numbers t) (start.leads i below t here) (places t (target-below rows first start.are_rows i t below here))

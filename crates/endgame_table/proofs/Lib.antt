@@ -1,7 +1,13 @@
 pub mod Known
 pub mod Decisions
 pub mod Counting
-pub mod RowLemmas
+pub mod OriginLists
+pub mod MarkLemmas
+pub mod MarkLastLemmas
+pub mod TouchLemmas
+pub mod LeftTargets
+pub mod RoundLemmas
+pub mod ListedMoves
 pub mod NumberLemmas
 pub mod Sound
 pub mod Filled

@@ -6,11 +6,11 @@ use borrow.Author.Tests.{leb-true}
 use Rattle.draughts_board.specs.Board.{Board, IsLawful, piece_count, is_lawful}
 use Rattle.draughts_board.specs.Draughts.{draughts}
 use Rattle.draughts_board.proofs.Successors.{is_lawful-true, lawful-from_test}
-use Rattle.strategy_certificate.specs.Tables.{IsRight}
+use Rattle.strategy_certificate.specs.Tables.{IsRight, IsTableSize}
 use Rattle.table_index.specs.Order.{entry_count, index_of, position_at}
 use Rattle.table_index.specs.Laws.{IsPositionOf}
 use Rattle.endgame_table.specs.Numbers.{no_position, answer_of}
-use Rattle.endgame_table.specs.Entries.{answers, FitsAt, IsTableSize, IsTable}
+use Rattle.endgame_table.specs.Entries.{answers, FitsAt, IsTable}
 use Rattle.endgame_table.specs.Laws.{TablesFitEverywhere, OneTable}
 use Rattle.endgame_table.proofs.NumberLemmas.{same_number}
 use Rattle.strategy_certificate.proofs.Tables.{sound_tables_agree}

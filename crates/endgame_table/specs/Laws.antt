@@ -1,7 +1,8 @@
 -- What holds of tables and of their bytes, each law the contract of a function of `src/laws.rt`.
 use Rattle.std.specs.Prelude.{◌≡◌, ◌↔◌, ℕ, ◌^◌, ◌<◌, List, All, length}
 use Rattle.table_index.specs.Order.{entry_count}
-use Rattle.endgame_table.specs.Entries.{FitsAt, IsTableSize, IsTable}
+use Rattle.strategy_certificate.specs.Tables.{IsTableSize}
+use Rattle.endgame_table.specs.Entries.{FitsAt, IsTable}
 use Rattle.endgame_table.specs.Bytes.{bytes_of}
 
 -- As many numbers as there are indices are a table exactly where the rule holds at every index.

@@ -7,7 +7,8 @@ use Rattle.strategy_certificate.specs.declared.oracle.Answer.TheVariants.{Win, L
 abbrev pub no_position : ℕ
 no_position = 4294967295
 
--- the number of an answer, of the side to move: 0 is a draw, 2r + 1 a loss of rank r, and 2r + 2 a win of rank r
+-- the number of an answer, of the side to move: 0 is a draw, 2r + 1 a loss of rank r, and 2r + 2 a
+-- win of rank r
 abbrev pub number_of : Answer → ℕ
 number_of Draw = 0
 number_of (Loss r) = 2 * r + 1

@@ -8,9 +8,11 @@
 mod bytes;
 mod filling;
 pub mod laws;
+mod marking;
+mod moves;
 mod numbers;
+mod origins;
 mod rounds;
-mod rows;
 mod table;
 #[cfg(test)]
 mod tests;

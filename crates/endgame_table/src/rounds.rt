@@ -1,105 +1,92 @@
 //! The rounds in which indices are decided, backwards from lost ones. Nothing here is about draughts.
 //!
-//! A round first finds the losses of its rank, all of whose targets are won, and then the wins of the rank above it, which
-//! have one of these losses among their targets. So losses have even ranks and wins odd ones.
-ghost use Rattle.std.specs.Prelude.{◌≡◌, ◌≢◌, ◌<◌, ◌*◌, ◌+◌, All, MatchBool, length, slice_index, slice_set};
-ghost use Rattle.std.specs.List.{list_any, list_all};
+//! A round goes back from the losses of its rank to the indices with a move to one of them, which are wins of the rank
+//! above it, and from those wins on to the undecided indices whose last target that was not won was one of them: the
+//! losses of the rank above that. So losses have even ranks and wins odd ones, and a round touches only what the round
+//! before it decided.
+ghost use Rattle.std.specs.Prelude.{◌≡◌, ◌<◌, ◌≤◌, ◌*◌, ◌+◌, [], ℕ, List, All, OnOk, length, flat_map, map, slice_index};
 ghost use Rattle.endgame_table.specs.Numbers.{no_position, AreBelow};
-ghost use Rattle.endgame_table.specs.Rounds.{win, is_won, is_lost, undecided, IsAfterLosses, IsAfterWins, AddsLosses, AddsWins, AreRows, IsStart, IsFilled};
+ghost use Rattle.endgame_table.specs.Origins.{origins_at, AreOrigins};
+ghost use Rattle.endgame_table.specs.Marking.{times, Marks, MarksLast};
+ghost use Rattle.endgame_table.specs.Rounds.{win, loss, IsBegun, IsFilled};
+ghost use Rattle.endgame_table.specs.Rows.{Listing};
 
-use crate::rows::Rows;
+use crate::marking::{mark_last_origins, mark_origins};
+use crate::origins::Origins;
+use std::alloc::{AllocError, Global};
 
-/// Whether each target is won.
-fn are_won(targets: &[u32], numbers: &[u32]) -> bool
-    requires { All (λ t. t < length numbers.now) targets.now }
-    ensures { result ≡ list_all (λ t. is_won (slice_index numbers.now t)) targets.now }
-{
-    targets.iter().all(|t| {
-        let number = numbers[*t as usize];
-        number != 0 && number % 2 == 0
-    })
-}
-
-/// Whether some target is lost.
-fn has_loss(targets: &[u32], numbers: &[u32]) -> bool
-    requires { All (λ t. t < length numbers.now) targets.now }
-    ensures { result ≡ list_any (λ t. is_lost (slice_index numbers.now t)) targets.now }
-{
-    targets.iter().any(|t| numbers[*t as usize] % 2 == 1)
-}
-
-/// Makes an undecided index with these targets a loss of this rank, if each target is won. Says whether it did.
-fn settle_loss(targets: &[u32], numbers: &mut [u32], index: usize, rank: u32) -> bool
-    requires index { index < length numbers.old }
-    requires targets { All (λ t. t < length numbers.old) targets.now }
+/// Gives the number of a win of this rank to each undecided index with a move to one of the lost ones, and puts it behind
+/// those won.
+fn find_wins(
+    origins: &Origins,
+    lost: &[u32],
+    rank: u32,
+    numbers: &mut [u32],
+    won: &mut Vec<u32>,
+) -> Result<(), AllocError>
+    requires origins { AreOrigins origins.now (length numbers.old) }
+    requires lost { All (λ t. t < length numbers.old) lost.now }
     requires fits { win rank < no_position }
-    ensures after { IsAfterLosses rank numbers.old targets.now (slice_index numbers.old index) (slice_index numbers.new index) }
-    ensures others { numbers.new ≡ slice_set numbers.old index (slice_index numbers.new index) }
-    ensures found { MatchBool result (undecided numbers.new < undecided numbers.old) (numbers.new ≡ numbers.old) }
+    ensures { OnOk result
+        (Marks (win rank) (flat_map (origins_at origins.now) lost.now) numbers.old numbers.new
+        won.old.items won.new.items) }
 {
-    if numbers[index] != 0 {
-        return false;
+    for target in lost {
+        let first = origins.heads[*target as usize];
+        mark_origins(&origins.links, first, 2 * rank + 2, numbers, won)?;
     }
-    let is_loss = are_won(targets, numbers);
-    if is_loss {
-        numbers[index] = 2 * rank + 1;
-    }
-    is_loss
+    Ok(())
 }
 
-/// Makes an undecided index with these targets a win of this rank, if some target is lost.
-fn settle_win(targets: &[u32], numbers: &mut [u32], index: usize, rank: u32)
-    requires index { index < length numbers.old }
-    requires targets { All (λ t. t < length numbers.old) targets.now }
+/// Gives the number of a loss of this rank to each undecided index that waited for these won ones alone, and puts it
+/// behind those lost.
+fn find_losses(
+    origins: &Origins,
+    won: &[u32],
+    rank: u32,
+    waiting: &mut [u32],
+    numbers: &mut [u32],
+    lost: &mut Vec<u32>,
+) -> Result<(), AllocError>
+    requires origins { AreOrigins origins.now (length numbers.old) }
+    requires won { All (λ t. t < length numbers.old) won.now }
+    requires same { length waiting.old ≡ length numbers.old }
+    requires enough { (i : ℕ)
+        → times i (flat_map (origins_at origins.now) won.now) ≤ slice_index waiting.old i }
     requires fits { win rank < no_position }
-    ensures after { IsAfterWins rank numbers.old targets.now (slice_index numbers.old index) (slice_index numbers.new index) }
-    ensures others { numbers.new ≡ slice_set numbers.old index (slice_index numbers.new index) }
+    ensures { OnOk result
+        (MarksLast (loss rank) (flat_map (origins_at origins.now) won.now) waiting.old waiting.new
+        numbers.old numbers.new lost.old.items lost.new.items) }
 {
-    if numbers[index] != 0 {
-        return;
+    for target in won {
+        let first = origins.heads[*target as usize];
+        mark_last_origins(&origins.links, first, 2 * rank + 1, waiting, numbers, lost)?;
     }
-    if has_loss(targets, numbers) {
-        numbers[index] = 2 * rank + 2;
-    }
+    Ok(())
 }
 
-/// Finds the losses of this rank, and says whether there is one.
-fn find_losses(rows: &Rows, numbers: &mut [u32], rank: u32) -> bool
-    requires rows { AreRows rows.now numbers.old }
-    requires fits { win rank < no_position }
-    ensures losses { AddsLosses rank rows.now numbers.old numbers.new }
-    ensures found { MatchBool result (undecided numbers.new < undecided numbers.old) (numbers.new ≡ numbers.old) }
+/// Plays rounds until one finds no loss. Begins with the losses of rank 0, which are decided already and stand in `lost`.
+pub(crate) fn run_rounds(
+    alloc: Global,
+    origins: &Origins,
+    mut lost: Vec<u32>,
+    waiting: &mut [u32],
+    numbers: &mut [u32],
+) -> Result<(), AllocError>
+    ghost moves: { Listing }
+    requires begun { IsBegun moves.rows moves.first origins.now waiting.old numbers.old lost.items }
+    requires few { 4 * length moves.rows + 4 < no_position }
+    ensures filled { OnOk result (IsFilled moves.rows moves.first numbers.new) }
+    ensures small { OnOk result (AreBelow (4 * length moves.rows + 4) numbers.new) }
 {
-    let mut found = false;
-    for index in 0..numbers.len() {
-        if settle_loss(rows.row(index), numbers, index, rank) {
-            found = true;
-        }
-    }
-    found
-}
-
-/// Finds the wins of this rank.
-fn find_wins(rows: &Rows, numbers: &mut [u32], rank: u32)
-    requires rows { AreRows rows.now numbers.old }
-    requires fits { win rank < no_position }
-    ensures { AddsWins rank rows.now numbers.old numbers.new }
-{
-    for index in 0..numbers.len() {
-        settle_win(rows.row(index), numbers, index, rank);
-    }
-}
-
-/// Plays rounds until one finds no loss.
-pub(crate) fn run_rounds(rows: &Rows, numbers: &mut [u32])
-    requires start { IsStart rows.now numbers.old }
-    requires few { 4 * length rows.now + 4 < no_position }
-    ensures filled { IsFilled rows.now numbers.old numbers.new }
-    ensures small { AreBelow (4 * length rows.now + 4) numbers.new }
-{
+    let mut won = Vec::new(alloc);
     let mut rank = 0;
-    while find_losses(rows, numbers, rank) {
-        find_wins(rows, numbers, rank + 1);
+    while !lost.is_empty() {
+        won.clear();
+        find_wins(origins, &lost, rank + 1, numbers, &mut won)?;
+        lost.clear();
+        find_losses(origins, &won, rank + 2, waiting, numbers, &mut lost)?;
         rank += 2;
     }
+    Ok(())
 }

@@ -9,7 +9,8 @@ use Rattle.draughts_board.specs.declared.pieces.Side.{Side}
 use Rattle.draughts_board.specs.declared.pieces.Side.TheVariants.{Black, White}
 use Rattle.fen_text.specs.declared.fault.Fault.{Fault}
 use Rattle.fen_text.specs.declared.fault.Fault.TheVariants.{Number}
-use Rattle.fen_text.specs.Grammar.{letter_of, is_digit, Numeral, one, two, numeral_text, are_digits, value, IsSquareFrom, Item, mark, range_text, item_text, IsItem, comma, list_text, AreItems, Draft, stop_text, opening_text, turn_text, text_of, HasForm}
+use Rattle.fen_text.specs.Grammar.{letter_of, Numeral, one, two, numeral_text, are_digits, value, IsSquareFrom, Item, mark, range_text, item_text, IsItem, comma, list_text, AreItems, Draft, stop_text, opening_text, turn_text, text_of, HasForm}
+use Rattle.std.specs.Char.{is_ascii_digit}
 use Rattle.fen_text.specs.Spelled.{Group, last_of, group_of, groups_of}
 use Rattle.fen_text.specs.Faults.{ends_before, lead_text, second_list, opening_front}
 use Rattle.fen_text.specs.Reading.{◌>>=◌, byte_at, side_at, second_digit, square_at, king_at, last_at, item_at, items_at, begins_item, list_at, without_stop, end_at, form_at}
@@ -29,10 +30,10 @@ behind_first (two a b) = b ∷ []
 
 pub number_again : (n : Numeral) (rest : List ℕ) → are_digits n ≡ true → ends_before n rest ≡ true → second_digit (tens n - 48) (behind_first n ++ rest) ≡ (value n, rest)
 number_again (one a) [] digits ends = refl
-number_again (one a) (b ∷ rest) digits ends = (let e : is_digit b ≡ false = not-true (is_digit b) ends in rw e refl)
-number_again (two a b) rest digits ends = (let e : is_digit b ≡ true = (and_parts _ _ digits).1 in rw e refl)
+number_again (one a) (b ∷ rest) digits ends = (let e : is_ascii_digit b ≡ false = not-true (is_ascii_digit b) ends in rw e refl)
+number_again (two a b) rest digits ends = (let e : is_ascii_digit b ≡ true = (and_parts _ _ digits).1 in rw e refl)
 
-pub first_digit : (n : Numeral) → are_digits n ≡ true → is_digit (tens n) ≡ true
+pub first_digit : (n : Numeral) → are_digits n ≡ true → is_ascii_digit (tens n) ≡ true
 first_digit (one a) d = d
 first_digit (two a b) d = (and_parts _ _ d).0
 

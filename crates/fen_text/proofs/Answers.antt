@@ -9,12 +9,11 @@ use Rattle.draughts_board.specs.declared.positions.PlaceRefusal.{PlaceRefusal}
 use Rattle.draughts_board.specs.declared.positions.PlaceRefusal.TheVariants as places
 use Rattle.fen_text.specs.declared.fault.Fault.{Fault}
 use Rattle.fen_text.specs.declared.refusal.FenRefusal.{FenRefusal}
-use Rattle.fen_text.specs.declared.refusal.FenRefusal.TheVariants.{BadLetter, BadSquare, Twice, TooMany, ManOnLastRow, Truncated}
-use Rattle.fen_text.specs.Spelled.{Group, NoneTwice, IsLeastTwice, cells_named, Spells, NamesTwice, IsOver, NamesTooMany, NamesManOnLastRow}
-use Rattle.fen_text.specs.Faults.{IsTruncated, IsBadLetter, IsBadSquare}
+use Rattle.fen_text.specs.declared.refusal.FenRefusal.TheVariants.{Twice, TooMany, ManOnLastRow}
+use Rattle.fen_text.specs.Spelled.{Group, NoneTwice, IsLeastTwice, cells_named, Spells, IsOver}
 use Rattle.fen_text.specs.Printed.{fen_of}
 use Rattle.fen_text.specs.Reading.{form_at}
-use Rattle.fen_text.specs.Refusal.{refusal_at, of_place}
+use Rattle.fen_text.specs.Refusal.{IsFault, refusal_at, of_place}
 use Rattle.fen_text.specs.Setup.{Holds}
 use Rattle.fen_text.proofs.Verdict.{Verdict, GroupsVerdict, decides, cells_are}
 use Rattle.fen_text.proofs.RoundTrip.{printed_spells}
@@ -22,23 +21,13 @@ use Rattle.fen_text.proofs.RoundTrip.{printed_spells}
 pub record Answers (text : List ℕ) (r : Result Board FenRefusal) : Type 0 where
   pub ok : (p : Board) → (r ≡ Ok p) ↔ Spells text p
   pub printed : (p : Board) → IsLawful p → text ≡ fen_of p → r ≡ Ok p
-  pub bad_letter : (at : ℕ) → (r ≡ Err (BadLetter at)) ↔ IsBadLetter text at
-  pub bad_square : (at : ℕ) → (r ≡ Err (BadSquare at)) ↔ IsBadSquare text at
-  pub truncated : (r ≡ Err Truncated) ↔ IsTruncated text
-  pub twice : (n : ℕ) → (r ≡ Err (Twice n)) ↔ NamesTwice text n
-  pub too_many : (side : Side) → (r ≡ Err (TooMany side)) ↔ NamesTooMany text side
-  pub man : (n : ℕ) → (r ≡ Err (ManOnLastRow n)) ↔ NamesManOnLastRow text n
+  pub refused : (fault : FenRefusal) → (r ≡ Err fault) ↔ IsFault text fault
 
 answers : (text : List ℕ) (r : Result Board FenRefusal) → Verdict (length text) (form_at text) r → Answers text r
 answers text r v = record {
   ok = λ p. decides text r (Ok p) v;
   printed = λ p lawful is. (decides text r (Ok p) v).1 (subst (λ t. Spells t p) (sym is) (printed_spells p lawful));
-  bad_letter = λ at. decides text r (Err (BadLetter at)) v;
-  bad_square = λ at. decides text r (Err (BadSquare at)) v;
-  truncated = decides text r (Err Truncated) v;
-  twice = λ n. decides text r (Err (Twice n)) v;
-  too_many = λ side. decides text r (Err (TooMany side)) v;
-  man = λ n. decides text r (Err (ManOnLastRow n)) v;
+  refused = λ fault. decides text r (Err fault) v;
 }
 
 -- the text cannot go on

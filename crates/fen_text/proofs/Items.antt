@@ -6,7 +6,7 @@ use Rattle.std.proofs.lemmas.Bool.{cases_Bool}
 use Rattle.draughts_board.specs.declared.pieces.Side.{Side}
 use Rattle.fen_text.specs.declared.fault.Fault.{Fault}
 use Rattle.fen_text.specs.declared.fault.Fault.TheVariants.{End}
-use Rattle.fen_text.specs.Grammar.{is_digit}
+use Rattle.std.specs.Char.{is_ascii_digit}
 use Rattle.fen_text.specs.Spelled.{Group}
 use Rattle.fen_text.specs.Reading.{◌>>=◌, second_digit, square_at, king_at, last_at, item_at, without_blanks, after_comma, items_within, items_at}
 
@@ -14,7 +14,7 @@ use Rattle.fen_text.specs.Reading.{◌>>=◌, second_digit, square_at, king_at, 
 
 second_digit-length : (tens : ℕ) (bytes : List ℕ) → length (second_digit tens bytes).1 ≤ length bytes
 second_digit-length tens [] = omega arith
-second_digit-length tens (b ∷ behind) = elim (cases_Bool (is_digit b)) [
+second_digit-length tens (b ∷ behind) = elim (cases_Bool (is_ascii_digit b)) [
   | inl e ↦ rw e (omega arith)
   | inr e ↦ rw e (omega arith)
 ]
@@ -31,7 +31,7 @@ unfolding square_at
 square-shorter least [] = tt
 square-shorter least (b ∷ behind) =
     let n = second_digit (b - 48) behind in
-    elim (cases_Bool (is_digit b && (leb least n.0 && leb n.0 32))) [
+    elim (cases_Bool (is_ascii_digit b && (leb least n.0 && leb n.0 32))) [
       | inl e ↦ rw e (omega (arith, second_digit-length (b - 48) behind))
       | inr e ↦ rw e tt
     ]

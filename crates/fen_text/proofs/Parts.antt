@@ -4,7 +4,8 @@ use Rattle.std.specs.Prelude.{replicate}
 use Rattle.std.specs.List.{flat_map}
 use Rattle.std.proofs.lemmas.Bool.{cases_Bool, leb-true, ne_eqb, eqb-true, and_parts, false≢true}
 use Rattle.std.proofs.lemmas.List.Concat.{flat_map-append}
-use Rattle.fen_text.specs.Grammar.{is_digit, Numeral, one, two, numeral_text, are_digits, Item, mark, range_text, item_text, IsItem, comma, further_text, list_text, AreItems}
+use Rattle.fen_text.specs.Grammar.{Numeral, one, two, numeral_text, are_digits, Item, mark, range_text, item_text, IsItem, comma, further_text, list_text, AreItems}
+use Rattle.std.specs.Char.{is_ascii_digit}
 use Rattle.fen_text.specs.Faults.{ends_before, lead_text}
 use Rattle.fen_text.specs.Reading.{without_blanks, after_comma, begins_item}
 
@@ -16,10 +17,10 @@ begins due [] = false
 begins due (b ∷ behind) = b == due
 
 -- a digit is no other sign
-pub digit_below : (a k : ℕ) → is_digit a ≡ true → k < 48 → (a == k) ≡ false
+pub digit_below : (a k : ℕ) → is_ascii_digit a ≡ true → k < 48 → (a == k) ≡ false
 digit_below a k d lt = ne_eqb a k (λ e. (let p : 48 ≤ a = leb-true 48 a (and_parts (leb 48 a) (leb a 57) d).0 in omega (arith, p, e)))
 
-pub digit_above : (a k : ℕ) → is_digit a ≡ true → 57 < k → (a == k) ≡ false
+pub digit_above : (a k : ℕ) → is_ascii_digit a ≡ true → 57 < k → (a == k) ≡ false
 digit_above a k d lt = ne_eqb a k (λ e. (let p : a ≤ 57 = leb-true a 57 (and_parts (leb 48 a) (leb a 57) d).1 in omega (arith, p, e)))
 
 pub not_both : (b : Bool) → b ≡ true → b ≡ false → ⊥
@@ -80,7 +81,7 @@ no_comma_where_closed (b ∷ rest) e = closing_byte b (λ k. (k == 44) ≡ false
 
 pub no_item_where_closed : (rest : List ℕ) → closes rest ≡ true → begins_item rest ≡ false
 no_item_where_closed [] e = refl
-no_item_where_closed (b ∷ rest) e = closing_byte b (λ k. (k == 75 || is_digit k) ≡ false) e refl refl
+no_item_where_closed (b ∷ rest) e = closing_byte b (λ k. (k == 75 || is_ascii_digit k) ≡ false) e refl refl
 
 -- a square goes before the `-` of its range
 pub ends_at_range : (first : Numeral) (rest : List ℕ) → ends_before first (45 ∷ rest) ≡ true

@@ -7,10 +7,13 @@ use Rattle.draughts_board.specs.Board.{Board, IsLawful, belongs}
 use Rattle.draughts_board.specs.declared.pieces.Side.{Side}
 use Rattle.draughts_board.specs.declared.pieces.Side.TheVariants.{Black, White}
 use Rattle.draughts_board.specs.declared.pieces.Cell.{Cell}
-use Rattle.fen_text.specs.Grammar.{letter_of, is_digit, Numeral, one, two, numeral_text, are_digits, mark, item_text, further_text, list_text, AreItems, IsItem}
+use Rattle.fen_text.specs.Grammar.{letter_of, Numeral, one, two, numeral_text, are_digits, mark, item_text, further_text, list_text, AreItems, IsItem}
+use Rattle.std.specs.Char.{is_ascii_digit}
 use Rattle.fen_text.specs.Spelled.{Spells}
 use Rattle.fen_text.specs.Printed.{printed_item, printed_items, fen_of}
 use Rattle.fen_text.specs.Laws.{is_printed_byte}
+use Rattle.shared_words.specs.Bytes.{Lacks}
+use Rattle.shared_words.proofs.LackingBytes.{Lacks-class}
 use Rattle.fen_text.proofs.RoundTrip.{items_are, printed_spells}
 use Rattle.fen_text.proofs.Verdict.{one_position}
 
@@ -21,12 +24,12 @@ plain_append : (a b : List ℕ) → IsPlain a → IsPlain b → IsPlain (a ++ b)
 plain_append [] b ha hb = hb
 plain_append (x ∷ a) b ha hb = (ha.0, plain_append a b ha.1 hb)
 
-digit_is_plain : (b : ℕ) → is_digit b ≡ true → is_printed_byte b ≡ true
+digit_is_plain : (b : ℕ) → is_ascii_digit b ≡ true → is_printed_byte b ≡ true
 digit_is_plain b e = rw e refl
 
 numeral_is_plain : (n : Numeral) → are_digits n ≡ true → IsPlain (numeral_text n)
 numeral_is_plain (one a) d = (digit_is_plain a d, tt)
-numeral_is_plain (two a b) d = (let p = and_parts (is_digit a) (is_digit b) d in (digit_is_plain a p.0, (digit_is_plain b p.1, tt)))
+numeral_is_plain (two a b) d = (let p = and_parts (is_ascii_digit a) (is_ascii_digit b) d in (digit_is_plain a p.0, (digit_is_plain b p.1, tt)))
 
 mark_is_plain : (king : Bool) → IsPlain (mark king)
 mark_is_plain true = (refl, tt)
@@ -73,6 +76,10 @@ text_is_plain p lawful =
 
 pub printed_is_plain : (p : Board) → IsLawful p → All (λ b. is_printed_byte b ≡ true) (fen_of p)
 printed_is_plain p lawful = All-from_recursion (λ b. is_printed_byte b ≡ true) (fen_of p) (text_is_plain p lawful)
+
+-- a byte that is none of a printed FEN stands in none
+pub Lacks-fen : (byte : ℕ) (p : Board) → is_printed_byte byte ≡ false → IsLawful p → Lacks byte (fen_of p)
+Lacks-fen byte p other lawful = Lacks-class is_printed_byte byte (fen_of p) other (text_is_plain p lawful)
 
 pub printed_tells_apart : (p q : Board) → IsLawful p → IsLawful q → fen_of p ≡ fen_of q → p ≡ q
 printed_tells_apart p q lp lq e = one_position (fen_of p) p q (printed_spells p lp) (subst (λ t. Spells t q) (sym e) (printed_spells q lq))

@@ -5,7 +5,8 @@ use Rattle.std.proofs.lemmas.Bool.{cases_Bool, leb-true, leb-false, eqb-true, an
 use Rattle.draughts_board.specs.declared.pieces.Side.{Side}
 use Rattle.fen_text.specs.declared.fault.Fault.{Fault}
 use Rattle.fen_text.specs.declared.fault.Fault.TheVariants.{Number, End}
-use Rattle.fen_text.specs.Grammar.{is_digit, Numeral, one, two, numeral_text, are_digits, value, IsSquareFrom, mark, range_text}
+use Rattle.fen_text.specs.Grammar.{Numeral, one, two, numeral_text, are_digits, value, IsSquareFrom, mark, range_text}
+use Rattle.std.specs.Char.{is_ascii_digit}
 use Rattle.fen_text.specs.Spelled.{Group, last_of}
 use Rattle.fen_text.specs.Faults.{ends_before, Started, nothing, king_mark, range_sign, started_text, least_started, NumberWrong}
 use Rattle.fen_text.specs.Reading.{◌>>=◌, second_digit, square_at, king_at, last_at, item_at}
@@ -21,20 +22,20 @@ record NumberRead (a : ℕ) (behind : List ℕ) (n : ℕ) (rest : List ℕ) : Ty
   parts : a ∷ behind ≡ numeral_text number ++ rest
   whole : ends_before number rest ≡ true
 
-number_read : (a : ℕ) (behind : List ℕ) → is_digit a ≡ true → NumberRead a behind (second_digit (a - 48) behind).0 (second_digit (a - 48) behind).1
+number_read : (a : ℕ) (behind : List ℕ) → is_ascii_digit a ≡ true → NumberRead a behind (second_digit (a - 48) behind).0 (second_digit (a - 48) behind).1
 number_read a [] digit = record { number = one a; digits = digit; value_is = refl; parts = refl; whole = refl }
 number_read a (b ∷ behind) digit =
-    elim (cases_Bool (is_digit b)) [
+    elim (cases_Bool (is_ascii_digit b)) [
       | inl e ↦ subst (λ (n : ℕ × List ℕ). NumberRead a (b ∷ behind) n.0 n.1) (sym (ap (λ t. cond t (10 * (a - 48) + (b - 48), behind) (a - 48, b ∷ behind)) e))
           (record { number = two a b; digits = and_from _ _ digit e; value_is = refl; parts = refl; whole = refl })
       | inr e ↦ subst (λ (n : ℕ × List ℕ). NumberRead a (b ∷ behind) n.0 n.1) (sym (ap (λ t. cond t (10 * (a - 48) + (b - 48), behind) (a - 48, b ∷ behind)) e))
-          (record { number = one a; digits = digit; value_is = refl; parts = refl; whole = not_from_false (is_digit b) e })
+          (record { number = one a; digits = digit; value_is = refl; parts = refl; whole = not_from_false (is_ascii_digit b) e })
     ]
 
 -- a byte stands there that is no digit
 abbrev pub NoDigit : List ℕ → Type 0
 NoDigit [] = ⊥
-NoDigit (b ∷ behind) = is_digit b ≡ false
+NoDigit (b ∷ behind) = is_ascii_digit b ≡ false
 
 -- why no square was read
 pub data SquareFails (least : ℕ) (bytes : List ℕ) : Fault → Type 0 where
@@ -59,7 +60,7 @@ square_read least [] = too_short refl
 square_read least (a ∷ behind) =
     let n : ℕ × List ℕ = second_digit (a - 48) behind in
     let test : Bool = leb least n.0 && leb n.0 32 in
-    elim (cases_Bool (is_digit a)) [
+    elim (cases_Bool (is_ascii_digit a)) [
       | inr e ↦ subst (λ b. SquareRead least (a ∷ behind) (cond (b && test) (Ok n) (Err (Number (suc (length behind)))))) (sym e) (no_digit e)
       | inl e ↦ (
           let read : NumberRead a behind n.0 n.1 = number_read a behind e in

@@ -6,7 +6,8 @@ use Rattle.draughts_board.specs.declared.pieces.Side.{Side}
 use Rattle.draughts_board.specs.declared.pieces.Side.TheVariants.{Black, White}
 use Rattle.fen_text.specs.declared.fault.Fault.{Fault}
 use Rattle.fen_text.specs.declared.fault.Fault.TheVariants.{Letter, Number, End}
-use Rattle.fen_text.specs.Grammar.{letter_of, is_digit, Numeral, one, two, Item, list_text, AreItems, Draft, stop_text, opening_text, turn_text, HasForm}
+use Rattle.fen_text.specs.Grammar.{letter_of, Numeral, one, two, Item, list_text, AreItems, Draft, stop_text, opening_text, turn_text, HasForm}
+use Rattle.std.specs.Char.{is_ascii_digit}
 use Rattle.fen_text.specs.Spelled.{Group, group_of, groups_of}
 use Rattle.fen_text.specs.Faults.{Opening, first_list, second_list, opening_front, IsOpening, Started, nothing, king_mark, range_sign, started_text, least_started, Place, at_side, at_colon, at_colour, at_other_colour, at_list, in_item, behind_item, at_end, front, IsPlace, closing, carries_on, may_stand, may_end, ends_second, is_square_due, least_square, StandsWrong, NumberWrong, lead_text}
 use Rattle.fen_text.specs.Reading.{◌>>=◌, byte_at, side_at, begins_item, list_at, without_stop, end_at, form_at}
@@ -168,8 +169,8 @@ record ListPlace (text : List ℕ) (opening : Opening) (rest : List ℕ) : Type 
   no_square : is_square_due place ≡ false
   others : (b : ℕ) (behind : List ℕ) → rest ≡ b ∷ behind → (b == closing opening) ≡ false → may_stand place b ≡ false
 
-begins_no_item : (rest : List ℕ) (b : ℕ) (behind : List ℕ) → rest ≡ b ∷ behind → begins_item rest ≡ false → (is_digit b || b == 75) ≡ false
-begins_no_item rest b behind e none = (let h : (b == 75 || is_digit b) ≡ false = sym (ap begins_item e) ∙ none in let p = or_parts (b == 75) (is_digit b) h in or_from (is_digit b) (b == 75) p.1 p.0)
+begins_no_item : (rest : List ℕ) (b : ℕ) (behind : List ℕ) → rest ≡ b ∷ behind → begins_item rest ≡ false → (is_ascii_digit b || b == 75) ≡ false
+begins_no_item rest b behind e none = (let h : (b == 75 || is_ascii_digit b) ≡ false = sym (ap begins_item e) ∙ none in let p = or_parts (b == 75) (is_ascii_digit b) h in or_from (is_ascii_digit b) (b == 75) p.1 p.0)
 
 list_place : (text : List ℕ) (opening : Opening) (items : List Item) (rest : List ℕ) → IsOpening opening → text ≡ opening_front opening ++ (list_text items ++ rest) → ListEnds items rest → ListPlace text opening rest
 list_place text opening items rest is parts (no_item e none) = record {

@@ -5,7 +5,8 @@ use Rattle.std.specs.Option.{option_map_or}
 use Rattle.std.proofs.lemmas.Bool.{cases_Bool, eqb-true}
 use Rattle.draughts_board.specs.declared.pieces.Side.{Side}
 use Rattle.fen_text.specs.declared.fault.Fault.{Fault}
-use Rattle.fen_text.specs.Grammar.{is_digit, Item, item_text, IsItem, comma, list_text, AreItems}
+use Rattle.fen_text.specs.Grammar.{Item, item_text, IsItem, comma, list_text, AreItems}
+use Rattle.std.specs.Char.{is_ascii_digit}
 use Rattle.fen_text.specs.Spelled.{Group, group_of}
 use Rattle.fen_text.specs.Faults.{lead_text, Started, nothing, started_text, least_started}
 use Rattle.fen_text.specs.Reading.{◌>>=◌, item_at, after_comma, items_within, items_at, begins_item, list_at}
@@ -202,7 +203,7 @@ no_blank_before [] e = refl
 no_blank_before (b ∷ behind) e =
     elim (cases_Bool (b == 75)) [
       | inl king ↦ subst (λ k. (k == 32) ≡ false) (sym (eqb-true b 75 king)) refl
-      | inr other ↦ (let digit : is_digit b ≡ true = sym (ap (λ t. t || is_digit b) other) ∙ e in digit_below b 32 digit (omega arith))
+      | inr other ↦ (let digit : is_ascii_digit b ≡ true = sym (ap (λ t. t || is_ascii_digit b) other) ∙ e in digit_below b 32 digit (omega arith))
     ]
 
 items_are_list : (side : Side) (bytes : List ℕ) (r : Result (List Group × List ℕ) Fault) → begins_item bytes ≡ true → ItemsRead side 0 bytes r → ListRead side bytes r

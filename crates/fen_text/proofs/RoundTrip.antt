@@ -8,7 +8,8 @@ use Rattle.draughts_board.specs.declared.pieces.Side.{Side}
 use Rattle.draughts_board.specs.declared.pieces.Side.TheVariants.{Black, White}
 use Rattle.draughts_board.specs.declared.pieces.Cell.{Cell}
 use Rattle.draughts_board.specs.declared.pieces.Cell.TheVariants.{Empty, Man, King}
-use Rattle.fen_text.specs.Grammar.{is_digit, Numeral, one, two, are_digits, value, IsItem, AreItems, HasForm}
+use Rattle.fen_text.specs.Grammar.{Numeral, one, two, are_digits, value, IsItem, AreItems, HasForm}
+use Rattle.std.specs.Char.{is_ascii_digit}
 use Rattle.fen_text.specs.Spelled.{Group, piece_of, group_of, groups_of, covers, times_named, cell_named, Spells}
 use Rattle.fen_text.specs.Printed.{decimal, is_king, printed_item, printed_items, printed, fen_of}
 use Rattle.fen_text.proofs.Naming.{times_named-cons, counted, not_counted}
@@ -16,7 +17,7 @@ use Rattle.fen_text.proofs.Verdict.{cells_are}
 
 -- ---- the printed text has the form
 
-digit_is : (d : ℕ) → d ≤ 9 → is_digit (48 + d) ≡ true
+digit_is : (d : ℕ) → d ≤ 9 → is_ascii_digit (48 + d) ≡ true
 digit_is d le = and_from _ _ (le-leb 48 (48 + d) (omega arith)) (le-leb (48 + d) 57 (omega arith))
 
 -- a decimal number is its own value

@@ -12,10 +12,10 @@ use Rattle.fen_text.specs.declared.fault.Fault.{Fault}
 use Rattle.fen_text.specs.declared.fault.Fault.TheVariants.{Letter, Number, End}
 use Rattle.fen_text.specs.declared.refusal.FenRefusal.{FenRefusal}
 use Rattle.fen_text.specs.declared.refusal.FenRefusal.TheVariants.{BadLetter, BadSquare, Twice, TooMany, ManOnLastRow, Truncated}
-use Rattle.fen_text.specs.Spelled.{Group, NoneTwice, IsLeastTwice, cell_named, cells_named, Spells, NamesTwice, IsOver, NamesTooMany, NamesManOnLastRow}
-use Rattle.fen_text.specs.Faults.{front, IsTruncated, IsBadLetter, IsBadSquare}
+use Rattle.fen_text.specs.Spelled.{Group, NoneTwice, IsLeastTwice, cell_named, cells_named, Spells, IsOver}
+use Rattle.fen_text.specs.Faults.{front}
 use Rattle.fen_text.specs.Reading.{form_at}
-use Rattle.fen_text.specs.Refusal.{refusal_at, IsWithin}
+use Rattle.fen_text.specs.Refusal.{IsFault, refusal_at, IsWithin}
 use Rattle.fen_text.proofs.Lists.{squares_at, squares-length}
 use Rattle.fen_text.proofs.Parts.{not_both}
 use Rattle.fen_text.proofs.Again.{text_again}
@@ -26,12 +26,7 @@ use Rattle.fen_text.proofs.ReadForm.{TextFails, FormRead, FormFound, form_read}
 
 abbrev pub Outcome : List ℕ → Result Board FenRefusal → Type 0
 Outcome text (Ok p) = Spells text p
-Outcome text (Err (BadLetter at)) = IsBadLetter text at
-Outcome text (Err (BadSquare at)) = IsBadSquare text at
-Outcome text (Err (Twice n)) = NamesTwice text n
-Outcome text (Err (TooMany side)) = NamesTooMany text side
-Outcome text (Err (ManOnLastRow n)) = NamesManOnLastRow text n
-Outcome text (Err Truncated) = IsTruncated text
+Outcome text (Err fault) = IsFault text fault
 
 -- what the groups of a text that has the form lead to
 pub record IsNamed (mover : Side) (groups : List Group) (p : Board) : Type 0 where
@@ -198,6 +193,10 @@ one_answer : (len : ℕ) (x : Result (Side × List Group) Fault) (r s : Result B
 one_answer len (Ok x) r s a b = one_of_groups x.0 x.1 r s a b
 one_answer len (Err f) r s a b = a ∙ sym b
 
+-- a text has one outcome
+pub one_outcome : (text : List ℕ) (r s : Result Board FenRefusal) → Outcome text r → Outcome text s → r ≡ s
+one_outcome text r s a b = one_answer (length text) (form_at text) r s (to_verdict text r a) (to_verdict text s b)
+
 -- what was read decides the answer, both ways
 pub decides : (text : List ℕ) (r s : Result Board FenRefusal) → Verdict (length text) (form_at text) r → (r ≡ s) ↔ Outcome text s
 decides text r s v = (
@@ -229,7 +228,7 @@ cells_are cells groups full named =
     sym (ap (λ k. get_or cells k Empty) back) ∙ here ∙ sym at)
 
 pub one_position : (text : List ℕ) (p q : Board) → Spells text p → Spells text q → p ≡ q
-one_position text p q a b = same p q (one_answer (length text) (form_at text) (Ok p) (Ok q) (to_verdict text (Ok p) a) (to_verdict text (Ok q) b))
+one_position text p q a b = same p q (one_outcome text (Ok p) (Ok q) a b)
   where
     answered : Board → Result Board FenRefusal
     answered x = Ok x

@@ -6,7 +6,8 @@ use Rattle.draughts_board.specs.declared.pieces.Side.{Side}
 use Rattle.draughts_board.specs.declared.pieces.Side.TheVariants.{Black, White}
 use Rattle.fen_text.specs.declared.fault.Fault.{Fault}
 use Rattle.fen_text.specs.declared.fault.Fault.TheVariants.{Letter, Number, End}
-use Rattle.fen_text.specs.Grammar.{letter_of, is_digit, Numeral, one, two, numeral_text, are_digits, value, Item, mark, IsItem, comma, list_text, AreItems, opening_text}
+use Rattle.fen_text.specs.Grammar.{letter_of, Numeral, one, two, numeral_text, are_digits, value, Item, mark, IsItem, comma, list_text, AreItems, opening_text}
+use Rattle.std.specs.Char.{is_ascii_digit}
 use Rattle.fen_text.specs.Spelled.{Group, group_of}
 use Rattle.fen_text.specs.Faults.{lead_text, Opening, first_list, second_list, opening_front, IsOpening, Started, nothing, king_mark, range_sign, started_text, HasStarted, least_started, Place, at_side, at_colon, at_colour, at_other_colour, at_list, in_item, behind_item, at_end, front, IsPlace, closing, carries_on, may_end, is_square_due, least_square, StandsWrong, NumberWrong}
 use Rattle.fen_text.specs.Reading.{◌>>=◌, byte_at, side_at, square_at, king_at, last_at, item_at, items_at, begins_item, list_at, end_at, form_at}
@@ -27,7 +28,7 @@ square_wrong least rest wrong =
     ∙ ap (λ b. cond b (Ok (value wrong.number, wrong.behind)) (Err (Number (length (numeral_text wrong.number ++ wrong.behind))))) out
     ∙ ap (λ (t : List ℕ). Err (Number (length t))) (sym wrong.stands)
 
-no_square : (least b : ℕ) (behind : List ℕ) → is_digit b ≡ false → square_at least (b ∷ behind) ≡ Err (Number (suc (length behind)))
+no_square : (least b : ℕ) (behind : List ℕ) → is_ascii_digit b ≡ false → square_at least (b ∷ behind) ≡ Err (Number (suc (length behind)))
 unfolding square_at
 no_square least b behind e = rw e refl
 
@@ -68,7 +69,7 @@ item_fails side items (range_sign king first) rest f has ready e =
 
 digits_begin : (n : Numeral) (rest : List ℕ) → are_digits n ≡ true → (begins_item (numeral_text n ++ rest) ≡ true) × (begins 32 (numeral_text n ++ rest) ≡ false) × (begins 75 (numeral_text n ++ rest) ≡ false)
 digits_begin (one a) rest d = (rw (d, digit_above a 75 d (omega arith)) refl, digit_below a 32 d (omega arith), digit_above a 75 d (omega arith))
-digits_begin (two a b) rest d = (let e : is_digit a ≡ true = (and_parts _ _ d).0 in (rw (e, digit_above a 75 e (omega arith)) refl, digit_below a 32 e (omega arith), digit_above a 75 e (omega arith)))
+digits_begin (two a b) rest d = (let e : is_ascii_digit a ≡ true = (and_parts _ _ d).0 in (rw (e, digit_above a 75 e (omega arith)) refl, digit_below a 32 e (omega arith), digit_above a 75 e (omega arith)))
 
 mark_begins : (king : Bool) (n : Numeral) (rest : List ℕ) → are_digits n ≡ true → (begins_item (mark king ++ (numeral_text n ++ rest)) ≡ true) × (begins 32 (mark king ++ (numeral_text n ++ rest)) ≡ false)
 mark_begins true n rest d = (refl, refl)
@@ -123,9 +124,9 @@ not_closed (second_list mover colour items) rest groups b behind is read wrong =
 
 -- an item is not carried on
 carries_not : (first : Numeral) (last : Option Numeral) (b : ℕ) (behind : List ℕ) → carries_on first last b ≡ false → stops first last (b ∷ behind) ≡ true
-carries_not (one a) None b behind e = (let p = or_parts _ _ e in let d : is_digit b ≡ false = p.0 in let s : (b == 45) ≡ false = p.1 in rw (d, s) refl)
+carries_not (one a) None b behind e = (let p = or_parts _ _ e in let d : is_ascii_digit b ≡ false = p.0 in let s : (b == 45) ≡ false = p.1 in rw (d, s) refl)
 carries_not (two x y) None b behind e = (let s : (b == 45) ≡ false = e in rw s refl)
-carries_not first (Some (one a)) b behind e = (let d : is_digit b ≡ false = e in rw d refl)
+carries_not first (Some (one a)) b behind e = (let d : is_ascii_digit b ≡ false = e in rw d refl)
 carries_not first (Some (two x y)) b behind e = refl
 
 snoc_begins : (items : List Item) (item : Item) (rest : List ℕ) → AreItems items → IsItem item → begins_item (list_text (items ++ item ∷ []) ++ rest) ≡ true
@@ -172,7 +173,7 @@ letter_refused (at_other_colour mover colour items) (b ∷ behind) is due wrong 
 letter_refused (at_list opening) (b ∷ behind) is due wrong =
     let p = or_parts _ _ wrong in
     let q = or_parts _ _ p.0 in
-    let digit : is_digit b ≡ false = q.0 in
+    let digit : is_ascii_digit b ≡ false = q.0 in
     let king : (b == 75) ≡ false = q.1 in
     not_closed opening (b ∷ behind) [] b behind is (list_at-none (colour_of opening) (b ∷ behind) (rw (king, digit) refl)) p.1
 letter_refused (in_item opening items blanks started) (b ∷ behind) is due wrong = absurd (let h : true ≡ false = due in cc)

@@ -1,9 +1,10 @@
--- Where a text cannot go on. A place is what stands before it, in the grammar's parts; each place says which bytes may
--- stand there, which square, and whether the text may end there.
+-- Where a text cannot go on. A place is what stands before it, in the grammar's parts; each place
+-- says which bytes may stand there, which square, and whether the text may end there.
 use Rattle.std.specs.Prelude.{◌≡◌, ◌≢◌, ℕ, ◌<◌, ◌⊎◌, List, [], ◌∷◌, ◌++◌, length, Option, Some, None, Bool, true, false, ◌&&◌, ◌||◌, not, ◌==◌}
 use Rattle.draughts_board.specs.Board.{other}
 use Rattle.draughts_board.specs.declared.pieces.Side.{Side}
-use Rattle.fen_text.specs.Grammar.{letter_of, is_digit, Numeral, one, two, numeral_text, are_digits, value, IsSquareFrom, Item, mark, IsItem, AreItems, comma, list_text, opening_text, turn_text}
+use Rattle.fen_text.specs.Grammar.{letter_of, Numeral, one, two, numeral_text, are_digits, value, IsSquareFrom, Item, mark, IsItem, AreItems, comma, list_text, opening_text, turn_text}
+use Rattle.std.specs.Char.{is_ascii_digit}
 
 -- ---- places
 
@@ -12,7 +13,8 @@ pub data Opening : Type 0 where
   first_list : Side → Side → Opening
   second_list : Side → Side → List Item → Opening
 
--- how far an item has come: nothing of it stands yet, or its `K`, or its first square and the `-` of a range
+-- how far an item has come: nothing of it stands yet, or its `K`, or its first square and the `-`
+-- of a range
 pub data Started : Type 0 where
   nothing : Started
   king_mark : Started
@@ -40,7 +42,8 @@ pub data Place : Type 0 where
 
 abbrev pub opening_front : Opening → List ℕ
 opening_front (first_list to_move colour) = opening_text to_move colour
-opening_front (second_list to_move colour items) = opening_text to_move colour ++ (list_text items ++ turn_text colour)
+opening_front (second_list to_move colour items) =
+    opening_text to_move colour ++ (list_text items ++ turn_text colour)
 
 abbrev pub started_text : Started → List ℕ
 started_text nothing = []
@@ -56,11 +59,14 @@ abbrev pub front : Place → List ℕ
 front at_side = []
 front (at_colon to_move) = letter_of to_move ∷ []
 front (at_colour to_move) = letter_of to_move ∷ 58 ∷ []
-front (at_other_colour to_move colour items) = opening_text to_move colour ++ (list_text items ++ 58 ∷ [])
+front (at_other_colour to_move colour items) =
+    opening_text to_move colour ++ (list_text items ++ 58 ∷ [])
 front (at_list opening) = opening_front opening
-front (in_item opening items blanks started) = opening_front opening ++ (lead_text items blanks ++ started_text started)
+front (in_item opening items blanks started) =
+    opening_front opening ++ (lead_text items blanks ++ started_text started)
 front (behind_item opening items item) = opening_front opening ++ list_text (items ++ item ∷ [])
-front (at_end to_move colour first second) = opening_front (second_list to_move colour first) ++ (list_text second ++ 46 ∷ [])
+front (at_end to_move colour first second) =
+    opening_front (second_list to_move colour first) ++ (list_text second ++ 46 ∷ [])
 
 abbrev pub IsOpening : Opening → Type 0
 IsOpening (first_list to_move colour) = Unit {0}
@@ -79,7 +85,8 @@ IsPlace (at_colon to_move) = Unit {0}
 IsPlace (at_colour to_move) = Unit {0}
 IsPlace (at_other_colour to_move colour items) = AreItems items
 IsPlace (at_list opening) = IsOpening opening
-IsPlace (in_item opening items blanks started) = IsOpening opening × AreItems items × HasStarted items started
+IsPlace (in_item opening items blanks started) =
+    IsOpening opening × AreItems items × HasStarted items started
 IsPlace (behind_item opening items item) = IsOpening opening × AreItems items × IsItem item
 IsPlace (at_end to_move colour first second) = AreItems first × AreItems second
 
@@ -97,22 +104,23 @@ has_room (two a b) = false
 
 -- what may carry an item on: a second digit, or the `-` of a range
 abbrev pub carries_on : Numeral → Option Numeral → ℕ → Bool
-carries_on first None b = (has_room first && is_digit b) || b == 45
-carries_on first (Some last) b = has_room last && is_digit b
+carries_on first None b = (has_room first && is_ascii_digit b) || b == 45
+carries_on first (Some last) b = has_room last && is_ascii_digit b
 
 abbrev pub may_begin : Started → ℕ → Bool
-may_begin nothing b = is_digit b || b == 75 || b == 32
-may_begin king_mark b = is_digit b
-may_begin (range_sign king first) b = is_digit b
+may_begin nothing b = is_ascii_digit b || b == 75 || b == 32
+may_begin king_mark b = is_ascii_digit b
+may_begin (range_sign king first) b = is_ascii_digit b
 
 abbrev pub may_stand : Place → ℕ → Bool
 may_stand at_side b = b == 66 || b == 87
 may_stand (at_colon to_move) b = b == 58
 may_stand (at_colour to_move) b = b == 66 || b == 87
 may_stand (at_other_colour to_move colour items) b = b == letter_of (other colour)
-may_stand (at_list opening) b = is_digit b || b == 75 || b == closing opening
+may_stand (at_list opening) b = is_ascii_digit b || b == 75 || b == closing opening
 may_stand (in_item opening items blanks started) b = may_begin started b
-may_stand (behind_item opening items item) b = carries_on item.first item.last b || b == 44 || b == closing opening
+may_stand (behind_item opening items item) b =
+    carries_on item.first item.last b || b == 44 || b == closing opening
 may_stand (at_end to_move colour first second) b = false
 
 -- the text may end behind the second list and behind the full stop
@@ -167,7 +175,7 @@ StandsWrong place (b ∷ behind) = may_stand place b ≡ false
 -- a number takes two digits where two stand
 abbrev pub ends_before : Numeral → List ℕ → Bool
 ends_before (one a) [] = true
-ends_before (one a) (b ∷ behind) = not (is_digit b)
+ends_before (one a) (b ∷ behind) = not (is_ascii_digit b)
 ends_before (two a b) behind = true
 
 -- a number that is no square's, or that of a square before the least
@@ -196,7 +204,8 @@ pub record IsBadLetter (text : List ℕ) (at : ℕ) : Type 0 where
   pub letter : is_square_due place ≡ false
   pub wrong : StandsWrong place rest
 
--- a square is due at `at` and the byte there may not stand there, or a number stands there that may not
+-- a square is due at `at` and the byte there may not stand there, or a number stands there that may
+-- not
 pub record IsBadSquare (text : List ℕ) (at : ℕ) : Type 0 where
   pub place : Place
   pub rest : List ℕ

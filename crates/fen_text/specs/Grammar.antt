@@ -1,5 +1,6 @@
 -- The grammar of a FEN: of which parts a text is made, and how they are written.
-use Rattle.std.specs.Prelude.{◌≡◌, ℕ, ◌+◌, ◌-◌, ◌*◌, ◌≤◌, List, [], ◌∷◌, ◌++◌, Option, Some, None, IfSome, Bool, true, false, ◌&&◌, nat_le, replicate}
+use Rattle.std.specs.Prelude.{◌≡◌, ℕ, ◌+◌, ◌-◌, ◌*◌, ◌≤◌, List, [], ◌∷◌, ◌++◌, Option, Some, None, IfSome, Bool, true, false, ◌&&◌, replicate}
+use Rattle.std.specs.Char.{is_ascii_digit}
 use Rattle.std.specs.List.{flat_map, AllByRecursion}
 use Rattle.draughts_board.specs.Board.{other}
 use Rattle.draughts_board.specs.declared.pieces.Side.{Side}
@@ -11,10 +12,6 @@ use Rattle.draughts_board.specs.declared.pieces.Side.TheVariants.{Black, White}
 abbrev pub letter_of : Side → ℕ
 letter_of Black = 66
 letter_of White = 87
-
--- the byte is one of `0` to `9`
-abbrev pub is_digit : ℕ → Bool
-is_digit b = nat_le 48 b && nat_le b 57
 
 -- ---- squares
 
@@ -28,8 +25,8 @@ numeral_text (one a) = a ∷ []
 numeral_text (two a b) = a ∷ b ∷ []
 
 abbrev pub are_digits : Numeral → Bool
-are_digits (one a) = is_digit a
-are_digits (two a b) = is_digit a && is_digit b
+are_digits (one a) = is_ascii_digit a
+are_digits (two a b) = is_ascii_digit a && is_ascii_digit b
 
 abbrev pub value : Numeral → ℕ
 value (one a) = a - 48
@@ -43,8 +40,8 @@ pub record IsSquareFrom (least : ℕ) (n : Numeral) : Type 0 where
 
 -- ---- items
 
--- A square or a range of squares, all with kings or all with men. The blanks are those between the comma before
--- it and itself; a list's first item has no comma and no blanks before it.
+-- A square or a range of squares, all with kings or all with men. The blanks are those between the
+-- comma before it and itself; a list's first item has no comma and no blanks before it.
 pub record Item : Type 0 where
   pub blanks : ℕ
   pub king : Bool
@@ -108,7 +105,8 @@ turn_text colour = 58 ∷ letter_of (other colour) ∷ []
 
 abbrev pub text_of : Draft → List ℕ
 text_of d =
-    opening_text d.to_move d.colour ++ (list_text d.first ++ (turn_text d.colour ++ (list_text d.second ++ stop_text d.stop)))
+    opening_text d.to_move d.colour
+    ++ (list_text d.first ++ (turn_text d.colour ++ (list_text d.second ++ stop_text d.stop)))
 
 -- The text has the form: it is made of these parts.
 pub record HasForm (text : List ℕ) (d : Draft) : Type 0 where

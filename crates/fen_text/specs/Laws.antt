@@ -1,7 +1,7 @@
 -- Laws of the printed spelling.
 use Rattle.std.specs.Prelude.{◌≡◌, ℕ, List, Bool, true, ◌||◌, ◌==◌, All}
 use Rattle.draughts_board.specs.Board.{Board, IsLawful}
-use Rattle.fen_text.specs.Grammar.{is_digit}
+use Rattle.std.specs.Char.{is_ascii_digit}
 use Rattle.fen_text.specs.Spelled.{Spells}
 use Rattle.fen_text.specs.Printed.{fen_of}
 
@@ -19,7 +19,7 @@ SpelledTellsApart = (text : List ℕ) (p q : Board) → Spells text p → Spells
 
 -- a digit, `,`, `:`, `B`, `K` or `W`
 abbrev pub is_printed_byte : ℕ → Bool
-is_printed_byte b = is_digit b || b == 44 || b == 58 || b == 66 || b == 75 || b == 87
+is_printed_byte b = is_ascii_digit b || b == 44 || b == 58 || b == 66 || b == 75 || b == 87
 
 -- only these bytes are printed: no blank, no end of line, no quote
 abbrev pub PrintedIsPlain : Type 0

@@ -25,11 +25,13 @@ abbrev pub next_text : Bool → Item → List ℕ
 next_text true i = item_text i
 next_text false i = 44 ∷ item_text i
 
--- the side's items among these cells, the first of which is that of square n, in rising order of square
+-- the side's items among these cells, the first of which is that of square n, in rising order of
+-- square
 abbrev pub printed_items : Side → ℕ → List Cell → List Item
 printed_items side n [] = []
 printed_items side n (c ∷ cells) =
-    (if belongs side c then printed_item n c ∷ printed_items side (n + 1) cells else printed_items side (n + 1) cells)
+    (if belongs side c then printed_item n c ∷ printed_items side (n + 1) cells
+    else printed_items side (n + 1) cells)
 
 -- White's list, then Black's, and no full stop
 abbrev pub printed : Board → Draft

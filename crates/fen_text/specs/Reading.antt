@@ -1,5 +1,5 @@
--- Reading from the front as functions that compute: each answers what it read and the bytes behind it, or the
--- first fault. Nobody has to believe them: that they keep to the grammar is proved.
+-- Reading from the front as functions that compute: each answers what it read and the bytes behind
+-- it, or the first fault. Nobody has to believe them: that they keep to the grammar is proved.
 use Rattle.std.specs.Option.{option_map_or}
 use Rattle.std.specs.Prelude.{◌≡◌, ℕ, zero, suc, ◌+◌, ◌-◌, ◌*◌, List, [], ◌∷◌, ◌++◌, length, Option, Some, None, Result, Ok, Err, Bool, true, false, ◌&&◌, ◌||◌, ◌==◌, nat_le, if◌then◌else◌}
 use Rattle.draughts_board.specs.Board.{other}
@@ -7,7 +7,8 @@ use Rattle.draughts_board.specs.declared.pieces.Side.{Side}
 use Rattle.draughts_board.specs.declared.pieces.Side.TheVariants.{Black, White}
 use Rattle.fen_text.specs.declared.fault.Fault.{Fault}
 use Rattle.fen_text.specs.declared.fault.Fault.TheVariants.{Letter, Number, End}
-use Rattle.fen_text.specs.Grammar.{letter_of, is_digit}
+use Rattle.fen_text.specs.Grammar.{letter_of}
+use Rattle.std.specs.Char.{is_ascii_digit}
 use Rattle.fen_text.specs.Spelled.{Group}
 
 infixl 10 ◌>>=◌
@@ -29,19 +30,22 @@ byte_at due (b ∷ behind) = (if b == due then Ok behind else Err (Letter (suc (
 unfoldable pub side_at : List ℕ → Result (Side × List ℕ) Fault
 side_at [] = Err End
 side_at (b ∷ behind) =
-    (if b == 66 then Ok (Black, behind) else (if b == 87 then Ok (White, behind) else Err (Letter (suc (length behind)))))
+    (if b == 66 then Ok (Black, behind)
+    else (if b == 87 then Ok (White, behind) else Err (Letter (suc (length behind)))))
 
 -- a number of two digits where two stand, or else of one
 abbrev pub second_digit : ℕ → List ℕ → ℕ × List ℕ
 second_digit tens [] = (tens, [])
-second_digit tens (b ∷ behind) = (if is_digit b then (10 * tens + (b - 48), behind) else (tens, b ∷ behind))
+second_digit tens (b ∷ behind) =
+    (if is_ascii_digit b then (10 * tens + (b - 48), behind) else (tens, b ∷ behind))
 
 -- a square that is no less than `least`
 unfoldable pub square_at : ℕ → List ℕ → Result (ℕ × List ℕ) Fault
 square_at least [] = Err End
 square_at least (b ∷ behind) =
     let n = second_digit (b - 48) behind in
-    (if is_digit b && (nat_le least n.0 && nat_le n.0 32) then Ok n else Err (Number (suc (length behind))))
+    (if is_ascii_digit b && (nat_le least n.0 && nat_le n.0 32) then Ok n
+    else Err (Number (suc (length behind))))
 
 abbrev pub king_at : List ℕ → Bool × List ℕ
 king_at [] = (false, [])
@@ -72,7 +76,11 @@ unfoldable pub items_within : ℕ → Side → List ℕ → Result (List Group �
 items_within zero side bytes = Err End
 items_within (suc n) side bytes = do
   item ← item_at side bytes
-  option_map_or (λ next. items_within n side next >>= λ more. Ok (item.0 ∷ more.0, more.1)) (after_comma item.1) (Ok (item.0 ∷ [], item.1))
+  option_map_or (λ next. items_within n side next >>= λ more. Ok (
+    item.0
+        ∷ more.0,
+    more.1,
+  )) (after_comma item.1) (Ok (item.0 ∷ [], item.1))
 
 -- there are at most as many items as bytes
 abbrev pub items_at : Side → List ℕ → Result (List Group × List ℕ) Fault
@@ -80,7 +88,7 @@ items_at side bytes = items_within (length bytes) side bytes
 
 abbrev pub begins_item : List ℕ → Bool
 begins_item [] = false
-begins_item (b ∷ behind) = b == 75 || is_digit b
+begins_item (b ∷ behind) = b == 75 || is_ascii_digit b
 
 unfoldable pub list_at : Side → List ℕ → Result (List Group × List ℕ) Fault
 list_at side bytes = (if begins_item bytes then items_at side bytes else Ok ([], bytes))

@@ -14,11 +14,13 @@ pub record Holds (kept : List Cell) (again : Option ℕ) (groups : List Group) :
 
 -- what stands on a square stays there
 abbrev pub cells_with : List Cell → ℕ → Cell → List Cell
-cells_with cells n c = (if is_empty (slice_index_or cells (n - 1) Empty) then slice_set cells (n - 1) c else cells)
+cells_with cells n c =
+    (if is_empty (slice_index_or cells (n - 1) Empty) then slice_set cells (n - 1) c else cells)
 
 abbrev pub least_of : ℕ → Option ℕ → ℕ
 least_of n None = n
 least_of n (Some m) = (if nat_lt m n then m else n)
 
 abbrev pub twice_with : List Cell → Option ℕ → ℕ → Option ℕ
-twice_with cells twice n = (if is_empty (slice_index_or cells (n - 1) Empty) then twice else Some (least_of n twice))
+twice_with cells twice n =
+    (if is_empty (slice_index_or cells (n - 1) Empty) then twice else Some (least_of n twice))

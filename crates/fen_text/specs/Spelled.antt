@@ -27,7 +27,8 @@ last_of first None = value first
 last_of first (Some last) = value last
 
 abbrev pub group_of : Side → Item → Group
-group_of side i = record { side = side; king = i.king; first = value i.first; last = last_of i.first i.last }
+group_of side i =
+    record { side = side; king = i.king; first = value i.first; last = last_of i.first i.last }
 
 -- all that the text names, in its order
 abbrev pub groups_of : Draft → List Group
@@ -59,8 +60,8 @@ cells_named groups = map (λ n. cell_named n groups) squares
 
 -- ---- the outcomes of a text that has the form
 
--- The text spells the position: it names no square twice, and the position is what it names and keeps the rule on
--- pieces.
+-- The text spells the position: it names no square twice, and the position is what it names and
+-- keeps the rule on pieces.
 pub record Spells (text : List ℕ) (p : Board) : Type 0 where
   pub draft : Draft
   pub form : HasForm text draft
@@ -87,8 +88,8 @@ pub record NamesTooMany (text : List ℕ) (side : Side) : Type 0 where
   pub once : NoneTwice (groups_of draft)
   pub over : IsOver side (cells_named (groups_of draft))
 
--- The text has the form and names no square twice, neither side has more than 12 pieces, and this is the least
--- square with a man on its farthest row.
+-- The text has the form and names no square twice, neither side has more than 12 pieces, and this
+-- is the least square with a man on its farthest row.
 pub record NamesManOnLastRow (text : List ℕ) (n : ℕ) : Type 0 where
   pub draft : Draft
   pub form : HasForm text draft

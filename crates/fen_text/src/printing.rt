@@ -38,8 +38,10 @@ fn push_item(text: &mut ArrayString<104>, square: Square, cell: Cell)
 /// Appends a square behind those of a list so far, of which this may be the first.
 fn push_next(text: &mut ArrayString<104>, is_first: bool, square: Square, cell: Cell)
     requires { array_string_len text.old + 4 ≤ 104 }
-    ensures bytes { text.new.bytes ≡ text.old.bytes ++ next_text is_first (printed_item square cell) }
-    ensures len { array_string_len text.new ≤ array_string_len text.old + (if is_first then 3 else 4) }
+    ensures bytes { text.new.bytes ≡ text.old.bytes
+        ++ next_text is_first (printed_item square cell) }
+    ensures len { array_string_len text.new
+        ≤ array_string_len text.old + (if is_first then 3 else 4) }
 {
     if !is_first {
         text.push(',');
@@ -51,7 +53,8 @@ fn push_next(text: &mut ArrayString<104>, is_first: bool, square: Square, cell: 
 fn push_list(text: &mut ArrayString<104>, p: &Position, side: Side)
     requires lawful { IsLawful p.now }
     requires room { array_string_len text.old + 47 ≤ 104 }
-    ensures bytes { text.new.bytes ≡ text.old.bytes ++ list_text (printed_items side 1 p.now.cells) }
+    ensures bytes { text.new.bytes ≡ text.old.bytes
+        ++ list_text (printed_items side 1 p.now.cells) }
     ensures len { array_string_len text.new ≤ array_string_len text.old + 47 }
 {
     let mut is_first = true;
@@ -72,6 +75,7 @@ fn push_list(text: &mut ArrayString<104>, p: &Position, side: Side)
 pub fn print_fen(p: &Position) -> ArrayString<104>
     ensures text { result.bytes ≡ fen_of p.now }
     ensures short { length result.bytes ≤ 99 }
+    ensures lawful { IsLawful p.now }
 {
     let mut text = ArrayString::new();
     text.push(char::from(letter(p.to_move())));

@@ -1,13 +1,14 @@
 //! Reading a text from the front. Each part answers what it read and the bytes behind it.
-ghost use Rattle.std.specs.Prelude.{◌≡◌, ◌<◌, ◌≤◌, ◌↔◌, ℕ, IfOk, IfSome, length};
+ghost use Rattle.std.specs.Prelude.{◌≡◌, ◌<◌, ◌≤◌, ◌↔◌, IfOk, IfSome, length};
 ghost use Rattle.std.specs.Option.{option_map};
 ghost use Rattle.draughts_board.specs.Board.{Board, IsLawful};
-ghost use Rattle.fen_text.specs.Spelled.{Spells, NamesTwice, NamesTooMany, NamesManOnLastRow};
-ghost use Rattle.fen_text.specs.Faults.{IsBadLetter, IsBadSquare, IsTruncated};
+ghost use Rattle.fen_text.specs.Spelled.{Spells};
 ghost use Rattle.fen_text.specs.Printed.{fen_of};
-ghost use Rattle.fen_text.specs.Refusal.{IsWithin, refusal_at};
-ghost use Rattle.draughts_board.specs.declared.pieces.Side.{Side as Player};
-ghost use Rattle.fen_text.specs.Reading.{Gives, byte_at, side_at, second_digit, square_at, king_at, last_at, item_at, without_blanks, after_comma, items_at, list_at, without_stop, end_at, form_at};
+ghost use Rattle.fen_text.specs.Refusal.{IsFault, IsWithin, refusal_at};
+ghost use Rattle.fen_text.specs.declared.refusal.FenRefusal.{FenRefusal};
+ghost use Rattle.fen_text.specs.Reading.{Gives, byte_at, side_at, second_digit, square_at, king_at, last_at};
+ghost use Rattle.fen_text.specs.Reading.{item_at, without_blanks, after_comma, items_at, list_at, without_stop};
+ghost use Rattle.fen_text.specs.Reading.{end_at, form_at};
 ghost use Rattle.fen_text.specs.Seen.{group_seen, GivesGroups, GivesSetup};
 
 use crate::fault::Fault;
@@ -189,7 +190,7 @@ fn without_stop(bytes: &[u8]) -> &[u8]
     }
 }
 
-/// Nothing.
+/// Nothing stands there.
 fn end(bytes: &[u8]) -> Result<(), Fault>
     ensures { Gives (λ x. x) result (end_at bytes.now) }
 {
@@ -240,20 +241,14 @@ fn refusal_of(fault: Fault, len: usize) -> FenRefusal
 /// pieces as `TooMany`, Black counted first; else the least square with a man on its farthest row as
 /// `ManOnLastRow`.
 pub fn read_fen(text: &[u8]) -> Result<Position, FenRefusal>
+    // What is read is what the text spells.
     ensures ok { (p : Board) → (result ≡ Ok p) ↔ Spells text.now p }
 
     // What is printed is read as the position that it was printed from.
     ensures printed { (p : Board) → IsLawful p → text.now ≡ fen_of p → result ≡ Ok p }
 
-    // The first place that cannot go on.
-    ensures bad_letter { (at : ℕ) → (result ≡ Err (FenRefusal.BadLetter at)) ↔ IsBadLetter text.now at }
-    ensures bad_square { (at : ℕ) → (result ≡ Err (FenRefusal.BadSquare at)) ↔ IsBadSquare text.now at }
-    ensures truncated { (result ≡ Err FenRefusal.Truncated) ↔ IsTruncated text.now }
-
-    // The text has the form, and is no position's.
-    ensures twice { (s : ℕ) → (result ≡ Err (FenRefusal.Twice s)) ↔ NamesTwice text.now s }
-    ensures too_many { (side : Player) → (result ≡ Err (FenRefusal.TooMany side)) ↔ NamesTooMany text.now side }
-    ensures man { (s : ℕ) → (result ≡ Err (FenRefusal.ManOnLastRow s)) ↔ NamesManOnLastRow text.now s }
+    // Each refusal comes exactly where the text has that fault.
+    ensures refused { (fault : FenRefusal) → (result ≡ Err fault) ↔ IsFault text.now fault }
 {
     let (to_move, setup) = match form(text) {
         Ok(found) => found,

@@ -15,17 +15,25 @@ pub enum FenRefusal {
     #[error("no square at byte {0}")]
     BadSquare(usize),
     /// The least square that is named more than once.
-    #[error("a square is named more than once")]
+    #[error("square {} is named more than once", .0.number())]
     Twice(Square),
     /// The side has more than 12 pieces; Black is counted first.
-    #[error("more than 12 pieces of one side")]
+    #[error("{} has more than 12 pieces", name(*.0))]
     TooMany(Side),
     /// The least square with a man on its farthest row: a Black man on 29 to 32, a White man on 1 to 4.
-    #[error("a man on its farthest row")]
+    #[error("the man on square {} is on its farthest row", .0.number())]
     ManOnLastRow(Square),
     /// The text ends where a letter, a `:` or a square is due.
     #[error("the text ends too early")]
     Truncated,
+}
+
+/// The name of a side.
+fn name(side: Side) -> &'static str {
+    match side {
+        Side::Black => "Black",
+        Side::White => "White",
+    }
 }
 
 impl From<PlaceRefusal> for FenRefusal {
@@ -34,6 +42,7 @@ impl From<PlaceRefusal> for FenRefusal {
 
     ghost from_gives = { λ refusal result. result ≡ of_place refusal };
 
+    /// What cells that are no position are refused as.
     fn from(refusal: PlaceRefusal) -> FenRefusal {
         match refusal {
             PlaceRefusal::TooMany(side) => FenRefusal::TooMany(side),

@@ -1,6 +1,7 @@
 //! Texts and their outcomes, worked out by hand from the grammar.
 use crate::{FenRefusal, print_fen, read_fen};
-use draughts_board::{Position, Side};
+use draughts_board::{Position, Side, Square};
+use std::test::Fail;
 
 /// What a text is answered with: the printed FEN of its position, or the refusal.
 #[derive(Clone, Copy, Debug)]
@@ -16,6 +17,7 @@ enum Want {
 
 use Want::*;
 
+/// The refusal is the one that is wanted.
 fn is_refusal(refusal: FenRefusal, want: Want) -> bool {
     match refusal {
         FenRefusal::BadLetter(at) => matches!(want, BadLetter(due) if due == at),
@@ -27,6 +29,7 @@ fn is_refusal(refusal: FenRefusal, want: Want) -> bool {
     }
 }
 
+/// The text is answered so.
 fn meets(text: &[u8], want: Want) -> bool {
     match read_fen(text) {
         Ok(p) => matches!(want, Spells(fen) if print_fen(&p).as_str() == fen),
@@ -117,18 +120,6 @@ fn refuses_a_letter(rt: HostRuntime) {
         ("W:W21,21:B5x", 11),
     ] {
         assert!(rt; meets(text.as_bytes(), BadLetter(at)), "{text}");
-    }
-}
-
-#[test]
-fn answers_each_byte_alone(rt: HostRuntime) {
-    for byte in 0..=255 {
-        let want = if byte == b'B' || byte == b'W' {
-            Truncated
-        } else {
-            BadLetter(0)
-        };
-        assert!(rt; meets(&[byte], want), "{byte}");
     }
 }
 
@@ -312,4 +303,33 @@ fn prints_the_start(rt: HostRuntime) {
         "B:W21,22,23,24,25,26,27,28,29,30,31,32:B1,2,3,4,5,6,7,8,9,10,11,12"
     );
     assert_eq!(rt; read_fen(fen.as_str().as_bytes()), Ok(Position::start()));
+}
+
+#[test]
+fn refusals_name_their_data(rt: HostRuntime) -> Result<(), Fail> {
+    let square = Square::new(9).ok_or("no square")?;
+    for (refusal, want) in [
+        (FenRefusal::BadLetter(7), "byte 7 may not stand there"),
+        (FenRefusal::BadSquare(3), "no square at byte 3"),
+        (
+            FenRefusal::Twice(square),
+            "square 9 is named more than once",
+        ),
+        (
+            FenRefusal::TooMany(Side::Black),
+            "Black has more than 12 pieces",
+        ),
+        (
+            FenRefusal::TooMany(Side::White),
+            "White has more than 12 pieces",
+        ),
+        (
+            FenRefusal::ManOnLastRow(square),
+            "the man on square 9 is on its farthest row",
+        ),
+        (FenRefusal::Truncated, "the text ends too early"),
+    ] {
+        assert_eq!(rt; format!(in rt.alloc(); "{refusal}")?.as_str(), want);
+    }
+    Ok(())
 }

@@ -2,8 +2,8 @@
 ghost use Rattle.std.specs.Prelude.{◌≡◌, IfOk};
 ghost use Rattle.move_count_bench.specs.Lists.{lists_of};
 
+use crate::generator::Generator;
 use draughts_board::Position;
-use draughts_rules::{apply, legal_moves};
 use std::alloc::{AllocError, Global};
 
 /// Why the lists were not counted.
@@ -16,19 +16,19 @@ pub enum CountError {
 }
 
 /// How many lists of n legal moves there are from the position. The last moves are counted, and not made.
-pub fn count(alloc: Global, p: &Position, n: u32) -> Result<u64, CountError>
+pub fn count(generator: Generator, alloc: Global, p: &Position, n: u32) -> Result<u64, CountError>
     ensures { IfOk result (λ lists. lists ≡ lists_of n p.now) }
 {
     if n == 0 {
         return Ok(1);
     }
-    let moves = legal_moves(alloc, p)?;
+    let moves = generator.legal_moves(alloc, p)?;
     if n == 1 {
         return Ok(moves.len() as u64);
     }
     let mut lists = 0u64;
     for m in &moves {
-        let behind = count(alloc, &apply(p, m), n - 1)?;
+        let behind = count(generator, alloc, &generator.apply(p, m), n - 1)?;
         lists = lists.checked_add(behind).ok_or(CountError::TooMany)?;
     }
     Ok(lists)

@@ -1,6 +1,8 @@
-pub mod LookAheadLemmas
+pub mod FactLemmas
+pub mod ShownLemmas
 pub mod RootLemmas
+pub mod WritingLemmas
+pub mod TableLemmas
 pub mod RefusalLemmas
-pub mod RunLemmas
-mod TableLemmas
-mod CertificateLemmas
+pub mod SolvingLemmas
+pub mod VerifyingLemmas

@@ -1,133 +1,173 @@
 -- Why a run is refused, and what that says.
-use Rattle.std.proofs.Common.{◌≡◌, ◌≢◌, ℕ, ◌<◌, ◌≤◌, ◌⊎◌, inl, inr, List, [], Option, None, Some, refl, sym, ◌∙◌, ap, subst, arith, length, take, drop, length-drop}
-use Rattle.std.specs.Prelude.{Result, Ok, Err, IfSome, OnOk, OnErr}
-use Rattle.std.specs.Io.KnownBytes.{Appends}
-use Rattle.std.proofs.lemmas.List.{append-nil, take-append-drop}
-use Rattle.bench_edges.specs.Faults.{CountsFaults}
-use Rattle.bench_edges.specs.KnownBytes.{AppendsFront}
+use Rattle.std.proofs.Common.{◌≡◌, ◌≢◌, ℕ, ◌+◌, ◌<◌, ◌≤◌, inl, inr, Bool, true, List, [], Option, None, Some, refl, sym, ◌∙◌, ap, subst, arith, length}
+use Rattle.std.specs.Prelude.{IfSome, IsSome, IfOk, IfErr, Result, Ok, Err}
+use Rattle.std.specs.Io.KnownBytes.{Consumes, IsAtEnd}
+use Rattle.bench_edges.specs.KnownBytes.{ConsumesAtMost, ConsumesJust}
+use Rattle.bench_edges.specs.Reading.{IsRefusedFor}
+use Rattle.bench_edges.specs.declared.source.ReadRefusal.{ReadRefusal}
+use Rattle.bench_edges.specs.declared.source.ReadRefusal.TheVariants as read
 use Rattle.bench_edges.specs.declared.status.Status.{Status}
 use Rattle.bench_edges.specs.declared.status.Status.TheVariants.{Input, Memory, Read}
-use Rattle.pdn_text.specs.Pdn.{Reads}
-use Rattle.pdn_text.specs.Signs.{Fails}
-use Rattle.pdn_text.specs.declared.game.Game.{Game}
-use Rattle.pdn_text.specs.declared.refusal.PdnRefusal.{PdnRefusal}
-use Rattle.pdn_text.specs.declared.refusal.PdnRefusal.TheVariants as pdn
-use Rattle.pdn_openings.specs.Answers.{IsMemory, UnlessMemory}
-use Rattle.pdn_openings.specs.Faults.{StandsFirst}
+use Rattle.bench_edges.specs.declared.words.Command.{Command}
+use Rattle.bench_edges.specs.declared.words.Command.TheVariants.{Solve, Verify, MakeTable, TableCheck}
+use Rattle.bench_edges.specs.declared.words.Options.{Options}
+use Rattle.certificate_text.specs.Text.{ReadsAs}
+use Rattle.endgame_table.specs.Bytes.{bytes_of}
+use Rattle.endgame_table.specs.Entries.{IsTable}
 use Rattle.pdn_openings.specs.declared.opening.Opening.{Opening}
-use Rattle.pdn_openings.specs.declared.refusal.OpeningRefusal.{OpeningRefusal}
-use Rattle.pdn_openings.specs.declared.refusal.OpeningRefusal.TheVariants as opening
+use Rattle.strategy_certificate.specs.Certificates.{IsGood}
+use Rattle.strategy_certificate.specs.declared.certificates.Certificate.{Certificate}
+use Rattle.opening_report.specs.Conversions.{of_read}
 use Rattle.opening_report.specs.declared.refusals.Refusal.{Refusal}
 use Rattle.opening_report.specs.declared.refusals.Refusal.TheVariants as refusal
-use Rattle.opening_report.specs.Lines.{IsLine}
-use Rattle.opening_report.specs.Refusals.{refusal_text}
-use Rattle.opening_report.specs.Report.{ValuesAreTrue}
-use Rattle.opening_report.proofs.ReportLemmas.{refusal_says_no_value}
-use Rattle.opening_bench.specs.Bench.{IsSourceRefusal, TakesFront, TakesLine, WritesOnly, status_of}
-use Rattle.opening_bench.specs.Solving.{OpeningsOf, IsTextRefusal, IsTextRefusalOrMemory, of_pdn, of_openings}
-use Rattle.opening_bench.specs.Steps.{IsReadFor}
+use Rattle.opening_bench.specs.Bench.{ReadsSource, IsInput, IsCutShort, IsCommandRefusal, TakesAtMost, status_of}
+use Rattle.opening_bench.specs.Commands.{source_limit, Answers}
+use Rattle.opening_bench.specs.Solving.{OpeningsOf}
+use Rattle.opening_bench.specs.Steps.{IsGoodFor, IsAnswerFault, IsAnswerFaultOnly, AcceptsGood, AnswersSource}
+use Rattle.opening_bench.specs.Tables.{AreTableBytes}
+use Rattle.opening_bench.specs.declared.commands.solve.TheConstants.{GAMES_LIMIT}
+use Rattle.opening_bench.specs.declared.commands.table_check.TheConstants.{TABLE_LIMIT}
+use Rattle.opening_bench.specs.declared.commands.verify.TheConstants.{CERTIFICATE_LIMIT}
+use Rattle.opening_bench.proofs.TableLemmas.{table_is_short}
 
--- ---- the line of a refusal
+-- ---- reading
 
--- a front of a text, where it is shorter
-pub front_taken : (text : List ℕ) (before after : Option (List ℕ)) → AppendsFront before after text → TakesFront before after text
-front_taken text before after h =
-    let count : ℕ = h.0 in
-    let short : count < length text = h.1 in
-    let left : 0 < length (drop count text) = (let e = length-drop count text in omega (arith, e, short)) in
-    (take count text, (drop count text, (sym (take-append-drop count text), (left, h.2))))
+pub input_read : (limit : ℕ) (source : Option (List ℕ)) (bytes : List ℕ) → IfSome source (λ told. bytes ≡ told) → length bytes ≤ limit
+    → (command : Command) → source_limit command ≡ Some limit → IsInput command source bytes
+input_read limit source bytes same fits command is = record {
+  same = same;
+  fits = subst (λ o. IfSome o (λ l. length bytes ≤ l)) (sym is) fits;
+}
 
-pub line_taken : {T E : Type 0} (r : Refusal) (bytes : List ℕ) (result : Result T E) (before after : Option (List ℕ)) (faults_before faults_after : ℕ) → bytes ≡ refusal_text r
-    → OnOk result (Appends before after bytes) → OnErr result (AppendsFront before after bytes) → CountsFaults faults_before faults_after result
-    → TakesLine r before after faults_before faults_after
-line_taken r bytes (Ok x) before after fb fa is whole front counts = inl (subst (Appends before after) is whole)
-line_taken r bytes (Err e) before after fb fa is whole front counts = inr (counts.fault, subst (TakesFront before after) is (front_taken bytes before after front))
+pub cut_short : (limit : ℕ) (source rest : Option (List ℕ)) (before after : ℕ) (r : ReadRefusal) → IsRefusedFor limit source before after r
+    → (r ≡ read.TooLong → ConsumesJust (limit + 1) source rest)
+    → (command : Command) → source_limit command ≡ Some limit → IsCutShort command source rest before after (of_read r)
+cut_short limit source rest before after read.TooLong h past command is = inr (inr (
+  refl,
+  record {
+    limit = limit;
+    is_limit = is;
+    long = h.0;
+    past = past refl;
+    counted = h.1;
+  },
+))
+cut_short limit source rest before after (read.Fault fault) h past command is = inr (inl (refl, (subst (λ o. IsSome o) (sym is) refl, h)))
+cut_short limit source rest before after (read.Memory error) h past command is = inl refl
 
-pub line_values : (r : Refusal) (before after : Option (List ℕ)) (faults_before faults_after : ℕ) → IsLine (refusal_text r) → TakesLine r before after faults_before faults_after → WritesOnly before after ValuesAreTrue
-line_values r before after fb fa line (inl taken) = (refusal_text r, (taken, refusal_says_no_value r (refusal_text r) [] line (sym (append-nil (refusal_text r)))))
-line_values r before after fb fa line (inr part) = (part.1.0, (part.1.1.1.1.1, refusal_says_no_value r part.1.0 part.1.1.0 line part.1.1.1.0))
+-- ---- what a command refuses
 
--- ---- the status of a refusal
+pub wrong_cause : (command : Command) (source rest : Option (List ℕ)) (before after : ℕ) (bytes : List ℕ) (r : Refusal) → IsInput command source bytes → IsAtEnd rest → after ≡ before
+    → IsAnswerFault command bytes r → IsCommandRefusal command source rest before after r
+wrong_cause command source rest before after bytes r is end counted (inl e) = inl (inl e)
+wrong_cause command source rest before after bytes r is end counted (inr fault) = inr (record {
+  input = bytes;
+  is_input = is;
+  fault = fault;
+  end = end;
+  counted = counted;
+})
 
-pub input_status : (limit : ℕ) (text : List ℕ) (r : Refusal) → IsReadFor limit text r → length text ≤ limit → status_of r ≢ Input
-input_status limit text r (inl e) l is = (let k : ◌≡◌ {A = Status} Memory Input = ap status_of (sym e) ∙ is in absurd cc)
-input_status limit text r (inr (inl e)) l is = (let k : ◌≡◌ {A = Status} Read Input = ap status_of (sym e) ∙ is in absurd cc)
-input_status limit text r (inr (inr long)) l is = (let k = long.1 in absurd (omega (arith, k, l)))
+not_input : (r : Refusal) → r ≡ refusal.Memory → status_of r ≢ Input
+not_input r e is = (let k : ◌≡◌ {A = Status} Memory Input = ap status_of (sym e) ∙ is in absurd cc)
 
--- ---- the cause of a refusal
+pub wrong_accepts : (command : Command) (source : Option (List ℕ)) (bytes : List ℕ) (r : Refusal) → IsInput command source bytes
+    → IsAnswerFaultOnly command bytes r → AcceptsGood command source r
+wrong_accepts command None bytes r is only = tt
+wrong_accepts command (Some told) bytes r is only = λ good fits. not_input r (only (subst (IsGoodFor command) (sym is.same) good))
 
-pub if_text : (source : Option (List ℕ)) (bytes : List ℕ) (P : List ℕ → Type 0) → IfSome source (λ text. bytes ≡ text) → P bytes → IfSome source P
-if_text None bytes P is h = tt
-if_text (Some text) bytes P is h = subst P is h
-
-pub text_cause : (plies : ℕ) (source : Option (List ℕ)) (bytes : List ℕ) (before after : ℕ) (r : Refusal) → IfSome source (λ text. bytes ≡ text) → after ≡ before
-    → IsTextRefusalOrMemory plies bytes r → IsSourceRefusal plies source before after r
-text_cause plies source bytes before after r is ok (inl e) = subst (IsSourceRefusal plies source before after) (sym e) tt
-text_cause plies source bytes before after r is ok (inr h) = by r h
+pub cut_short_accepts : (command : Command) (source rest : Option (List ℕ)) (before after : ℕ) (r : Refusal) → IsCutShort command source rest before after r
+    → AcceptsGood command source r
+cut_short_accepts command None rest before after r h = tt
+cut_short_accepts command (Some told) rest before after r h = λ good fits. by h fits
   where
-    by : (q : Refusal) → IsTextRefusal plies bytes q → IsSourceRefusal plies source before after q
-    by (refusal.Words at) k = absurd k
-    by refusal.TooLong k = absurd k
-    by (refusal.PdnBadByte at) k = (if_text source bytes (λ text. IsTextRefusal plies text (refusal.PdnBadByte at)) is k, ok)
-    by (refusal.PdnOpenTag at) k = (if_text source bytes (λ text. IsTextRefusal plies text (refusal.PdnOpenTag at)) is k, ok)
-    by (refusal.PdnOpenComment at) k = (if_text source bytes (λ text. IsTextRefusal plies text (refusal.PdnOpenComment at)) is k, ok)
-    by (refusal.PdnOpenVariation at) k = (if_text source bytes (λ text. IsTextRefusal plies text (refusal.PdnOpenVariation at)) is k, ok)
-    by (refusal.PdnBadMove at) k = (if_text source bytes (λ text. IsTextRefusal plies text (refusal.PdnBadMove at)) is k, ok)
-    by refusal.PdnTooManyGames k = (if_text source bytes (λ text. IsTextRefusal plies text refusal.PdnTooManyGames) is k, ok)
-    by (refusal.OtherGame game) k = (if_text source bytes (λ text. IsTextRefusal plies text (refusal.OtherGame game)) is k, ok)
-    by (refusal.Fen game fault) k = (if_text source bytes (λ text. IsTextRefusal plies text (refusal.Fen game fault)) is k, ok)
-    by (refusal.Illegal game ply at) k = (if_text source bytes (λ text. IsTextRefusal plies text (refusal.Illegal game ply at)) is k, ok)
-    by (refusal.Ambiguous game ply at) k = (if_text source bytes (λ text. IsTextRefusal plies text (refusal.Ambiguous game ply at)) is k, ok)
-    by (refusal.TextBadLine n) k = absurd k
-    by (refusal.TextBadFen n) k = absurd k
-    by (refusal.TextDoubled n) k = absurd k
-    by refusal.TextTruncated k = absurd k
-    by (refusal.TextAfterEnd n) k = absurd k
-    by refusal.ClaimNotMet k = absurd k
-    by (refusal.BadRank part entry) k = absurd k
-    by (refusal.BadMove part entry) k = absurd k
-    by (refusal.Missing part entry) k = absurd k
-    by (refusal.StuckHolder part entry) k = absurd k
-    by (refusal.NoRoot part) k = absurd k
-    by refusal.TableBadHead k = absurd k
-    by (refusal.TableWrongLength found due) k = absurd k
-    by (refusal.TableBadEntry index kept) k = absurd k
-    by refusal.Memory k = absurd k
-    by refusal.Read k = absurd k
+    by : IsCutShort command (Some told) rest before after r → IfSome (source_limit command) (λ limit. length told ≤ limit) → status_of r ≢ Input
+    by (inl e) fits = not_input r e
+    by (inr (inl failed)) fits = λ is. (let k : ◌≡◌ {A = Status} Read Input = ap status_of (sym failed.0) ∙ is in absurd cc)
+    by (inr (inr long)) fits = λ is.
+        let l : long.1.limit < length told = long.1.long in
+        let k : length told ≤ long.1.limit = subst (λ o. IfSome o (λ limit. length told ≤ limit)) long.1.is_limit fits in
+        absurd (omega (arith, k, l))
 
--- the refusal of the games of a text
-pub openings_cause : (plies : ℕ) (text : List ℕ) (games : List Game) (r : OpeningRefusal) → Reads text games → IsMemory r ⊎ StandsFirst plies games r → IsTextRefusalOrMemory plies text (of_openings r)
-openings_cause plies text games (opening.OtherGame game) reads (inr first) = inr (games, (reads, first))
-openings_cause plies text games (opening.Fen game fault) reads (inr first) = inr (games, (reads, first))
-openings_cause plies text games (opening.Illegal game ply at) reads (inr first) = inr (games, (reads, first))
-openings_cause plies text games (opening.Ambiguous game ply at) reads (inr first) = inr (games, (reads, first))
-openings_cause plies text games (opening.Memory error) reads h = inl refl
-openings_cause plies text games r reads (inl h) = absurd h
+-- ---- the answer to what was read
 
-pub text_accepted : (plies : ℕ) (source : Option (List ℕ)) (bytes : List ℕ) (r : Refusal) → IfSome source (λ text. bytes ≡ text)
-    → ((all : List Opening) → OpeningsOf plies bytes all → r ≡ refusal.Memory) → IfSome source (λ text. (all : List Opening) → OpeningsOf plies text all → IsReadFor 16777216 text r)
-text_accepted plies source bytes r is only = if_text source bytes (λ text. (all : List Opening) → OpeningsOf plies text all → IsReadFor 16777216 text r) is (λ all reads. inl (only all reads))
+pub answers_source : {X : Type 0} (result : Result X Refusal) (text : X → List ℕ) (settled : X → Bool) (command said : Command) (source : Option (List ℕ)) (bytes seen : List ℕ)
+    → command ≡ said → seen ≡ bytes → IsInput said source bytes → IfOk result (λ x. Answers said seen (text x) (settled x)) → IfOk result (λ x. AnswersSource command source (text x) (settled x))
+answers_source (Err r) text settled command said source bytes seen is same input h = tt
+answers_source (Ok x) text settled command said source bytes seen is same input h =
+    subst (λ c. AnswersSource c source (text x) (settled x)) (sym is) (bytes, (input, subst (λ b. Answers said b (text x) (settled x)) same h))
 
--- ---- a text that has openings is not refused
+pub refuses_source : {X : Type 0} (result : Result X Refusal) (command said : Command) (source rest : Option (List ℕ)) (before after : ℕ) (bytes seen : List ℕ)
+    → command ≡ said → seen ≡ bytes → IsInput said source bytes → IsAtEnd rest → after ≡ before → IfErr result (IsAnswerFault said seen)
+    → IfErr result (IsCommandRefusal command source rest before after)
+refuses_source (Ok x) command said source rest before after bytes seen is same input end counted h = tt
+refuses_source (Err r) command said source rest before after bytes seen is same input end counted h =
+    subst (λ c. IsCommandRefusal c source rest before after r) (sym is)
+    (wrong_cause said source rest before after bytes r input end counted (subst (λ b. IsAnswerFault said b r) same h))
 
-ok_is_no_fault : (games : List Game) (r : PdnRefusal) → ◌≡◌ {A = Result (List Game) PdnRefusal} (Ok games) (Err r) → ⊥
-ok_is_no_fault games r h = cc
+pub accepts_source : {X : Type 0} (result : Result X Refusal) (command said : Command) (source : Option (List ℕ)) (bytes seen : List ℕ)
+    → command ≡ said → seen ≡ bytes → IsInput said source bytes → IfErr result (IsAnswerFaultOnly said seen) → IfErr result (AcceptsGood command source)
+accepts_source (Ok x) command said source bytes seen is same input h = tt
+accepts_source (Err r) command said source bytes seen is same input h =
+    subst (λ c. AcceptsGood c source r) (sym is) (wrong_accepts said source bytes r input (subst (λ b. IsAnswerFaultOnly said b r) same h))
 
-pub same_games : (a b : List Game) → ◌≡◌ {A = Result (List Game) PdnRefusal} (Ok a) (Ok b) → a ≡ b
-same_games a b h = cc
+-- a command that reads no source answers whatever there is
+pub answers_without : {X E : Type 0} (result : Result X E) (text : X → List ℕ) (settled : X → Bool) (command : Command) (pieces : ℕ) (source : Option (List ℕ)) → command ≡ MakeTable pieces
+    → IfOk result (λ x. AreTableBytes pieces (text x)) → IfOk result (λ x. settled x ≡ true) → IfOk result (λ x. AnswersSource command source (text x) (settled x))
+answers_without (Err e) text settled command pieces source is made all = tt
+answers_without (Ok x) text settled command pieces source is made all = subst (λ c. AnswersSource c source (text x) (settled x)) (sym is) (by source)
+  where
+    by : (source : Option (List ℕ)) → AnswersSource (MakeTable pieces) source (text x) (settled x)
+    by None = ([], (record { same = tt; fits = tt }, (made, all)))
+    by (Some told) = (told, (record { same = refl; fits = tt }, (made, all)))
 
-pub pdn_only : (games : List Game) (r : PdnRefusal) → Fails {Y = List Game} r (Ok games) → of_pdn r ≡ refusal.Memory
-pdn_only games (pdn.BadByte at) h = absurd (ok_is_no_fault games (pdn.BadByte at) h)
-pdn_only games (pdn.OpenTag at) h = absurd (ok_is_no_fault games (pdn.OpenTag at) h)
-pdn_only games (pdn.OpenComment at) h = absurd (ok_is_no_fault games (pdn.OpenComment at) h)
-pdn_only games (pdn.OpenVariation at) h = absurd (ok_is_no_fault games (pdn.OpenVariation at) h)
-pdn_only games (pdn.BadMove at) h = absurd (ok_is_no_fault games (pdn.BadMove at) h)
-pdn_only games pdn.TooManyGames h = absurd (ok_is_no_fault games pdn.TooManyGames h)
-pdn_only games (pdn.Memory error) h = refl
+-- ---- good sources
 
-pub openings_only : (r : OpeningRefusal) → UnlessMemory {X = List Opening} (Err r) ⊥ → of_openings r ≡ refusal.Memory
-openings_only (opening.OtherGame game) h = absurd h
-openings_only (opening.Fen game fault) h = absurd h
-openings_only (opening.Illegal game ply at) h = absurd h
-openings_only (opening.Ambiguous game ply at) h = absurd h
-openings_only (opening.Memory error) h = refl
+accepted_by : (command said : Command) (source : Option (List ℕ)) (r : Refusal) (s : Status) → command ≡ said → s ≡ status_of r → AcceptsGood command source r
+    → IfSome source (λ told. IsGoodFor said told → IfSome (source_limit said) (λ limit. length told ≤ limit) → s ≢ Input)
+accepted_by command said None r s is same h = tt
+accepted_by command said (Some told) r s is same h = λ good fits input. (subst (λ c. AcceptsGood c (Some told) r) is h) good fits (sym same ∙ input)
+
+pub openings_accepted : (command : Command) (options : Options) (source : Option (List ℕ)) (r : Refusal) (s : Status) → command ≡ Solve options → s ≡ status_of r → AcceptsGood command source r
+    → IfSome source (λ told. length told ≤ GAMES_LIMIT → (all : List Opening) → OpeningsOf options.plies told all → s ≢ Input)
+openings_accepted command options source r s is same h = by source (accepted_by command (Solve options) source r s is same h)
+  where
+    by : (source : Option (List ℕ)) → IfSome source (λ told. IsGoodFor (Solve options) told → length told ≤ GAMES_LIMIT → s ≢ Input)
+        → IfSome source (λ told. length told ≤ GAMES_LIMIT → (all : List Opening) → OpeningsOf options.plies told all → s ≢ Input)
+    by None k = tt
+    by (Some told) k = λ fits all reads. k (all, reads) fits
+
+pub certificates_accepted : (command : Command) (source : Option (List ℕ)) (r : Refusal) (s : Status) → command ≡ Verify → s ≡ status_of r → AcceptsGood command source r
+    → IfSome source (λ told. length told ≤ CERTIFICATE_LIMIT → (c : Certificate) → IsGood c → ReadsAs told c → s ≢ Input)
+certificates_accepted command source r s is same h = by source (accepted_by command Verify source r s is same h)
+  where
+    by : (source : Option (List ℕ)) → IfSome source (λ told. IsGoodFor Verify told → length told ≤ CERTIFICATE_LIMIT → s ≢ Input)
+        → IfSome source (λ told. length told ≤ CERTIFICATE_LIMIT → (c : Certificate) → IsGood c → ReadsAs told c → s ≢ Input)
+    by None k = tt
+    by (Some told) k = λ fits c good spelled. k (c, (good, spelled)) fits
+
+pub tables_accepted : (command : Command) (source : Option (List ℕ)) (r : Refusal) (s : Status) → command ≡ TableCheck → s ≡ status_of r → AcceptsGood command source r
+    → IfSome source (λ told. (k : ℕ) (numbers : List ℕ) → IsTable k numbers → told ≡ bytes_of k numbers → s ≢ Input)
+tables_accepted command source r s is same h = by source (accepted_by command TableCheck source r s is same h)
+  where
+    by : (source : Option (List ℕ)) → IfSome source (λ told. IsGoodFor TableCheck told → length told ≤ TABLE_LIMIT → s ≢ Input)
+        → IfSome source (λ told. (k : ℕ) (numbers : List ℕ) → IsTable k numbers → told ≡ bytes_of k numbers → s ≢ Input)
+    by None k = tt
+    by (Some told) k = λ size numbers table spelled. k (size, (numbers, (table, spelled))) (table_is_short size numbers told table spelled)
+
+-- ---- how much of a source is taken
+
+pub taken_at_most : (limit : ℕ) (source rest : Option (List ℕ)) → ConsumesAtMost (limit + 1) source rest
+    → (command : Command) → source_limit command ≡ Some limit → TakesAtMost command source rest
+taken_at_most limit source rest taken command is = subst (λ o. IfSome o (λ l. ConsumesAtMost (l + 1) source rest)) (sym is) taken
+
+pub whole_at_most : (limit : ℕ) (source rest : Option (List ℕ)) (bytes : List ℕ) → Consumes source rest bytes → length bytes ≤ limit → ConsumesAtMost (limit + 1) source rest
+whole_at_most limit source rest bytes taken fits = (bytes, omega (arith, fits), taken)
+
+-- ---- commands that read
+
+pub reads_source : (command : Command) → ((k : ℕ) → command ≢ MakeTable k) → ReadsSource command
+reads_source (Solve options) other = refl
+reads_source Verify other = refl
+reads_source (MakeTable pieces) other = absurd (other pieces refl)
+reads_source TableCheck other = refl

@@ -1,28 +1,26 @@
 -- The roots: the distinct positions of the openings, looked at.
-use Rattle.std.proofs.Common.{◌≡◌, ◌≢◌, ℕ, suc, ◌+◌, ◌<◌, ◌≤◌, ◌^◌, ◌⊎◌, inl, inr, Bool, true, false, cond, not, List, [], ◌∷◌, ◌++◌, Option, None, Some, refl, sym, ◌∙◌, ap, subst, arith, length, get_or, take, map, lit<}
+use Rattle.std.proofs.Common.{◌≡◌, ◌≢◌, ℕ, suc, ◌+◌, ◌<◌, ◌≤◌, ◌^◌, ◌⊎◌, inl, inr, Bool, true, false, cond, not, ◌||◌, List, [], ◌∷◌, ◌++◌, Option, None, Some, refl, sym, ◌∙◌, ap, subst, arith, length, get_or, take, map, lit<}
 use Rattle.std.specs.Prelude.{Contains, All, filter}
+use Rattle.std.specs.Cmp.{both_ways}
 use Rattle.std.specs.List.{list_any}
+use Rattle.indexmap.specs.IndexSet.{insert_key}
 use Rattle.std.proofs.lemmas.Bool.{false≢true, true≢false}
-use Rattle.std.proofs.lemmas.List.{take_more, map-append}
+use Rattle.std.proofs.lemmas.List.{append-nil, take_more, map-append}
 use Rattle.std.proofs.lemmas.List.Elements.{All-nil, All-push, All-contains}
-use Rattle.draughts_board.specs.declared.pieces.Side.{Side}
-use Rattle.draughts_board.specs.declared.pieces.Side.TheVariants.{Black, White}
 use Rattle.draughts_board.specs.declared.pieces.Value.{Value}
-use Rattle.draughts_board.specs.declared.pieces.Value.TheVariants.{BlackWins, WhiteWins}
 use Rattle.draughts_board.specs.Board.{Board, IsLawful, same_board}
 use Rattle.draughts_board.specs.Same.{same_board-Decides}
 use Rattle.draughts_board.specs.Rules.{first_places}
-use Rattle.draughts_board.specs.Game.{HasValue}
-use Rattle.draughts_board.specs.Draughts.{draughts}
 use Rattle.draughts_board.proofs.Members.{bool_cases, Contains-nil, Contains-head, Contains-tail, Contains-cons_cases, Contains-map, Contains-from_map, Contains-from_filter}
 use Rattle.draughts_board.proofs.Successors.{Contains-from_first_places, Contains-first_places}
-use Rattle.draughts_board.proofs.Truth.{ShowsWin-wins}
-use Rattle.draughts_rules.proofs.FirstPlaces.{first_places-push}
+use Rattle.draughts_board.proofs.FirstPlaces.{first_places-push}
 use Rattle.pdn_openings.specs.declared.opening.Opening.{Opening}
 use Rattle.opening_report.specs.declared.roots.Root.{Root}
 use Rattle.opening_report.specs.Report.{AreTrueRoots, AreApart}
-use Rattle.opening_bench.specs.LookAhead.{ShowsWinner}
-use Rattle.opening_bench.specs.Solving.{positions_of, root_positions, won_by, IsShown, AreRootsOf}
+use Rattle.opening_bench.specs.Showing.{LeavesOpen}
+use Rattle.opening_bench.specs.Solving.{positions_of, root_positions, IsValued, AreRootsOf}
+use Rattle.opening_bench.proofs.FactLemmas.{value_true}
+use Rattle.opening_bench.proofs.ShownLemmas.{shown_true, shown_open}
 
 -- ---- distinct positions
 
@@ -36,6 +34,29 @@ first_places_more seen now openings i o l at before more =
     ∙ sym (first_places-push (positions_of (take i openings)) o.position)
     ∙ ap first_places (sym (map-append (λ (x : Opening). x.position) (take i openings) (o ∷ [])))
     ∙ ap root_positions (ap (λ q. take i openings ++ q ∷ []) at ∙ sym (take_more openings i o l))
+
+-- the same as the set of keys tells it
+pub first_places_inserted : (seen now : List Board) (openings : List Opening) (i : ℕ) (o : Opening) → i < length openings → o ≡ get_or openings i o
+    → seen ≡ root_positions (take i openings) → now ≡ insert_key same_board seen o.position
+    → now ≡ root_positions (take (i + 1) openings)
+first_places_inserted seen now openings i o l at before more =
+    first_places_more seen now openings i o l at before (more ∙ inserted seen o.position)
+  where
+    turned : (p q : Board) → same_board p q ≡ same_board q p
+    turned p q = both_ways (same_board p q) (same_board q p)
+        (λ t. (same_board-Decides q p).1 (sym ((same_board-Decides p q).0 t)))
+        (λ t. (same_board-Decides p q).1 (sym ((same_board-Decides q p).0 t)))
+
+    any : (p : Board) (bs : List Board) → list_any (same_board p) bs ≡ list_any (λ y. same_board y p) bs
+    any p [] = refl
+    any p (b ∷ bs) = ap (λ t. t || list_any (same_board p) bs) (turned p b) ∙ ap (λ t. same_board b p || t) (any p bs)
+
+    pick : (t : Bool) (bs : List Board) (p : Board) → cond t bs (bs ++ p ∷ []) ≡ bs ++ cond t [] (p ∷ [])
+    pick true bs p = sym (append-nil bs)
+    pick false bs p = refl
+
+    inserted : (bs : List Board) (p : Board) → insert_key same_board bs p ≡ bs ++ cond (list_any (λ y. same_board y p) bs) [] (p ∷ [])
+    inserted bs p = ap (λ t. cond t bs (bs ++ p ∷ [])) (any p bs) ∙ pick (list_any (λ y. same_board y p) bs) bs p
 
 filter-shorter : (test : Board → Bool) (ps : List Board) → length (filter test ps) ≤ length ps
 filter-shorter test [] = omega arith
@@ -93,27 +114,22 @@ roots-apart (r ∷ roots) h = ((λ q k. h.0 q.position (Contains-map (λ (x : Ro
 
 -- ---- roots
 
-pub roots_none : (d : ℕ) → AreRootsOf d [] []
-roots_none d = record { placed = refl; shown = All-nil (IsShown d) }
+pub roots_none : (k d : ℕ) → AreRootsOf k d [] []
+roots_none k d = record { placed = refl; valued = All-nil (IsValued k d) }
 
 -- one root more
-pub roots_more : (d : ℕ) (positions : List Board) (roots now : List Root) (i : ℕ) (p : Board) (r : Root) → i < length positions → p ≡ get_or positions i p
-    → r.position ≡ p → IsShown d r → now ≡ roots ++ r ∷ [] → AreRootsOf d (take i positions) roots → AreRootsOf d (take (i + 1) positions) now
-roots_more d positions roots now i p r l at here shown more before = record {
+pub roots_more : (k d : ℕ) (positions : List Board) (roots now : List Root) (i : ℕ) (p : Board) (r : Root) → i < length positions → p ≡ get_or positions i p
+    → r.position ≡ p → IsValued k d r → now ≡ roots ++ r ∷ [] → AreRootsOf k d (take i positions) roots → AreRootsOf k d (take (i + 1) positions) now
+roots_more k d positions roots now i p r l at here valued more before = record {
   placed = ap (map (λ (x : Root). x.position)) more ∙ map-append (λ (x : Root). x.position) roots (r ∷ [])
       ∙ ap (λ bs. bs ++ r.position ∷ []) before.placed ∙ ap (λ b. take i positions ++ b ∷ []) (here ∙ at) ∙ sym (take_more positions i p l);
-  shown = subst (All (IsShown d)) (sym more) (All-push (IsShown d) roots r before.shown shown);
+  valued = subst (All (IsValued k d)) (sym more) (All-push (IsValued k d) roots r before.valued valued);
 }
 
 -- ---- what is shown is true
 
-won_by-wins : (w : Option Side) (v : Value) (d : ℕ) (p : Board) → won_by w ≡ Some v → ShowsWinner p d w → HasValue draughts p v
-won_by-wins None v d p e shown = cc
-won_by-wins (Some Black) v d p e shown = let is : BlackWins ≡ v = cc in subst (HasValue draughts p) is (ShowsWin-wins draughts 0 Black d p shown)
-won_by-wins (Some White) v d p e shown = let is : WhiteWins ≡ v = cc in subst (HasValue draughts p) is (ShowsWin-wins draughts 0 White d p shown)
-
-module _ (d : ℕ) (openings : List Opening) (roots : List Root) (few : length openings ≤ 4096) (lawful : All (λ (o : Opening). IsLawful o.position) openings)
-    (are : AreRootsOf d (root_positions openings) roots) where
+module _ (k d : ℕ) (openings : List Opening) (roots : List Root) (few : length openings ≤ 4096) (lawful : All (λ (o : Opening). IsLawful o.position) openings)
+    (are : AreRootsOf k d (root_positions openings) roots) where
   at_root : (r : Root) → Contains roots r → Contains (root_positions openings) r.position
   at_root r h = subst (λ ps. Contains ps r.position) are.placed (Contains-map (λ (x : Root). x.position) roots r h)
 
@@ -125,8 +141,12 @@ module _ (d : ℕ) (openings : List Opening) (roots : List Root) (few : length o
   pub true_roots : AreTrueRoots roots
   true_roots r h = record {
     lawful = lawful_root r h;
-    right = λ v e. (let shown = All-contains (IsShown d) roots r are.shown h in won_by-wins shown.0 v d r.position (sym shown.1.0 ∙ e) shown.1.1);
+    right = λ v e. (let valued = All-contains (IsValued k d) roots r are.valued h in value_true r.position valued.0 (shown_true k d r.position valued.0 valued.1.0) v (sym valued.1.1 ∙ e));
   }
+
+  -- unrolling leaves a root open that has no value
+  pub open_roots : (r : Root) → Contains roots r → r.value ≡ None → LeavesOpen k d r.position
+  open_roots r h none = (let valued = All-contains (IsValued k d) roots r are.valued h in shown_open k d r.position valued.0 valued.1.0 (sym valued.1.1 ∙ none))
 
   pub apart_roots : AreApart roots
   apart_roots = roots-apart roots (subst Apart (sym are.placed) (first_places-apart (positions_of openings)))

@@ -1,30 +1,27 @@
 -- In the bytes of a table `root ` stands nowhere, so that they say no value.
-use Rattle.std.proofs.Common.{◌≡◌, ◌≢◌, ℕ, zero, suc, ◌<◌, ◌≤◌, ◌^◌, ◌⊎◌, inl, inr, List, [], ◌∷◌, ◌++◌, Option, None, Some, refl, sym, ◌∙◌, ap, subst, arith, length, get_or, take, append_assoc}
-use Rattle.std.specs.Prelude.{codes, All, IfSome}
+use Rattle.std.proofs.Common.{◌≡◌, ◌≢◌, ℕ, zero, suc, ◌<◌, ◌≤◌, ◌^◌, ◌⊎◌, inl, inr, List, [], ◌∷◌, ◌++◌, refl, sym, ◌∙◌, ap, subst, arith, length, get_or, take, append_assoc}
+use Rattle.std.specs.Prelude.{codes, All}
 use Rattle.std.specs.List.{flat_map}
 use Rattle.std.specs.Int.{byte_at}
 use Rattle.std.proofs.lemmas.List.Elements.{All-head, All-tail}
-use Rattle.bench_edges.specs.Reading.{IsRefusedFor}
-use Rattle.bench_edges.specs.declared.source.ReadRefusal.{ReadRefusal}
-use Rattle.bench_edges.specs.declared.source.ReadRefusal.TheVariants as read
+use Rattle.std.specs.Bool.{OnFalse}
+use Rattle.bench_edges.specs.declared.words.Command.TheVariants.{TableCheck}
 use Rattle.table_index.proofs.OrderLemmas.{block_sizes}
 use Rattle.endgame_table.specs.Bytes.{number_bytes, bytes_of}
 use Rattle.endgame_table.specs.Entries.{IsTable}
 use Rattle.endgame_table.specs.Numbers.{no_position}
 use Rattle.endgame_table.proofs.Filled.{count-most}
-use Rattle.table_checker.specs.Faults.{IsTableFault}
+use Rattle.table_checker.specs.Faults.{IsTableFault, is_memory}
 use Rattle.table_checker.specs.declared.refusal.TableRefusal.{TableRefusal}
 use Rattle.table_checker.specs.declared.refusal.TableRefusal.TheVariants as table
 use Rattle.table_checker.proofs.ByteLemmas.{length-bytes_of}
 use Rattle.table_checker.proofs.FaultLemmas.{faulty_bytes_are_no_table}
+use Rattle.opening_report.specs.Conversions.{of_table}
 use Rattle.opening_report.specs.Findings.{sound_text}
 use Rattle.opening_report.specs.Lines.{IsLine}
 use Rattle.opening_report.specs.declared.refusals.Refusal.TheVariants as refusal
-use Rattle.opening_report.proofs.ReportLemmas.{other_line_says_no_value, text_without_roots_says_no_value}
-use Rattle.opening_bench.specs.Steps.{read_refusal, IsTableReadFor}
-use Rattle.opening_bench.specs.Tables.{IsWrongTable, IsTableRefusal, of_table}
-use Rattle.opening_bench.specs.Writing.{SaysTrue}
-use Rattle.opening_bench.proofs.RefusalLemmas.{if_text}
+use Rattle.opening_bench.specs.Steps.{IsAnswerFault, SaysTrue}
+use Rattle.opening_report.proofs.ReportLemmas.{no_root-is_true, other_line_says_no_root, text_without_roots_says_none}
 
 -- the first byte of four in a table: one of `D` and `B` of its head, or the first of a number
 abbrev pub IsFirst : ℕ → Type 0
@@ -86,7 +83,7 @@ bytes_first k numbers small = (inr (inr (inr refl)), (inr (inr (inl refl)), numb
 
 -- the bytes of a table say no value, and no front of them does
 pub table_says : (k : ℕ) (numbers text : List ℕ) → All IsSmall numbers → text ≡ bytes_of k numbers → SaysTrue text
-table_says k numbers text small is front back whole = text_without_roots_says_no_value front without
+table_says k numbers text small is front back whole = no_root-is_true front (text_without_roots_says_none front without)
   where
     without : (before after : List ℕ) → front ≢ before ++ (codes "root " ++ after)
     without before after e =
@@ -97,8 +94,8 @@ table_says k numbers text small is front back whole = text_without_roots_says_no
 -- ---- bytes that are no table
 
 -- a table is shorter than the limit
-short : (k : ℕ) (numbers bytes : List ℕ) → IsTable k numbers → bytes ≡ bytes_of k numbers → length bytes ≤ 4194304
-short k numbers bytes table is =
+pub table_is_short : (k : ℕ) (numbers bytes : List ℕ) → IsTable k numbers → bytes ≡ bytes_of k numbers → length bytes ≤ 4194304
+table_is_short k numbers bytes table is =
     let long = length-bytes_of k numbers in
     let same = ap length is in
     let entries = table.entries in
@@ -106,30 +103,20 @@ short k numbers bytes table is =
     let all = block_sizes.count_of_three in
     omega arith
 
-pub read_table_accepted : (limit : ℕ) (source : Option (List ℕ)) (before after : ℕ) (r : ReadRefusal) → limit ≡ 4194304 → IsRefusedFor limit source before after r
-    → IfSome source (λ bytes. (k : ℕ) (numbers : List ℕ) → IsTable k numbers → bytes ≡ bytes_of k numbers → IsTableReadFor (read_refusal r))
-read_table_accepted limit None before after r is h = tt
-read_table_accepted limit (Some bytes) before after read.TooLong is h = λ k numbers table same. (let few = short k numbers bytes table same in let long = h.0 in absurd (omega (arith, few, long, is)))
-read_table_accepted limit (Some bytes) before after (read.Fault f) is h = λ k numbers table same. inr refl
-read_table_accepted limit (Some bytes) before after (read.Memory e) is h = λ k numbers table same. inl refl
+-- why bytes were refused
+pub table_refused : (bytes : List ℕ) (r : TableRefusal) → OnFalse (is_memory r) (IsTableFault bytes r) → IsAnswerFault TableCheck bytes (of_table r)
+table_refused bytes table.BadHead h = inr (table.BadHead, (refl, h))
+table_refused bytes (table.WrongLength found due) h = inr (table.WrongLength found due, (refl, h))
+table_refused bytes (table.BadEntry index kept) h = inr (table.BadEntry index kept, (refl, h))
+table_refused bytes (table.Memory error) h = inl refl
 
-pub table_cause : (source : Option (List ℕ)) (bytes : List ℕ) (before after : ℕ) (r : TableRefusal) → IfSome source (λ text. bytes ≡ text) → after ≡ before
-    → IsTableFault bytes r → IsTableRefusal source before after (of_table r)
-table_cause source bytes before after table.BadHead is ok fault = (if_text source bytes (λ text. IsWrongTable text refusal.TableBadHead) is fault, ok)
-table_cause source bytes before after (table.WrongLength found due) is ok fault = (if_text source bytes (λ text. IsWrongTable text (refusal.TableWrongLength found due)) is fault, ok)
-table_cause source bytes before after (table.BadEntry index kept) is ok fault = (if_text source bytes (λ text. IsWrongTable text (refusal.TableBadEntry index kept)) is fault, ok)
-table_cause source bytes before after (table.Memory error) is ok fault = tt
-
-pub table_accepted : (source : Option (List ℕ)) (bytes : List ℕ) (r : TableRefusal) → IfSome source (λ text. bytes ≡ text) → IsTableFault bytes r
-    → IfSome source (λ text. (k : ℕ) (numbers : List ℕ) → IsTable k numbers → text ≡ bytes_of k numbers → IsTableReadFor (of_table r))
-table_accepted source bytes r is fault =
-    if_text source bytes (λ text. (k : ℕ) (numbers : List ℕ) → IsTable k numbers → text ≡ bytes_of k numbers → IsTableReadFor (of_table r)) is (only r fault)
-  where
-    only : (r : TableRefusal) → IsTableFault bytes r → (k : ℕ) (numbers : List ℕ) → IsTable k numbers → bytes ≡ bytes_of k numbers → IsTableReadFor (of_table r)
-    only table.BadHead h k numbers sound same = absurd (faulty_bytes_are_no_table bytes table.BadHead tt h k numbers sound same)
-    only (table.WrongLength found due) h k numbers sound same = absurd (faulty_bytes_are_no_table bytes (table.WrongLength found due) tt h k numbers sound same)
-    only (table.BadEntry index kept) h k numbers sound same = absurd (faulty_bytes_are_no_table bytes (table.BadEntry index kept) tt h k numbers sound same)
-    only (table.Memory error) h k numbers sound same = inl refl
+-- the bytes of a table are refused for want of memory alone
+pub table_accepted : (bytes : List ℕ) (r : TableRefusal) → OnFalse (is_memory r) (IsTableFault bytes r)
+    → (k : ℕ) × ((numbers : List ℕ) × (IsTable k numbers × (bytes ≡ bytes_of k numbers))) → of_table r ≡ refusal.Memory
+table_accepted bytes table.BadHead h good = absurd (faulty_bytes_are_no_table bytes table.BadHead h good.0 good.1.0 good.1.1.0 good.1.1.1)
+table_accepted bytes (table.WrongLength found due) h good = absurd (faulty_bytes_are_no_table bytes (table.WrongLength found due) h good.0 good.1.0 good.1.1.0 good.1.1.1)
+table_accepted bytes (table.BadEntry index kept) h good = absurd (faulty_bytes_are_no_table bytes (table.BadEntry index kept) h good.0 good.1.0 good.1.1.0 good.1.1.1)
+table_accepted bytes (table.Memory error) h good = refl
 
 -- ---- the line on a sound table
 
@@ -137,4 +124,4 @@ not_root : (k n : ℕ) → take 5 (sound_text k n) ≢ codes "root "
 not_root k n same = let first : ◌≡◌ {A = ℕ} 115 114 = ap (λ t. get_or t 0 0) same in omega (arith, first)
 
 pub sound_says : (k n : ℕ) (text : List ℕ) → IsLine (sound_text k n) → text ≡ sound_text k n → SaysTrue text
-sound_says k n text one is front back whole = other_line_says_no_value (sound_text k n) front back one (not_root k n) (sym is ∙ whole)
+sound_says k n text one is front back whole = no_root-is_true front (other_line_says_no_root (sound_text k n) front back one (not_root k n) (sym is ∙ whole))

@@ -1,7 +1,7 @@
-pub mod LookAhead
+pub mod Showing
 pub mod Solving
+pub mod Verifying
 pub mod Tables
-pub mod Certificates
+pub mod Commands
 pub mod Bench
 pub mod Steps
-pub mod Writing

@@ -1,108 +1,75 @@
 -- The steps of a run, which the private functions answer for.
-use Rattle.std.specs.Prelude.{◌≡◌, ◌↔◌, ℕ, ◌<◌, ◌≤◌, ◌⊎◌, Bool, true, IsTrue, List, Option, IfSome, IsSome, All, length}
-use Rattle.std.specs.Io.KnownBytes.{IsAtEnd}
-use Rattle.draughts_board.specs.Board.{IsLawful}
-use Rattle.bench_edges.specs.declared.source.ReadRefusal.{ReadRefusal}
-use Rattle.bench_edges.specs.declared.source.ReadRefusal.TheVariants as read
+use Rattle.std.specs.Prelude.{◌≡◌, ◌≢◌, ℕ, ◌≤◌, ◌⊎◌, Bool, IsTrue, List, [], ◌++◌, length, Option, IfSome}
+use Rattle.bench_edges.specs.declared.status.Status.TheVariants.{Input}
 use Rattle.bench_edges.specs.declared.words.Command.{Command}
 use Rattle.bench_edges.specs.declared.words.Command.TheVariants.{Solve, Verify, MakeTable, TableCheck}
-use Rattle.bench_edges.specs.declared.words.Options.{Options}
+use Rattle.certificate_text.specs.Text.{ReadsAs}
+use Rattle.draughts_board.specs.Board.{Board, other}
+use Rattle.draughts_board.specs.Draughts.{draughts}
+use Rattle.draughts_board.specs.Game.{ShowsWin, ShowsHold}
+use Rattle.draughts_board.specs.declared.pieces.Side.{Side}
+use Rattle.draughts_board.specs.declared.pieces.Value.TheVariants.{Draw}
 use Rattle.endgame_table.specs.Bytes.{bytes_of}
 use Rattle.endgame_table.specs.Entries.{IsTable}
 use Rattle.pdn_openings.specs.declared.opening.Opening.{Opening}
-use Rattle.opening_report.specs.declared.roots.Root.{Root}
+use Rattle.proof_numbers.specs.Known.{Known, win_known, hold_known, value_known, knows_win, knows_hold}
+use Rattle.strategy_certificate.specs.Certificates.{IsGood}
+use Rattle.strategy_certificate.specs.declared.claims.Claim.{Claim}
+use Rattle.strategy_certificate.specs.declared.claims.Claim.TheVariants as claim
+use Rattle.strategy_certificate.specs.declared.certificates.Certificate.{Certificate}
+use Rattle.opening_report.specs.Lines.{IsLine}
+use Rattle.opening_report.specs.Refusals.{refusal_text}
+use Rattle.opening_report.specs.Report.{ValuesAreTrue}
 use Rattle.opening_report.specs.declared.refusals.Refusal.{Refusal}
 use Rattle.opening_report.specs.declared.refusals.Refusal.TheVariants as refusal
-use Rattle.opening_report.specs.Findings.{verified_text, sound_text}
-use Rattle.opening_report.specs.Report.{report_of}
-use Rattle.strategy_certificate.specs.Certificates.{IsGood, IsTrueOf}
-use Rattle.strategy_certificate.specs.declared.certificates.Certificate.{Certificate}
-use Rattle.certificate_text.specs.Text.{text_of, IsPrinted}
-use Rattle.opening_bench.specs.Certificates.{IsTextOf}
-use Rattle.opening_bench.specs.Solving.{OpeningsOf, AreRootsOf, root_positions}
+use Rattle.opening_bench.specs.Bench.{IsInput, status_of}
+use Rattle.opening_bench.specs.Commands.{source_limit, Answers, HasFault}
+use Rattle.opening_bench.specs.Solving.{OpeningsOf}
 
-abbrev pub read_refusal : ReadRefusal → Refusal
-read_refusal read.TooLong = refusal.TooLong
-read_refusal (read.Fault f) = refusal.Read
-read_refusal (read.Memory e) = refusal.Memory
+-- the refusal's text is one line
+abbrev pub IsLineOf : Refusal → Type 0
+IsLineOf r = IsLine (refusal_text r)
 
--- the refusal is not that of words
-abbrev pub IsOfSource : Refusal → Type 0
-IsOfSource (refusal.Words at) = ⊥
-IsOfSource other = Unit {0}
+-- the text has true values alone, and so has each front of it
+abbrev pub SaysTrue : List ℕ → Type 0
+SaysTrue text = (front back : List ℕ) → text ≡ front ++ back → ValuesAreTrue front
 
--- a text that is good is refused only for its length, for a fault of the source, or for want of memory
-abbrev pub IsReadFor : ℕ → List ℕ → Refusal → Type 0
-IsReadFor limit text r = (r ≡ refusal.Memory) ⊎ ((r ≡ refusal.Read) ⊎ ((r ≡ refusal.TooLong) × (limit < length text)))
+-- the bytes are good for the command: openings can be read of them, or a good certificate, or a sound table
+abbrev pub IsGoodFor : Command → List ℕ → Type 0
+IsGoodFor (Solve options) bytes =
+    (openings : List Opening) × OpeningsOf options.plies bytes openings
+IsGoodFor Verify bytes = (c : Certificate) × (IsGood c × ReadsAs bytes c)
+IsGoodFor (MakeTable pieces) bytes = ⊥
+IsGoodFor TableCheck bytes =
+    (k : ℕ) × ((numbers : List ℕ) × (IsTable k numbers × (bytes ≡ bytes_of k numbers)))
 
--- the bytes of a table are refused only for a fault of the source, or for want of memory
-abbrev pub IsTableReadFor : Refusal → Type 0
-IsTableReadFor r = (r ≡ refusal.Memory) ⊎ (r ≡ refusal.Read)
+-- a command refuses these bytes: a fault of theirs stands, or memory ran out
+abbrev pub IsAnswerFault : Command → List ℕ → Refusal → Type 0
+IsAnswerFault command bytes r = (r ≡ refusal.Memory) ⊎ HasFault command bytes r
 
--- the source was read to its end, and these are the roots of the openings of its text
-pub record IsSolvedTo (plies depth : ℕ) (before after : Option (List ℕ)) (roots : List Root) : Type 0 where
-  pub fits : IfSome before (λ text. length text ≤ 16777216)
-  pub openings : List Opening
-  pub few : length openings ≤ 4096
-  pub lawful : All (λ opening. IsLawful opening.position) openings
-  pub read : IfSome before (λ text. OpeningsOf plies text openings)
-  pub only : IfSome before (λ text. (all : List Opening) → OpeningsOf plies text all → openings ≡ all)
-  pub are_roots : AreRootsOf depth (root_positions openings) roots
-  pub end : IsAtEnd after
+-- good bytes are refused for want of memory alone
+abbrev pub IsAnswerFaultOnly : Command → List ℕ → Refusal → Type 0
+IsAnswerFaultOnly command bytes r = IsGoodFor command bytes → r ≡ refusal.Memory
 
--- the text is the report on the roots of the source, and tells whether each has a value
-pub record IsReport (options : Options) (before after : Option (List ℕ)) (text : List ℕ) (settled : Bool) : Type 0 where
-  pub roots : List Root
-  pub solved : IsSolvedTo options.plies options.depth before after roots
-  pub text_is : text ≡ report_of roots
-  pub all : IsTrue settled ↔ All (λ root. IsSome root.value) roots
+-- the text answers what the source holds
+abbrev pub AnswersSource : Command → Option (List ℕ) → List ℕ → Bool → Type 0
+AnswersSource command source text settled =
+    (input : List ℕ) × (IsInput command source input × Answers command input text settled)
 
--- the text is the bytes of a table
-pub record AreTableBytes (pieces : ℕ) (text : List ℕ) (settled : Bool) : Type 0 where
-  pub numbers : List ℕ
-  pub table : IsTable pieces numbers
-  pub text_is : text ≡ bytes_of pieces numbers
-  pub all : settled ≡ true
+-- a good source of the right length is not refused as bad input
+abbrev pub AcceptsGood : Command → Option (List ℕ) → Refusal → Type 0
+AcceptsGood command source r =
+    IfSome source (λ told. IsGoodFor command told
+    → IfSome (source_limit command) (λ limit. length told ≤ limit)
+    → status_of r ≢ Input)
 
--- the source was read to its end and is the bytes of a table, and the text says so
-pub record IsSoundLine (before after : Option (List ℕ)) (text : List ℕ) (settled : Bool) : Type 0 where
-  pub pieces : ℕ
-  pub numbers : List ℕ
-  pub table : IsTable pieces numbers
-  pub read : IfSome before (λ bytes. bytes ≡ bytes_of pieces numbers)
-  pub text_is : text ≡ sound_text pieces (length numbers)
-  pub end : IsAtEnd after
-  pub all : settled ≡ true
+-- what a claim tells of its position
+abbrev pub told_of : Claim → Known
+told_of (claim.Win s) = win_known s
+told_of (claim.Hold s) = hold_known s
+told_of claim.Draw = value_known Draw
 
--- the source was read to its end and is the text of a good certificate, whose claim is true, and the text says so
-pub record IsVerifiedLine (before after : Option (List ℕ)) (text : List ℕ) (settled : Bool) : Type 0 where
-  pub fits : IfSome before (λ bytes. length bytes ≤ 268435456)
-  pub certificate : Certificate
-  pub printed : IsPrinted certificate
-  pub read : IfSome before (λ bytes. bytes ≡ text_of certificate)
-  pub good : IsGood certificate
-  pub right : IsTrueOf certificate.claim certificate.position
-  pub text_is : text ≡ verified_text certificate.position certificate.claim
-  pub end : IsAtEnd after
-  pub all : settled ≡ true
-
--- what a command has to write
-abbrev pub Produces : Command → Option (List ℕ) → Option (List ℕ) → List ℕ → Bool → Type 0
-Produces (Solve options) before after text settled = IsReport options before after text settled
-Produces Verify before after text settled = IsVerifiedLine before after text settled
-Produces (MakeTable pieces) before after text settled = AreTableBytes pieces text settled
-Produces TableCheck before after text settled = IsSoundLine before after text settled
-
--- the words of a command were read, so that its numbers are within their limits
-abbrev pub IsWithin : Command → Type 0
-IsWithin (Solve options) = Unit {0}
-IsWithin Verify = Unit {0}
-IsWithin (MakeTable pieces) = (pieces ≡ 2) ⊎ (pieces ≡ 3)
-IsWithin TableCheck = Unit {0}
-
--- a source that is good for a command is refused only for its length, for a fault, or for want of memory
-abbrev pub IsGoodFor : Command → Option (List ℕ) → Refusal → Type 0
-IsGoodFor (Solve options) source r = IfSome source (λ text. (all : List Opening) → OpeningsOf options.plies text all → IsReadFor 16777216 text r)
-IsGoodFor Verify source r = IfSome source (λ bytes. (c : Certificate) → IsGood c → IsTextOf c bytes → IsReadFor 268435456 bytes r)
-IsGoodFor (MakeTable pieces) source r = Unit {0}
-IsGoodFor TableCheck source r = IfSome source (λ bytes. (k : ℕ) (numbers : List ℕ) → IsTable k numbers → bytes ≡ bytes_of k numbers → IsTableReadFor r)
+-- what unrolling shows of whether the goal wins is known: its win, or the other side's hold
+pub record CoversGoal (k : ℕ) (goal : Side) (d : ℕ) (p : Board) (facts : Known) : Type 0 where
+  pub win : ShowsWin draughts k goal d p → IsTrue (knows_win goal facts)
+  pub hold : ShowsHold draughts k (other goal) d [] p → IsTrue (knows_hold (other goal) facts)

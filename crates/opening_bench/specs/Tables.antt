@@ -1,29 +1,30 @@
--- Why the bytes of a source are no sound table.
-use Rattle.std.specs.Prelude.{◌≡◌, ℕ, ◌<◌, List, Option, IfSome, length}
-use Rattle.bench_edges.specs.Faults.{Rose}
+-- What `table` and `table-check` do: the bytes of a sound table, and whether bytes are such.
+use Rattle.std.specs.Prelude.{◌≡◌, ℕ, List, length}
+use Rattle.endgame_table.specs.Bytes.{bytes_of}
+use Rattle.endgame_table.specs.Entries.{IsTable}
+use Rattle.opening_report.specs.Conversions.{of_table}
+use Rattle.opening_report.specs.Findings.{sound_text}
 use Rattle.opening_report.specs.declared.refusals.Refusal.{Refusal}
-use Rattle.opening_report.specs.declared.refusals.Refusal.TheVariants as refusal
 use Rattle.table_checker.specs.Faults.{IsTableFault}
 use Rattle.table_checker.specs.declared.refusal.TableRefusal.{TableRefusal}
-use Rattle.table_checker.specs.declared.refusal.TableRefusal.TheVariants as table
 
--- what is wrong with the bytes
-abbrev pub IsWrongTable : List ℕ → Refusal → Type 0
-IsWrongTable bytes refusal.TableBadHead = IsTableFault bytes table.BadHead
-IsWrongTable bytes (refusal.TableWrongLength found due) = IsTableFault bytes (table.WrongLength found due)
-IsWrongTable bytes (refusal.TableBadEntry index kept) = IsTableFault bytes (table.BadEntry index kept)
-IsWrongTable bytes other = ⊥
+-- ---- what is written
 
--- why `table-check` was refused: its source is too long, or is no sound table; or it failed; or memory ran out
-abbrev pub IsTableRefusal : Option (List ℕ) → ℕ → ℕ → Refusal → Type 0
-IsTableRefusal source before after refusal.TooLong = IfSome source (λ bytes. 4194304 < length bytes) × (after ≡ before)
-IsTableRefusal source before after refusal.Memory = Unit {0}
-IsTableRefusal source before after refusal.Read = Rose before after
-IsTableRefusal source before after other = IfSome source (λ bytes. IsWrongTable bytes other) × (after ≡ before)
+-- the bytes are those of a sound table of so many pieces
+abbrev pub AreTableBytes : ℕ → List ℕ → Type 0
+AreTableBytes pieces bytes =
+    (numbers : List ℕ) × (IsTable pieces numbers × (bytes ≡ bytes_of pieces numbers))
 
--- the refusal of bytes that are no sound table
-abbrev pub of_table : TableRefusal → Refusal
-of_table table.BadHead = refusal.TableBadHead
-of_table (table.WrongLength found due) = refusal.TableWrongLength found due
-of_table (table.BadEntry index kept) = refusal.TableBadEntry index kept
-of_table (table.Memory error) = refusal.Memory
+-- The text says what a source is: the bytes of a sound table; the text names its pieces and how many entries it has.
+pub record IsSoundOf (source text : List ℕ) : Type 0 where
+  pub pieces : ℕ
+  pub numbers : List ℕ
+  pub table : IsTable pieces numbers
+  pub read : source ≡ bytes_of pieces numbers
+  pub text_is : text ≡ sound_text pieces (length numbers)
+
+-- ---- what is wrong
+
+-- the source is not the bytes of a sound table, and this is why
+abbrev pub HasTableFault : List ℕ → Refusal → Type 0
+HasTableFault source r = (fault : TableRefusal) × ((r ≡ of_table fault) × IsTableFault source fault)

@@ -1,23 +1,20 @@
 //! `opening_bench`: what openings of English draughts are worth, proved.
 //!
-//! The program reads games, looks a few plies ahead from the position after each opening, and writes what that shows.
-//! [`bench`] does all of it, over any source and any sink, and promises what it writes; `main` only gives it the words,
+//! The program reads games, searches the position after each opening, and writes what the certificates found there show
+//! of its value. [`bench`] does all of it, over any source and any sink, and promises what it writes; `main` only gives it the words,
 //! standard input and standard output, and answers `--help` and `--version` itself.
 #![tactic(auto)]
 
 mod bench;
 #[cfg(test)]
 mod certificate_tests;
-mod certificates;
-mod look_ahead;
+mod commands;
 mod output;
-mod solve;
+mod reading;
 #[cfg(test)]
 mod table_tests;
-mod tables;
 #[cfg(test)]
 mod tests;
-mod text;
 
 pub use bench::bench as run;
 use bench_edges::{Status, StdSink, StdSource, write_all};
@@ -31,7 +28,7 @@ const NO_WORDS: u8 = 9;
 const USAGE: &str = "opening_bench: what openings of English draughts are worth, proved.
 
 Usage:
-  opening_bench PATH solve [--depth N] [--plies N] < GAMES.pdn
+  opening_bench PATH solve [--depth N] [--pieces K] [--plies N] < GAMES.pdn
   opening_bench PATH verify < CERTIFICATE
   opening_bench PATH table K > TABLE
   opening_bench PATH table-check < TABLE
@@ -40,27 +37,31 @@ Usage:
 
 PATH       the journal's; no journal is kept yet, and `-` will do
 --depth N  how many plies are looked ahead, 0 to 12 (4 where it is not given)
+--pieces K how many pieces the endgame table has at most, 2 or 3 (2 where it is not given)
 --plies N  how many plies of each game are its opening, 0 to 200 (200 where it is not given)
 
 K          how many pieces an endgame table has at most, 2 or 3
 
-`solve`: the games are PDN, of at most 16777216 bytes and 4096 games. Written are a line `root NUMBER FEN VALUE` for each
-distinct position after an opening, VALUE being black-wins, white-wins or unsolved, and a line that counts them.
-`verify` reads the text of a certificate, of at most 268435456 bytes, fills the endgame table that it names, and writes
-`verified FEN CLAIM` where the certificate is good, or else why it is not. `table` writes the bytes of the endgame table
-of K pieces. `table-check` reads such bytes, at most 4194304, and writes `sound table K entries E` where each entry is
-right, or else which is not.
+`solve`: the games are PDN, of at most 16777216 bytes and 4096 games. Written are a line
+`root NUMBER FEN VALUE` for each distinct position after an opening, VALUE being black-wins,
+white-wins, draw or unsolved, and a line that counts them. `verify` reads the text of a certificate,
+of at most 268435456 bytes, fills the endgame table that it names, and writes `verified FEN CLAIM`
+where the certificate is good, or else why it is not. `table` writes the bytes of the endgame table
+of K pieces. `table-check` reads such bytes, at most 4194304, and writes `sound table K entries E`
+where each entry is right, or else which is not.
 
 Exit status:
   0  each position has a value; the certificate is good; the table was written, or is sound
   1  some position is unsolved
   2  the words are not of the form above
-  3  the games cannot be read, or have no openings; the certificate is not good; the bytes are no sound table
+  3  the games cannot be read, or have no openings; the certificate is not good; the bytes are no
+     sound table
   6  no memory
   7  standard input failed
   8  standard output failed
   9  the words could not be had from the system
-With 2, 3, 6 and 7 one line says why.
+With 2, 3, 6 and 7 one line says why, but with 6 nothing is written where memory ends while the
+words are read.
 ";
 
 /// What `--version` writes.

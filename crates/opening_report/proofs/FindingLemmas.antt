@@ -7,10 +7,11 @@ use Rattle.strategy_certificate.specs.declared.claims.Claim.{Claim}
 use Rattle.strategy_certificate.specs.declared.claims.Claim.TheVariants as claims
 use Rattle.fen_text.specs.Printed.{fen_of}
 use Rattle.certificate_text.specs.Lines.{claim_word}
-use Rattle.opening_report.specs.Lines.{Lacks, IsLine}
+use Rattle.shared_words.specs.Bytes.{Lacks}
+use Rattle.opening_report.specs.Lines.{IsLine}
 use Rattle.opening_report.specs.Findings.{verified_text}
 use Rattle.opening_report.proofs.LineLemmas.{IsLine-append}
-use Rattle.opening_report.proofs.FenFacts.{Lacks-fen}
+use Rattle.fen_text.proofs.Plain.{Lacks-fen}
 use Rattle.opening_report.proofs.RefusalLemmas.{end_is_line}
 
 Lacks-claim_word : (c : Claim) → Lacks 10 (claim_word c)

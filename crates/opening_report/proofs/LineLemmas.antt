@@ -1,39 +1,14 @@
 -- Where a line stands in a text of lines.
-use Rattle.std.proofs.Common.{◌≡◌, ℕ, zero, suc, ◌+◌, ◌<◌, ◌^◌, inl, inr, Bool, true, false, not, ◌||◌, List, [], ◌∷◌, ◌++◌, refl, sym, ◌∙◌, ap, subst, arith, append_assoc, map, ◌==◌}
-use Rattle.std.specs.Prelude.{Contains, decimal}
+use Rattle.std.proofs.Common.{◌≡◌, ℕ, inl, inr, Bool, true, false, not, ◌||◌, List, [], ◌∷◌, ◌++◌, refl, sym, ◌∙◌, ap, subst, arith, append_assoc, ◌==◌}
+use Rattle.std.specs.Prelude.{Contains}
 use Rattle.std.specs.List.{list_any, flat_map, AllByRecursion}
-use Rattle.std.specs.Int.Digits.{digits_of}
 use Rattle.std.proofs.lemmas.Bool.{true≢false}
-use Rattle.std.proofs.lemmas.Fmt.{decimal-digits_of, decimal_digit}
 use Rattle.std.proofs.lemmas.List.{append-nil}
 use Rattle.draughts_board.proofs.Members.{Contains-nil, Contains-cons_cases, Contains-head, Contains-tail, bool_cases}
 use Rattle.std.specs.Cmp.{first_so, second_so}
-use Rattle.opening_report.specs.Lines.{Lacks, IsLine, is_line, EndsLine, HasLine}
-
-or_first : (a b : Bool) → (a || b) ≡ false → a ≡ false
-or_first true b h = h
-or_first false b h = refl
-
-or_second : (a b : Bool) → (a || b) ≡ false → b ≡ false
-or_second true b h = absurd (true≢false h)
-or_second false b h = h
-
-same_is : (n : ℕ) → (n == n) ≡ true
-same_is n = grind arith
-
--- before the first separator two texts agree, and behind it too
-pub fields_agree : (c : ℕ) (a b r s : List ℕ) → Lacks c a → Lacks c b → a ++ c ∷ r ≡ b ++ c ∷ s → (a ≡ b) × (r ≡ s)
-fields_agree c [] [] r s h g e = (refl, tail e)
-  where
-    tail : {x y : ℕ} {xs ys : List ℕ} → x ∷ xs ≡ y ∷ ys → xs ≡ ys
-    tail e = cc
-fields_agree c [] (y ∷ b) r s h g e = absurd (true≢false (sym (same_is c) ∙ ap (λ n. n == c) (let f : c ≡ y = cc in f) ∙ or_first (y == c) _ g))
-fields_agree c (x ∷ a) [] r s h g e = absurd (true≢false (sym (same_is c) ∙ ap (λ n. n == c) (let f : c ≡ x = cc in f) ∙ or_first (x == c) _ h))
-fields_agree c (x ∷ a) (y ∷ b) r s h g e =
-    let heads : x ≡ y = cc in
-    let tails : a ++ c ∷ r ≡ b ++ c ∷ s = cc in
-    let rest = fields_agree c a b r s (or_second (x == c) _ h) (or_second (y == c) _ g) tails in
-    (λ i. heads i ∷ rest.0 i, rest.1)
+use Rattle.shared_words.specs.Bytes.{Lacks}
+use Rattle.shared_words.proofs.LackingBytes.{Lacks-append, halves_agree}
+use Rattle.opening_report.specs.Lines.{IsLine, is_line, EndsLine, HasLine}
 
 -- the first line of a text that ends with a line end
 pub record FirstLine (text : List ℕ) : Type 0 where
@@ -68,7 +43,7 @@ line_among [] before line after each one ends e = absurd (empty_split before lin
 line_among (l ∷ lines) before line after each one (inl nothing) e =
     let lined : (one.0 ++ 10 ∷ []) ++ after ≡ (each.0.0 ++ 10 ∷ []) ++ flat_map (λ l. l) lines =
     ap (λ t. t ++ after) (sym one.1.1) ∙ ap (λ b. b ++ (line ++ after)) (sym nothing) ∙ e ∙ ap (λ t. t ++ flat_map (λ l. l) lines) each.0.1.1 in
-    let bodies = fields_agree 10 one.0 each.0.0 after (flat_map (λ l. l) lines) one.1.0 each.0.1.0
+    let bodies = halves_agree 10 one.0 each.0.0 after (flat_map (λ l. l) lines) one.1.0 each.0.1.0
     (sym (append_assoc one.0 (10 ∷ []) after) ∙ lined ∙ append_assoc each.0.0 (10 ∷ []) (flat_map (λ l. l) lines)) in
     let same : line ≡ l = one.1.1 ∙ ap (λ b. b ++ 10 ∷ []) bodies.0 ∙ sym each.0.1.1 in
     subst (λ x. Contains (l ∷ lines) x) (sym same) (Contains-head l lines)
@@ -78,22 +53,8 @@ line_among (l ∷ lines) before line after each one (inr ended) e =
     sym (append_assoc first.body (10 ∷ first.rest) (line ++ after))
     ∙ ap (λ t. t ++ (line ++ after)) (sym first.split ∙ sym ended.1) ∙ e
     ∙ ap (λ t. t ++ flat_map (λ l. l) lines) each.0.1.1 ∙ append_assoc each.0.0 (10 ∷ []) (flat_map (λ l. l) lines) in
-    let rest = fields_agree 10 first.body each.0.0 (first.rest ++ (line ++ after)) (flat_map (λ l. l) lines) first.bare each.0.1.0 lined in
+    let rest = halves_agree 10 first.body each.0.0 (first.rest ++ (line ++ after)) (flat_map (λ l. l) lines) first.bare each.0.1.0 lined in
     Contains-tail l line lines (line_among lines first.rest line after each.1 one first.ends rest.1)
-
--- ---- numbers have no separator in them
-
-Lacks-digits : (c : ℕ) (ds : List ℕ) → c < 48 → Lacks c (map (λ d. 48 + d) ds)
-Lacks-digits c [] h = refl
-Lacks-digits c (d ∷ ds) h = let e : (48 + d == c) ≡ false = grind arith in ap (λ b. b || list_any (λ n. n == c) (map (λ d. 48 + d) ds)) e ∙ Lacks-digits c ds h
-
-pub Lacks-decimal : (c n : ℕ) → c < 48 → n < 2 ^ 64 → Lacks c (decimal n)
-Lacks-decimal c zero h l = let e : (48 == c) ≡ false = grind arith in subst (Lacks c) (sym (decimal_digit 0 (omega arith))) (ap (λ b. b || false) e)
-Lacks-decimal c (suc n) h l = subst (Lacks c) (sym (decimal-digits_of (suc n) (omega arith) l)) (Lacks-digits c (digits_of 10 (suc n)) h)
-
-pub Lacks-append : (c : ℕ) (a b : List ℕ) → Lacks c a → Lacks c b → Lacks c (a ++ b)
-Lacks-append c [] b h g = g
-Lacks-append c (x ∷ a) b h g = ap (λ t. t || list_any (λ n. n == c) (a ++ b)) (or_first (x == c) _ h) ∙ Lacks-append c a b (or_second (x == c) _ h) g
 
 -- ---- lines from their test, and lines of parts
 

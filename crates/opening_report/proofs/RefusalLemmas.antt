@@ -1,12 +1,15 @@
 -- The lines of refusals are lines.
 use Rattle.std.proofs.Common.{◌≡◌, ℕ, ◌<◌, ◌^◌, List, [], ◌∷◌, ◌++◌, refl, ◌∙◌, ap, append_assoc, lit<}
 use Rattle.std.specs.Prelude.{codes, decimal}
-use Rattle.opening_report.specs.Lines.{Lacks, IsLine}
+use Rattle.shared_words.specs.Bytes.{Lacks}
+use Rattle.opening_report.specs.Lines.{IsLine}
 use Rattle.opening_report.specs.Refusals.{numbered, numbered_twice, of_game, move_words, of_part, of_entry}
-use Rattle.opening_report.proofs.LineLemmas.{Lacks-append, Lacks-decimal, IsLine-append}
+use Rattle.shared_words.proofs.LackingBytes.{Lacks-append}
+use Rattle.shared_words.proofs.Numerals.{Lacks-decimal}
+use Rattle.opening_report.proofs.LineLemmas.{IsLine-append}
 
 number_line : (n : ℕ) (line : List ℕ) → n < 2 ^ 64 → IsLine line → IsLine (decimal n ++ line)
-number_line n line small one = IsLine-append (decimal n) line (Lacks-decimal 10 n (lit< tt) small) one
+number_line n line small one = IsLine-append (decimal n) line (Lacks-decimal 10 n refl small) one
 
 pub end_is_line : IsLine (10 ∷ [])
 end_is_line = ([], (refl, refl))
@@ -19,7 +22,7 @@ numbered_twice_is_line first a second b bare small bare_too small_too =
     IsLine-append first (decimal a ++ numbered second b) bare (number_line a (numbered second b) small (numbered_is_line second b bare_too small_too))
 
 pub game_is_bare : (game : ℕ) → game < 2 ^ 64 → Lacks 10 (codes "refused input game " ++ decimal game)
-game_is_bare game small = Lacks-append 10 (codes "refused input game ") (decimal game) refl (Lacks-decimal 10 game (lit< tt) small)
+game_is_bare game small = Lacks-append 10 (codes "refused input game ") (decimal game) refl (Lacks-decimal 10 game refl small)
 
 pub of_game_is_line : (game : ℕ) (rest : List ℕ) → game < 2 ^ 64 → IsLine rest → IsLine (of_game game rest)
 of_game_is_line game rest small one = IsLine-append (codes "refused input game ") (decimal game ++ rest) refl (number_line game rest small one)

@@ -12,16 +12,19 @@ use Rattle.draughts_board.specs.Draughts.{draughts}
 use Rattle.draughts_board.proofs.Members.{Contains-nil, Contains-cons_cases, Contains-head, Contains-tail, only_one}
 use Rattle.fen_text.specs.Printed.{fen_of}
 use Rattle.opening_report.specs.declared.roots.Root.{Root}
-use Rattle.opening_report.specs.Lines.{Lacks, IsLine, HasLine}
-use Rattle.opening_report.specs.Report.{word_of, root_line, root_lines, settled_count, summary_line, report_lines, report_of, ValuesAreTrue, StandsOnce, AreTrueRoots, AreApart}
+use Rattle.shared_words.specs.Bytes.{Lacks}
+use Rattle.opening_report.specs.Lines.{IsLine, HasLine}
+use Rattle.opening_report.specs.Report.{word_of, root_line, root_lines, settled_count, summary_line, report_lines, report_of, ValuesAreTrue, SaysRoots, SaysNoRoot, StandsOnce, AreTrueRoots, AreApart}
 use Rattle.opening_report.specs.declared.refusals.Refusal.{Refusal}
 use Rattle.opening_report.specs.declared.refusals.Refusal.TheVariants as refusal
 use Rattle.opening_report.specs.Refusals.{refusal_text}
 use Rattle.std.proofs.lemmas.Fmt.{decimal_injective}
 use Rattle.std.proofs.lemmas.List.{append-nil}
 use Rattle.std.proofs.lemmas.Grind.{common_steps}
-use Rattle.opening_report.proofs.LineLemmas.{fields_agree, line_among, line_stands, Lacks-decimal, Lacks-append}
-use Rattle.opening_report.proofs.FenFacts.{Lacks-fen}
+use Rattle.shared_words.proofs.LackingBytes.{Lacks-append, halves_agree}
+use Rattle.shared_words.proofs.Numerals.{Lacks-decimal}
+use Rattle.opening_report.proofs.LineLemmas.{line_among, line_stands}
+use Rattle.fen_text.proofs.Plain.{Lacks-fen}
 use Rattle.fen_text.proofs.Plain.{printed_tells_apart}
 
 -- ---- a root's line is a line
@@ -45,7 +48,7 @@ Lacks-root_body n p v l lawful =
     let position : List ℕ = 32 ∷ (fen_of p ++ word) in
     let number : List ℕ = decimal n ++ position in
     let with_position : Lacks 10 position = blank_then (fen_of p ++ word) (Lacks-append 10 (fen_of p) word (Lacks-fen 10 p refl lawful) (blank_then (word_of v) (Lacks-word v))) in
-    let with_number : Lacks 10 number = Lacks-append 10 (decimal n) position (Lacks-decimal 10 n (lit< tt) l) with_position in
+    let with_number : Lacks 10 number = Lacks-append 10 (decimal n) position (Lacks-decimal 10 n refl l) with_position in
     Lacks-append 10 (codes "root ") number refl with_number
 
 pub root_line-is_line : (n : ℕ) (p : Board) (v : Option Value) → n < 2 ^ 64 → IsLawful p → IsLine (root_line n p v)
@@ -87,10 +90,10 @@ summary_line-is_line roots l =
     let settled : List ℕ = decimal (settled_count roots) ++ unsolved in
     let settled_word : List ℕ = codes " settled " ++ settled in
     let total : List ℕ = decimal (length roots) ++ settled_word in
-    let with_unsolved : Lacks 10 unsolved = Lacks-append 10 (codes " unsolved ") open_count refl (Lacks-decimal 10 (length roots - settled_count roots) (lit< tt) left) in
-    let with_settled : Lacks 10 settled = Lacks-append 10 (decimal (settled_count roots)) unsolved (Lacks-decimal 10 (settled_count roots) (lit< tt) few) with_unsolved in
+    let with_unsolved : Lacks 10 unsolved = Lacks-append 10 (codes " unsolved ") open_count refl (Lacks-decimal 10 (length roots - settled_count roots) refl left) in
+    let with_settled : Lacks 10 settled = Lacks-append 10 (decimal (settled_count roots)) unsolved (Lacks-decimal 10 (settled_count roots) refl few) with_unsolved in
     let with_word : Lacks 10 settled_word = Lacks-append 10 (codes " settled ") settled refl with_settled in
-    let with_total : Lacks 10 total = Lacks-append 10 (decimal (length roots)) settled_word (Lacks-decimal 10 (length roots) (lit< tt) l) with_word in
+    let with_total : Lacks 10 total = Lacks-append 10 (decimal (length roots)) settled_word (Lacks-decimal 10 (length roots) refl l) with_word in
     let with_roots : Lacks 10 (summary_body roots) = Lacks-append 10 (codes "roots ") total refl with_total in (
       summary_body roots,
       (
@@ -141,9 +144,9 @@ pub record SaysSame (n m : ℕ) (p q : Board) (v w : Option Value) : Type 0 wher
 
 root_line-tells : (n m : ℕ) (p q : Board) (v w : Option Value) → n < 2 ^ 64 → m < 2 ^ 64 → IsLawful p → IsLawful q → root_line n p v ≡ root_line m q w → SaysSame n m p q v w
 root_line-tells n m p q v w ln lm lp lq e =
-    let numbers = fields_agree 32 (decimal n) (decimal m) (fen_of p ++ 32 ∷ (word_of v ++ 10 ∷ [])) (fen_of q ++ 32 ∷ (word_of w ++ 10 ∷ []))
-    (Lacks-decimal 32 n (lit< tt) ln) (Lacks-decimal 32 m (lit< tt) lm) (ap (drop 5) e) in
-    let fens = fields_agree 32 (fen_of p) (fen_of q) (word_of v ++ 10 ∷ []) (word_of w ++ 10 ∷ []) (Lacks-fen 32 p refl lp) (Lacks-fen 32 q refl lq) numbers.1 in
+    let numbers = halves_agree 32 (decimal n) (decimal m) (fen_of p ++ 32 ∷ (word_of v ++ 10 ∷ [])) (fen_of q ++ 32 ∷ (word_of w ++ 10 ∷ []))
+    (Lacks-decimal 32 n refl ln) (Lacks-decimal 32 m refl lm) (ap (drop 5) e) in
+    let fens = halves_agree 32 (fen_of p) (fen_of q) (word_of v ++ 10 ∷ []) (word_of w ++ 10 ∷ []) (Lacks-fen 32 p refl lp) (Lacks-fen 32 q refl lq) numbers.1 in
     record { number = decimal_injective n m ln lm numbers.0; position = printed_tells_apart p q lp lq fens.0; value = word_of-tells v w fens.1 }
 
 no_summary : (n : ℕ) (p : Board) (v : Option Value) (roots : List Root) → root_line n p v ≡ summary_line roots → ⊥
@@ -172,15 +175,25 @@ line_in_front roots front back n p v few lawful whole small right has =
 all_lawful : (roots : List Root) → AreTrueRoots roots → AllLawful roots
 all_lawful roots right r h = (right r h).lawful
 
--- the front of a report holds true values alone
+-- the front of a report says its roots alone
+pub report-says_roots : (roots : List Root) (front back : List ℕ) → 1 + length roots < 2 ^ 64 → AreTrueRoots roots → report_of roots ≡ front ++ back → SaysRoots roots front
+report-says_roots roots front back few right whole n p v small lawful has =
+    of_root (line_of_root 1 roots (root_line n p v) few (line_in_front roots front back n p v few (all_lawful roots right) whole small lawful has))
+  where
+    of_root : (k : ℕ) × ((r : Root) × (Contains roots r × ((k < 2 ^ 64) × (root_line k r.position r.value ≡ root_line n p v)))) → Contains roots (record { position = p; value = v })
+    of_root (k, (r, (member, (below, same)))) =
+        let said = root_line-tells k n r.position p r.value v below small (right r member).lawful lawful same in
+        subst (λ q. Contains roots (record { position = q; value = v })) said.position
+        (subst (λ w. Contains roots (record { position = r.position; value = w })) said.value member)
+
+-- and so true values alone
 pub report-is_true : (roots : List Root) (front back : List ℕ) → 1 + length roots < 2 ^ 64 → AreTrueRoots roots → report_of roots ≡ front ++ back → ValuesAreTrue front
 report-is_true roots front back few right whole n p v small lawful has =
-    of_root (line_of_root 1 roots (root_line n p (Some v)) few (line_in_front roots front back n p (Some v) few (all_lawful roots right) whole small lawful has))
-  where
-    of_root : (k : ℕ) × ((r : Root) × (Contains roots r × ((k < 2 ^ 64) × (root_line k r.position r.value ≡ root_line n p (Some v))))) → HasValue draughts p v
-    of_root (k, (r, (member, (below, same)))) =
-        let said = root_line-tells k n r.position p r.value (Some v) below small (right r member).lawful lawful same in
-        subst (λ q. HasValue draughts q v) said.position ((right r member).right v said.value)
+    (right (record { position = p; value = Some v }) (report-says_roots roots front back few right whole n p (Some v) small lawful has)).right v refl
+
+-- a text that says no root says no value
+pub no_root-is_true : (text : List ℕ) → SaysNoRoot text → ValuesAreTrue text
+no_root-is_true text none n p v small lawful has = absurd (Contains-nil (record { position = p; value = Some v }) (none n p (Some v) small lawful has))
 
 -- ---- each root's line stands once
 
@@ -240,18 +253,18 @@ roots_stand_once roots r few right apart h =
 -- ---- refusals
 
 -- a whole line of a text that is one line is that line
-pub other_line_says_no_value : (text front back : List ℕ) → IsLine text → take 5 text ≢ codes "root " → text ≡ front ++ back → ValuesAreTrue front
-other_line_says_no_value text front back one other whole n p v small lawful has =
-    let line : List ℕ = root_line n p (Some v) in
+pub other_line_says_no_root : (text front back : List ℕ) → IsLine text → take 5 text ≢ codes "root " → text ≡ front ++ back → SaysNoRoot front
+other_line_says_no_root text front back one other whole n p v small lawful has =
+    let line : List ℕ = root_line n p v in
     let stands : has.before ++ (line ++ (has.after ++ back)) ≡ text ++ [] =
     ap (λ t. has.before ++ t) (sym (append_assoc line has.after back)) ∙ sym (append_assoc has.before (line ++ has.after) back) ∙ ap (λ t. t ++ back) (sym has.split) ∙ sym whole ∙ sym (append-nil text) in
-    let among = line_among (text ∷ []) has.before line (has.after ++ back) (one, tt) (root_line-is_line n p (Some v) small lawful) has.begins stands in
+    let among = line_among (text ∷ []) has.before line (has.after ++ back) (one, tt) (root_line-is_line n p v small lawful) has.begins stands in
     let same : take 5 text ≡ take 5 line = ap (λ t. take 5 t) (only_one text line among) in
     absurd (other same)
 
-pub text_without_roots_says_no_value : (text : List ℕ) → ((before after : List ℕ) → text ≢ before ++ (codes "root " ++ after)) → ValuesAreTrue text
-text_without_roots_says_no_value text without n p v small lawful has =
-    let rest : List ℕ = decimal n ++ 32 ∷ (fen_of p ++ 32 ∷ (word_of (Some v) ++ 10 ∷ [])) in
+pub text_without_roots_says_none : (text : List ℕ) → ((before after : List ℕ) → text ≢ before ++ (codes "root " ++ after)) → SaysNoRoot text
+text_without_roots_says_none text without n p v small lawful has =
+    let rest : List ℕ = decimal n ++ 32 ∷ (fen_of p ++ 32 ∷ (word_of v ++ 10 ∷ [])) in
     absurd (without has.before (rest ++ has.after) (has.split ∙ ap (λ t. has.before ++ t) (append_assoc (codes "root ") rest has.after)))
 
 second_byte : (r : Refusal) → get_or (refusal_text r) 1 0 ≡ 101
@@ -277,15 +290,15 @@ second_byte (refusal.BadRank part entry) = refl
 second_byte (refusal.BadMove part entry) = refl
 second_byte (refusal.Missing part entry) = refl
 second_byte (refusal.StuckHolder part entry) = refl
-second_byte (refusal.NoRoot part) = refl
+second_byte (refusal.CheckNoRoot part) = refl
 second_byte refusal.TableBadHead = refl
 second_byte (refusal.TableWrongLength found due) = refl
 second_byte (refusal.TableBadEntry index kept) = refl
 second_byte refusal.Memory = refl
 second_byte refusal.Read = refl
 
-pub refusal_says_no_value : (r : Refusal) (front back : List ℕ) → IsLine (refusal_text r) → refusal_text r ≡ front ++ back → ValuesAreTrue front
-refusal_says_no_value r front back one whole = other_line_says_no_value (refusal_text r) front back one other whole
+pub refusal_says_no_root : (r : Refusal) (front back : List ℕ) → IsLine (refusal_text r) → refusal_text r ≡ front ++ back → SaysNoRoot front
+refusal_says_no_root r front back one whole = other_line_says_no_root (refusal_text r) front back one other whole
   where
     other : take 5 (refusal_text r) ≢ codes "root "
     other same =

@@ -1,10 +1,6 @@
 -- The lines of a text. A line end is the byte 10.
 use Rattle.std.specs.Prelude.{◌≡◌, ℕ, ◌⊎◌, List, [], ◌∷◌, ◌++◌, Bool, false, not, ◌&&◌, ◌==◌}
-use Rattle.std.specs.List.{list_any}
-
--- the byte does not stand in the text
-abbrev pub Lacks : ℕ → List ℕ → Type 0
-Lacks byte text = list_any (λ b. b == byte) text ≡ false
+use Rattle.shared_words.specs.Bytes.{Lacks}
 
 -- a line: a text without line end, and its line end
 abbrev pub IsLine : List ℕ → Type 0

@@ -30,7 +30,8 @@ fen_words Truncated = codes " fen truncated\n"
 
 -- `ply P byte A` and what is wrong with the move
 abbrev pub move_words : ℕ → ℕ → List ℕ → List ℕ
-move_words ply at wrong = codes " ply " ++ (decimal ply ++ (codes " byte " ++ (decimal at ++ wrong)))
+move_words ply at wrong =
+    codes " ply " ++ (decimal ply ++ (codes " byte " ++ (decimal at ++ wrong)))
 
 -- `refused input check part P` and what follows
 abbrev pub of_part : ℕ → List ℕ → List ℕ
@@ -52,20 +53,23 @@ refusal_text refusal.PdnTooManyGames = codes "refused input pdn too-many-games\n
 refusal_text (refusal.OtherGame game) = of_game game (codes " other-game\n")
 refusal_text (refusal.Fen game fault) = of_game game (fen_words fault)
 refusal_text (refusal.Illegal game ply at) = of_game game (move_words ply at (codes " illegal\n"))
-refusal_text (refusal.Ambiguous game ply at) = of_game game (move_words ply at (codes " ambiguous\n"))
+refusal_text (refusal.Ambiguous game ply at) =
+    of_game game (move_words ply at (codes " ambiguous\n"))
 refusal_text (refusal.TextBadLine n) = numbered (codes "refused input certificate bad-line ") n
 refusal_text (refusal.TextBadFen n) = numbered (codes "refused input certificate bad-fen ") n
 refusal_text (refusal.TextDoubled n) = numbered (codes "refused input certificate doubled ") n
-refusal_text refusal.TextTruncated = codes "refused input certificate truncated\n"
 refusal_text (refusal.TextAfterEnd n) = numbered (codes "refused input certificate after-end ") n
+refusal_text refusal.TextTruncated = codes "refused input certificate truncated\n"
 refusal_text refusal.ClaimNotMet = codes "refused input check claim-not-met\n"
 refusal_text (refusal.BadRank part entry) = of_entry part entry (codes " bad-rank\n")
 refusal_text (refusal.BadMove part entry) = of_entry part entry (codes " bad-move\n")
 refusal_text (refusal.Missing part entry) = of_entry part entry (codes " missing\n")
 refusal_text (refusal.StuckHolder part entry) = of_entry part entry (codes " stuck-holder\n")
-refusal_text (refusal.NoRoot part) = of_part part (codes " no-root\n")
+refusal_text (refusal.CheckNoRoot part) = of_part part (codes " no-root\n")
 refusal_text refusal.TableBadHead = codes "refused input table bad-head\n"
-refusal_text (refusal.TableWrongLength found due) = numbered_twice (codes "refused input table wrong-length found ") found (codes " due ") due
-refusal_text (refusal.TableBadEntry index kept) = numbered_twice (codes "refused input table bad-entry ") index (codes " kept ") kept
+refusal_text (refusal.TableWrongLength found due) =
+    numbered_twice (codes "refused input table wrong-length found ") found (codes " due ") due
+refusal_text (refusal.TableBadEntry index kept) =
+    numbered_twice (codes "refused input table bad-entry ") index (codes " kept ") kept
 refusal_text refusal.Memory = codes "refused memory\n"
 refusal_text refusal.Read = codes "refused read\n"

@@ -32,7 +32,8 @@ settled_count = count_by (λ r. is_some r.value)
 -- `roots R settled S unsolved U`
 abbrev pub summary_line : List Root → List ℕ
 summary_line roots =
-    codes "roots " ++ (decimal (length roots) ++ (codes " settled " ++ (decimal (settled_count roots)
+    codes "roots " ++ (decimal (length roots)
+    ++ (codes " settled " ++ (decimal (settled_count roots)
     ++ (codes " unsolved " ++ (decimal (length roots - settled_count roots) ++ 10 ∷ [])))))
 
 -- a line for each root in order, numbered from 1, and the summary
@@ -47,7 +48,19 @@ report_of roots = flat_map (λ line. line) (report_lines roots)
 -- Every value in the text is true: where a whole line of it says `root N F V`, F spells a position, and V is a value
 -- and not `unsolved`, then V is what the position is worth.
 abbrev pub ValuesAreTrue : List ℕ → Type 0
-ValuesAreTrue text = (n : ℕ) (p : Board) (v : Value) → n < 2 ^ 64 → IsLawful p → HasLine text (root_line n p (Some v)) → HasValue draughts p v
+ValuesAreTrue text =
+    (n : ℕ) (p : Board) (v : Value) → n < 2 ^ 64 → IsLawful p
+    → HasLine text (root_line n p (Some v)) → HasValue draughts p v
+
+-- each whole line of the text that says `root N F V`, where F spells a position, says one of these roots
+abbrev pub SaysRoots : List Root → List ℕ → Type 0
+SaysRoots roots text =
+    (n : ℕ) (p : Board) (v : Option Value) → n < 2 ^ 64 → IsLawful p
+    → HasLine text (root_line n p v) → Contains roots (record { position = p; value = v })
+
+-- no whole line of the text says so of a position
+abbrev pub SaysNoRoot : List ℕ → Type 0
+SaysNoRoot text = SaysRoots [] text
 
 -- The position stands in exactly one `root` line of the text.
 pub record StandsOnce (text : List ℕ) (p : Board) : Type 0 where
@@ -55,7 +68,8 @@ pub record StandsOnce (text : List ℕ) (p : Board) : Type 0 where
   pub value : Option Value
   pub small : number < 2 ^ 64
   pub stands : HasLine text (root_line number p value)
-  pub once : (n : ℕ) (v : Option Value) → n < 2 ^ 64 → HasLine text (root_line n p v) → (n ≡ number) × (v ≡ value)
+  pub once : (n : ℕ) (v : Option Value) → n < 2 ^ 64 → HasLine text (root_line n p v)
+      → (n ≡ number) × (v ≡ value)
 
 -- the root is a position, and its value is true if it has one
 pub record IsTrueRoot (r : Root) : Type 0 where
@@ -68,4 +82,5 @@ AreTrueRoots roots = (r : Root) → Contains roots r → IsTrueRoot r
 -- no position stands twice among the roots
 abbrev pub AreApart : List Root → Type 0
 AreApart [] = Unit {0}
-AreApart (r ∷ roots) = ((q : Root) → Contains roots q → ¬ (r.position ≡ q.position)) × AreApart roots
+AreApart (r ∷ roots) =
+    ((q : Root) → Contains roots q → ¬ (r.position ≡ q.position)) × AreApart roots

@@ -23,7 +23,6 @@ pub fn verified_line(position: &Position, claim: Claim) -> ArrayString<128>
     ensures text { result.bytes ≡ verified_text position.now claim }
     ensures line { IsLine (verified_text position.now claim) }
 {
-    let _mover = position.to_move();
     let mut line = ArrayString::new();
     line.push_str("verified ");
     line.push_str(print_fen(position).as_str());

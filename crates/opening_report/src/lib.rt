@@ -5,9 +5,10 @@
 //! a report may believe.
 #![tactic(auto)]
 
-mod check_lines;
+mod conversions;
 mod findings;
 pub mod laws;
+mod part_lines;
 mod refusals;
 mod reports;
 mod roots;

@@ -1,10 +1,11 @@
 //! Why a run was refused, and the line that says so.
 ghost use Rattle.std.specs.Prelude.{◌≡◌, ◌+◌, ◌≤◌, ◌++◌, IsTrue, length, decimal, codes};
 ghost use Rattle.arrayvec.specs.ArrayString.{array_string_len};
-ghost use Rattle.opening_report.specs.Lines.{IsLine, Lacks, is_line};
+ghost use Rattle.opening_report.specs.Lines.{IsLine, is_line};
+ghost use Rattle.shared_words.specs.Bytes.{Lacks};
 ghost use Rattle.opening_report.specs.Refusals.{numbered, numbered_twice, of_game, fen_words, move_words, refusal_text};
 
-use crate::check_lines::{part_entry_line, part_line};
+use crate::part_lines::{part_entry_line, part_line};
 use arrayvec::ArrayString;
 use draughts_board::Side;
 use fen_text::FenRefusal;
@@ -43,10 +44,10 @@ pub enum Refusal {
     TextBadFen(usize),
     /// The position of this line of a certificate's text stands in its part already.
     TextDoubled(usize),
-    /// A certificate's text ends too early.
-    TextTruncated,
     /// This line stands behind the end of a certificate's text.
     TextAfterEnd(usize),
+    /// A certificate's text ends too early.
+    TextTruncated,
     /// The parts of a certificate are not those that its claim needs.
     ClaimNotMet,
     /// The rank of a successor of this entry is not below its own.
@@ -58,7 +59,7 @@ pub enum Refusal {
     /// The holder has no move at this entry.
     StuckHolder { part: usize, entry: usize },
     /// The position of the certificate is missing from this part.
-    NoRoot(usize),
+    CheckNoRoot(usize),
     /// The bytes do not begin as a table's do.
     TableBadHead,
     /// The table has so many bytes, and not as many as its head asks for.
@@ -136,8 +137,10 @@ pub(crate) fn numbered_twice(first: &str, a: usize, second: &str, b: usize) -> A
 
 /// The line on a table that has another length than is due.
 fn length_line(found: usize, due: usize) -> ArrayString<128>
-    ensures bytes { result.bytes ≡ numbered_twice (codes "refused input table wrong-length found ") found (codes " due ") due }
-    ensures line { IsLine (numbered_twice (codes "refused input table wrong-length found ") found (codes " due ") due) }
+    ensures bytes { result.bytes
+        ≡ numbered_twice (codes "refused input table wrong-length found ") found (codes " due ") due }
+    ensures line { IsLine
+        (numbered_twice (codes "refused input table wrong-length found ") found (codes " due ") due) }
 {
     numbered_twice(
         "refused input table wrong-length found ",
@@ -149,8 +152,10 @@ fn length_line(found: usize, due: usize) -> ArrayString<128>
 
 /// The line on a table that is not right at an index.
 fn entry_line(index: u32, kept: u32) -> ArrayString<128>
-    ensures bytes { result.bytes ≡ numbered_twice (codes "refused input table bad-entry ") index (codes " kept ") kept }
-    ensures line { IsLine (numbered_twice (codes "refused input table bad-entry ") index (codes " kept ") kept) }
+    ensures bytes { result.bytes
+        ≡ numbered_twice (codes "refused input table bad-entry ") index (codes " kept ") kept }
+    ensures line { IsLine
+        (numbered_twice (codes "refused input table bad-entry ") index (codes " kept ") kept) }
 {
     let label = "refused input table bad-entry ";
     numbered_twice(label, index as usize, " kept ", kept as usize)
@@ -263,14 +268,14 @@ pub fn refusal_line(r: &Refusal) -> ArrayString<128>
         Refusal::TextBadLine(n) => numbered("refused input certificate bad-line ", n),
         Refusal::TextBadFen(n) => numbered("refused input certificate bad-fen ", n),
         Refusal::TextDoubled(n) => numbered("refused input certificate doubled ", n),
-        Refusal::TextTruncated => plain("refused input certificate truncated\n"),
         Refusal::TextAfterEnd(n) => numbered("refused input certificate after-end ", n),
+        Refusal::TextTruncated => plain("refused input certificate truncated\n"),
         Refusal::ClaimNotMet => plain("refused input check claim-not-met\n"),
         Refusal::BadRank { part, entry } => part_entry_line(part, entry, " bad-rank\n"),
         Refusal::BadMove { part, entry } => part_entry_line(part, entry, " bad-move\n"),
         Refusal::Missing { part, entry } => part_entry_line(part, entry, " missing\n"),
         Refusal::StuckHolder { part, entry } => part_entry_line(part, entry, " stuck-holder\n"),
-        Refusal::NoRoot(part) => part_line(part, " no-root\n"),
+        Refusal::CheckNoRoot(part) => part_line(part, " no-root\n"),
         Refusal::TableBadHead => plain("refused input table bad-head\n"),
         Refusal::TableWrongLength { found, due } => length_line(found, due),
         Refusal::TableBadEntry { index, kept } => entry_line(index, kept),

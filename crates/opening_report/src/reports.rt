@@ -5,7 +5,7 @@ ghost use Rattle.opening_report.specs.Report.{word_of, root_line, settled_count,
 use crate::roots::Root;
 use draughts_board::Value;
 use fen_text::print_fen;
-use itoa::Buffer;
+use shared_words::push_number;
 use std::alloc::{AllocError, Global};
 
 /// The word for a value, and for none.
@@ -20,28 +20,21 @@ fn word(value: Option<Value>) -> &'static str
     }
 }
 
-/// Appends a number in decimal.
-fn push_number(text: &mut Vec<u8>, n: usize) -> Result<(), AllocError>
-    ensures { OnOk result (text.new.items ≡ text.old.items ++ decimal n) }
-{
-    let mut buffer = Buffer::new();
-    text.extend_from_slice(buffer.format(n).as_bytes())
-}
-
 /// Appends a label and a number in decimal.
 fn push_field(text: &mut Vec<u8>, label: &[u8], n: usize) -> Result<(), AllocError>
     ensures { OnOk result (text.new.items ≡ text.old.items ++ (label.now ++ decimal n)) }
 {
     text.extend_from_slice(label)?;
-    push_number(text, n)
+    push_number(text, n as u64)
 }
 
 /// Appends the line of a root, whose number is from 1.
 fn push_root(text: &mut Vec<u8>, number: usize, root: &Root) -> Result<(), AllocError>
-    ensures { OnOk result (text.new.items ≡ text.old.items ++ root_line number root.now.position root.now.value) }
+    ensures { OnOk result
+        (text.new.items ≡ text.old.items ++ root_line number root.now.position root.now.value) }
 {
     text.extend_from_slice(b"root ")?;
-    push_number(text, number)?;
+    push_number(text, number as u64)?;
     text.push(b' ')?;
     text.extend_from_slice(print_fen(&root.position).as_bytes())?;
     text.push(b' ')?;

@@ -225,7 +225,10 @@ fn refusals_of_the_check_of_a_certificate(rt: HostRuntime) {
             },
             "refused input check part 18446744073709551615 entry 18446744073709551614 stuck-holder\n",
         ),
-        (Refusal::NoRoot(2), "refused input check part 2 no-root\n"),
+        (
+            Refusal::CheckNoRoot(2),
+            "refused input check part 2 no-root\n",
+        ),
     ] {
         assert_eq!(rt; refusal_line(&refusal).as_str(), line);
     }

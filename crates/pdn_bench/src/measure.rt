@@ -14,7 +14,7 @@ fn rate(bytes: usize, nanoseconds: u128) -> u128 {
 }
 
 /// Reads a file in parts of one length, five times, and copies it five times. Prints the best of each.
-pub fn time(
+pub(crate) fn time(
     rt: &(impl Files + Print + Clock + Alloc<A = Global>),
     name: &str,
     parts: usize,

@@ -2,7 +2,7 @@
 use Rattle.std.proofs.Common.{◌≡◌, ℕ, zero, suc, ◌-◌, ◌≤◌, List, [], ◌∷◌, length, get_or, sym, ap, subst, arith}
 use Rattle.draughts_board.specs.Board.{Board}
 use Rattle.draughts_board.specs.Rules.{first_square, last_square}
-use Rattle.draughts_rules.specs.Resolution.{matches, meaning}
+use Rattle.draughts_board.specs.Resolution.{matches, meaning}
 use Rattle.pdn_openings.specs.Playing.{squares_between, meaning_of}
 use Rattle.pdn_text.specs.declared.game.MoveText.{MoveText}
 

@@ -9,8 +9,8 @@ use Rattle.draughts_board.proofs.After.{after_is_lawful}
 use Rattle.draughts_board.proofs.Legal.{legal_paths_are_legal}
 use Rattle.draughts_board.proofs.Members.{Contains-from_filter}
 use Rattle.draughts_board.proofs.Successors.{lawful-from_test}
-use Rattle.draughts_rules.proofs.Written.{meaning-among}
-use Rattle.draughts_rules.specs.Resolution.{is_written, matches}
+use Rattle.draughts_board.proofs.Written.{meaning-among}
+use Rattle.draughts_board.specs.Resolution.{is_written, matches}
 use Rattle.pdn_openings.specs.Beginning.{SetsUp, BeginsFrom, first_value}
 use Rattle.pdn_openings.specs.Laws.{OpeningsAreLawful}
 use Rattle.pdn_openings.specs.Openings.{IsOpening, AreOpeningsFrom}

@@ -1,20 +1,23 @@
--- What one game gives, and that it gives nothing else.
-use Rattle.std.proofs.Common.{◌≡◌, ◌∙◌, ◌⊎◌, inl, inr, ℕ, List, take, true, false, Result, Ok, Err, refl, sym, subst}
+-- A game has one opening or one fault.
+use Rattle.std.proofs.Common.{◌≡◌, ◌∙◌, ℕ, List, take, true, false, Option, Some, None, Result, Ok, Err, refl, sym, subst}
+use Rattle.std.specs.Bool.{OnFalse}
+use Rattle.std.specs.Prelude.{codes}
 use Rattle.std.proofs.lemmas.Bool.{false≢true}
 use Rattle.draughts_board.specs.Board.{Board}
-use Rattle.draughts_rules.specs.declared.resolution.ResolveRefusal.{ResolveRefusal}
-use Rattle.draughts_rules.specs.declared.resolution.ResolveRefusal.TheVariants as cause
+use Rattle.draughts_board.specs.declared.resolution.ResolveRefusal.{ResolveRefusal}
+use Rattle.draughts_board.specs.declared.resolution.ResolveRefusal.TheVariants as cause
 use Rattle.fen_text.specs.declared.refusal.FenRefusal.{FenRefusal}
-use Rattle.pdn_openings.specs.Answers.{IsMemory, UnlessMemory, Gives, GivesOnly}
-use Rattle.pdn_openings.specs.Beginning.{is_other_game, BeginsFrom, HasBadFen}
-use Rattle.pdn_openings.specs.Faults.{IsMoveFault, StopsAt}
+use Rattle.fen_text.proofs.Verdict.{one_outcome}
+use Rattle.pdn_openings.specs.Beginning.{is_other_game, SetsUp, SetsUpNone, BeginsFrom, HasBadFen, first_value}
+use Rattle.pdn_openings.specs.Faults.{is_memory, IsFault, IsMoveFault, StopsAt}
+use Rattle.pdn_openings.specs.Openings.{IsOpening}
 use Rattle.pdn_openings.specs.Playing.{LeadTo, StopAt}
 use Rattle.pdn_openings.specs.declared.opening.Opening.{Opening}
 use Rattle.pdn_openings.specs.declared.refusal.OpeningRefusal.{OpeningRefusal}
 use Rattle.pdn_openings.specs.declared.refusal.OpeningRefusal.TheVariants.{OtherGame, Fen, Illegal, Ambiguous, Memory}
-use Rattle.pdn_openings.proofs.Outcome.{one_end, no_stop, one_stop}
+use Rattle.pdn_openings.proofs.Determined.{one_beginning}
+use Rattle.pdn_openings.proofs.Outcome.{SameStop, no_stop, one_stop}
 use Rattle.pdn_text.specs.declared.game.Game.{Game}
-use Rattle.pdn_text.specs.declared.game.MoveText.{MoveText}
 
 -- another game and a game of English draughts
 not_both : (game : Game) → is_other_game game ≡ true → is_other_game game ≡ false → ⊥
@@ -22,101 +25,82 @@ not_both game t f = false≢true (sym f ∙ t)
 
 -- ---- where a game begins
 
--- the game begins so, and not otherwise
-pub record BeginsOnly (game : Game) (answer : Result Board FenRefusal) : Type 0 where
-  pub position : (p : Board) → BeginsFrom game p → answer ≡ Ok p
-  pub fault : (fault : FenRefusal) → HasBadFen game fault → answer ≡ Err fault
+setup_or_fault : (o : Option (List ℕ)) (p : Board) (fault : FenRefusal) → SetsUp o p → SetsUpNone o fault → ⊥
+setup_or_fault None p fault a b = b
+setup_or_fault (Some text) p fault a b = let e : ◌≡◌ {A = Result Board FenRefusal} (Ok p) (Err fault) = one_outcome text (Ok p) (Err fault) a b in absurd (cc)
 
--- ---- its moves
+one_setup_fault : (o : Option (List ℕ)) (e f : FenRefusal) → SetsUpNone o e → SetsUpNone o f → e ≡ f
+one_setup_fault None e f a b = absurd a
+one_setup_fault (Some text) e f a b = let same : ◌≡◌ {A = Result Board FenRefusal} (Err e) (Err f) = one_outcome text (Err e) (Err f) a b in cc
 
-only_start : (game : Game) (start p : Board) → BeginsOnly game (Ok start) → BeginsFrom game p → start ≡ p
-only_start game start p only h = let e : ◌≡◌ {A = Result Board FenRefusal} (Ok start) (Ok p) = only.position p h in cc
+begins_or_not : (game : Game) (p : Board) (fault : FenRefusal) → BeginsFrom game p → HasBadFen game fault → ⊥
+begins_or_not game p fault a b = setup_or_fault (first_value (codes "FEN") game.tags) p fault a b
 
-not_bad : (game : Game) (start : Board) (fault : FenRefusal) → BeginsOnly game (Ok start) → HasBadFen game fault → ⊥
-not_bad game start fault only h = let e : ◌≡◌ {A = Result Board FenRefusal} (Ok start) (Err fault) = only.fault fault h in absurd (cc)
+one_bad_fen : (game : Game) (e f : FenRefusal) → HasBadFen game e → HasBadFen game f → e ≡ f
+one_bad_fen game e f a b = one_setup_fault (first_value (codes "FEN") game.tags) e f a b
 
--- where the game stops is where its moves stop from its one beginning
-stop_from : (plies : ℕ) (game : Game) (start : Board) (ply at : ℕ) (why : ResolveRefusal) → BeginsOnly game (Ok start)
+-- ---- where its moves stop
+
+stop_from : (plies : ℕ) (game : Game) (start : Board) (ply at : ℕ) (why : ResolveRefusal) → BeginsFrom game start
     → StopsAt plies game ply at why → StopAt start (take plies game.moves) ply at why
-stop_from plies game start ply at why only h =
-    subst (λ p. StopAt p (take plies game.moves) ply at why) (sym (only_start game start h.0 only h.1.0)) h.1.1
+stop_from plies game start ply at why begins h =
+    subst (λ p. StopAt p (take plies game.moves) ply at why) (one_beginning game h.0 start h.1.0 begins) h.1.1
 
-pub opening_alone : (plies number : ℕ) (game : Game) (start : Board) (opening : Opening) → is_other_game game ≡ false → BeginsFrom game start
-    → BeginsOnly game (Ok start) → opening.game ≡ number → LeadTo start (take plies game.moves) opening.position → GivesOnly plies number game (Ok opening)
-opening_alone plies number game start opening english begins only numbered led =
-    record { gives = record { numbered = numbered; english = english; start = start; begins = begins; led = led }; alone = alone }
-  where
-    moves : List MoveText
-    moves = take plies game.moves
+leads_or_stops : (plies number : ℕ) (game : Game) (opening : Opening) (ply at : ℕ) (why : ResolveRefusal) → IsOpening plies number game opening
+    → StopsAt plies game ply at why → ⊥
+leads_or_stops plies number game opening ply at why is h =
+    no_stop is.start opening.position (take plies game.moves) ply at why is.led (stop_from plies game is.start ply at why is.begins h)
 
-    alone : (answer : Result Opening OpeningRefusal) → Gives plies number game answer → Ok opening ≡ answer
-    alone (Ok other) h =
-        let there : LeadTo start moves other.position = subst (λ p. LeadTo p moves other.position) (sym (only_start game start h.start only h.begins)) h.led in
-        let position = one_end start opening.position other.position moves led there in
-        let same_number = numbered ∙ sym h.numbered in
-        λ i. Ok (record { game = same_number i; position = position i })
-    alone (Err (OtherGame n)) h = absurd (not_both game h.1 english)
-    alone (Err (Fen n fault)) h = absurd (not_bad game start fault only h.2)
-    alone (Err (Illegal n ply at)) h = absurd (no_stop start opening.position moves ply at cause.Illegal led (stop_from plies game start ply at cause.Illegal only h.2))
-    alone (Err (Ambiguous n ply at)) h =
-        absurd (no_stop start opening.position moves ply at (cause.Ambiguous h.2.0 h.2.1) led (stop_from plies game start ply at (cause.Ambiguous h.2.0 h.2.1) only h.2.2))
-    alone (Err (Memory error)) h = absurd h
+same_stop : (plies : ℕ) (game : Game) (ply at : ℕ) (why : ResolveRefusal) (ply' at' : ℕ) (why' : ResolveRefusal)
+    → StopsAt plies game ply at why → StopsAt plies game ply' at' why' → SameStop ply at why ply' at' why'
+same_stop plies game ply at why ply' at' why' a b =
+    one_stop a.0 (take plies game.moves) ply at why ply' at' why' a.1.1 (stop_from plies game a.0 ply' at' why' a.1.0 b)
 
-illegal_alone : (plies number : ℕ) (game : Game) (start : Board) (ply at : ℕ) → is_other_game game ≡ false → BeginsFrom game start
-    → BeginsOnly game (Ok start) → StopAt start (take plies game.moves) ply at cause.Illegal → GivesOnly plies number game (Err (Illegal number ply at))
-illegal_alone plies number game start ply at english begins only stop = record { gives = (refl, english, (start, (begins, stop))); alone = alone }
-  where
-    moves : List MoveText
-    moves = take plies game.moves
+-- ---- its opening, or its fault
 
-    alone : (answer : Result Opening OpeningRefusal) → Gives plies number game answer → Err (Illegal number ply at) ≡ answer
-    alone (Ok other) h =
-        let there : LeadTo start moves other.position = subst (λ p. LeadTo p moves other.position) (sym (only_start game start h.start only h.begins)) h.led in
-        absurd (no_stop start other.position moves ply at cause.Illegal there stop)
-    alone (Err (OtherGame n)) h = absurd (not_both game h.1 english)
-    alone (Err (Fen n fault)) h = absurd (not_bad game start fault only h.2)
-    alone (Err (Illegal n ply' at')) h =
-        let same = one_stop start moves ply at cause.Illegal ply' at' cause.Illegal stop (stop_from plies game start ply' at' cause.Illegal only h.2) in
-        let numbered = sym h.0 in let plies_same = same.plies in let places = same.places in
-        λ i. Err (Illegal (numbered i) (plies_same i) (places i))
-    alone (Err (Ambiguous n ply' at')) h =
-        let other = cause.Ambiguous h.2.0 h.2.1 in
-        let same = one_stop start moves ply at cause.Illegal ply' at' other stop (stop_from plies game start ply' at' other only h.2.2) in
-        let e : cause.Illegal ≡ cause.Ambiguous h.2.0 h.2.1 = same.causes in absurd (cc)
-    alone (Err (Memory error)) h = absurd h
+pub opening_or_fault : (plies number : ℕ) (game : Game) (opening : Opening) (fault : OpeningRefusal) → IsOpening plies number game opening
+    → IsFault plies number game fault → ⊥
+opening_or_fault plies number game opening (OtherGame n) is h = not_both game h.1 is.english
+opening_or_fault plies number game opening (Fen n fault) is h = begins_or_not game is.start fault is.begins h.2
+opening_or_fault plies number game opening (Illegal n ply at) is h = leads_or_stops plies number game opening ply at cause.Illegal is h.2
+opening_or_fault plies number game opening (Ambiguous n ply at) is h = leads_or_stops plies number game opening ply at (cause.Ambiguous h.2.0 h.2.1) is h.2.2
+opening_or_fault plies number game opening (Memory error) is h = h
 
-ambiguous_alone : (plies number : ℕ) (game : Game) (start : Board) (ply at : ℕ) (a b : List ℕ) → is_other_game game ≡ false → BeginsFrom game start
-    → BeginsOnly game (Ok start) → StopAt start (take plies game.moves) ply at (cause.Ambiguous a b) → GivesOnly plies number game (Err (Ambiguous number ply at))
-ambiguous_alone plies number game start ply at a b english begins only stop =
-    record { gives = (refl, english, (a, b, (start, (begins, stop)))); alone = alone }
-  where
-    moves : List MoveText
-    moves = take plies game.moves
+pub one_fault : (plies number : ℕ) (game : Game) (e f : OpeningRefusal) → IsFault plies number game e → IsFault plies number game f → e ≡ f
+one_fault plies number game (OtherGame n) (OtherGame m) a b = let same = a.0 ∙ sym b.0 in λ i. OtherGame (same i)
+one_fault plies number game (OtherGame n) (Fen m f) a b = absurd (not_both game a.1 b.1)
+one_fault plies number game (OtherGame n) (Illegal m ply at) a b = absurd (not_both game a.1 b.1)
+one_fault plies number game (OtherGame n) (Ambiguous m ply at) a b = absurd (not_both game a.1 b.1)
+one_fault plies number game (Fen n e) (OtherGame m) a b = absurd (not_both game b.1 a.1)
+one_fault plies number game (Fen n e) (Fen m f) a b = let same = a.0 ∙ sym b.0 in let faults = one_bad_fen game e f a.2 b.2 in λ i. Fen (same i) (faults i)
+one_fault plies number game (Fen n e) (Illegal m ply at) a b = absurd (begins_or_not game b.2.0 e b.2.1.0 a.2)
+one_fault plies number game (Fen n e) (Ambiguous m ply at) a b = absurd (begins_or_not game b.2.2.0 e b.2.2.1.0 a.2)
+one_fault plies number game (Illegal n ply at) (OtherGame m) a b = absurd (not_both game b.1 a.1)
+one_fault plies number game (Illegal n ply at) (Fen m f) a b = absurd (begins_or_not game a.2.0 f a.2.1.0 b.2)
+one_fault plies number game (Illegal n ply at) (Illegal m ply' at') a b =
+    let same = a.0 ∙ sym b.0 in
+    let stop = same_stop plies game ply at cause.Illegal ply' at' cause.Illegal a.2 b.2 in
+    let counted = stop.plies in let places = stop.places in λ i. Illegal (same i) (counted i) (places i)
+one_fault plies number game (Illegal n ply at) (Ambiguous m ply' at') a b =
+    let stop = same_stop plies game ply at cause.Illegal ply' at' (cause.Ambiguous b.2.0 b.2.1) a.2 b.2.2 in
+    let e : cause.Illegal ≡ cause.Ambiguous b.2.0 b.2.1 = stop.causes in absurd (cc)
+one_fault plies number game (Ambiguous n ply at) (OtherGame m) a b = absurd (not_both game b.1 a.1)
+one_fault plies number game (Ambiguous n ply at) (Fen m f) a b = absurd (begins_or_not game a.2.2.0 f a.2.2.1.0 b.2)
+one_fault plies number game (Ambiguous n ply at) (Illegal m ply' at') a b =
+    let stop = same_stop plies game ply at (cause.Ambiguous a.2.0 a.2.1) ply' at' cause.Illegal a.2.2 b.2 in
+    let e : cause.Ambiguous a.2.0 a.2.1 ≡ cause.Illegal = stop.causes in absurd (cc)
+one_fault plies number game (Ambiguous n ply at) (Ambiguous m ply' at') a b =
+    let same = a.0 ∙ sym b.0 in
+    let stop = same_stop plies game ply at (cause.Ambiguous a.2.0 a.2.1) ply' at' (cause.Ambiguous b.2.0 b.2.1) a.2.2 b.2.2 in
+    let counted = stop.plies in let places = stop.places in λ i. Ambiguous (same i) (counted i) (places i)
+one_fault plies number game (Memory error) f a b = absurd a
+one_fault plies number game e (Memory error) a b = absurd b
 
-    alone : (answer : Result Opening OpeningRefusal) → Gives plies number game answer → Err (Ambiguous number ply at) ≡ answer
-    alone (Ok other) h =
-        let there : LeadTo start moves other.position = subst (λ p. LeadTo p moves other.position) (sym (only_start game start h.start only h.begins)) h.led in
-        absurd (no_stop start other.position moves ply at (cause.Ambiguous a b) there stop)
-    alone (Err (OtherGame n)) h = absurd (not_both game h.1 english)
-    alone (Err (Fen n fault)) h = absurd (not_bad game start fault only h.2)
-    alone (Err (Illegal n ply' at')) h =
-        let same = one_stop start moves ply at (cause.Ambiguous a b) ply' at' cause.Illegal stop (stop_from plies game start ply' at' cause.Illegal only h.2) in
-        let e : cause.Ambiguous a b ≡ cause.Illegal = same.causes in absurd (cc)
-    alone (Err (Ambiguous n ply' at')) h =
-        let other = cause.Ambiguous h.2.0 h.2.1 in
-        let same = one_stop start moves ply at (cause.Ambiguous a b) ply' at' other stop (stop_from plies game start ply' at' other only h.2.2) in
-        let numbered = sym h.0 in let plies_same = same.plies in let places = same.places in
-        λ i. Err (Ambiguous (numbered i) (plies_same i) (places i))
-    alone (Err (Memory error)) h = absurd h
-
--- memory ran out, or the moves of a game stop
-pub moves_alone : (plies number : ℕ) (game : Game) (start : Board) (fault : OpeningRefusal) → is_other_game game ≡ false → BeginsFrom game start
-    → BeginsOnly game (Ok start) → IsMemory fault ⊎ IsMoveFault number start (take plies game.moves) fault
-    → UnlessMemory {X = Opening} (Err fault) (GivesOnly plies number game (Err fault))
-moves_alone plies number game start (OtherGame n) english begins only h = absurd (elim h [ inl m ↦ m | inr f ↦ f ])
-moves_alone plies number game start (Fen n f) english begins only h = absurd (elim h [ inl m ↦ m | inr f ↦ f ])
-moves_alone plies number game start (Illegal n ply at) english begins only h =
-    elim h [ inl m ↦ absurd m | inr f ↦ subst (λ k. GivesOnly plies number game (Err (Illegal k ply at))) (sym f.0) (illegal_alone plies number game start ply at english begins only f.1) ]
-moves_alone plies number game start (Ambiguous n ply at) english begins only h =
-    elim h [ inl m ↦ absurd m | inr f ↦ subst (λ k. GivesOnly plies number game (Err (Ambiguous k ply at))) (sym f.0) (ambiguous_alone plies number game start ply at f.1.0 f.1.1 english begins only f.1.2) ]
-moves_alone plies number game start (Memory error) english begins only h = tt
+-- a fault of its moves is the game's, where it is one of English draughts and begins from a position
+pub move_fault : (plies number : ℕ) (game : Game) (start : Board) (fault : OpeningRefusal) → is_other_game game ≡ false → BeginsFrom game start
+    → OnFalse (is_memory fault) (IsMoveFault number start (take plies game.moves) fault) → OnFalse (is_memory fault) (IsFault plies number game fault)
+move_fault plies number game start (OtherGame n) english begins h = absurd h
+move_fault plies number game start (Fen n f) english begins h = absurd h
+move_fault plies number game start (Illegal n ply at) english begins h = (h.0, english, (start, (begins, h.1)))
+move_fault plies number game start (Ambiguous n ply at) english begins h = (h.0, english, (h.1.0, h.1.1, (start, (begins, h.1.2))))
+move_fault plies number game start (Memory error) english begins h = tt

@@ -2,7 +2,7 @@
 use Rattle.std.proofs.Common.{◌≡◌, ◌∙◌, ℕ, suc, ◌+◌, List, [], ◌∷◌, ◌++◌, length, Result, Ok, Err, sym, ap, subst, arith}
 use Rattle.draughts_board.specs.Board.{Board}
 use Rattle.draughts_board.specs.Rules.{after}
-use Rattle.draughts_rules.specs.declared.resolution.ResolveRefusal.{ResolveRefusal}
+use Rattle.draughts_board.specs.declared.resolution.ResolveRefusal.{ResolveRefusal}
 use Rattle.pdn_openings.specs.Playing.{meaning_of, LeadTo, StopAt}
 use Rattle.pdn_text.specs.declared.game.MoveText.{MoveText}
 

@@ -4,10 +4,9 @@ use Rattle.std.specs.List.{starts_with}
 use Rattle.std.specs.Option.{option_map}
 use Rattle.std.specs.Str.{bytes_eq}
 use Rattle.draughts_board.specs.Board.{Board, start_board}
-use Rattle.fen_text.specs.Faults.{IsBadLetter, IsBadSquare, IsTruncated}
-use Rattle.fen_text.specs.Spelled.{Spells, NamesTwice, NamesTooMany, NamesManOnLastRow}
+use Rattle.fen_text.specs.Refusal.{IsFault}
+use Rattle.fen_text.specs.Spelled.{Spells}
 use Rattle.fen_text.specs.declared.refusal.FenRefusal.{FenRefusal}
-use Rattle.fen_text.specs.declared.refusal.FenRefusal.TheVariants.{BadLetter, BadSquare, Twice, TooMany, ManOnLastRow, Truncated}
 use Rattle.pdn_text.specs.declared.game.Game.{Game}
 use Rattle.pdn_text.specs.declared.game.Tag.{Tag}
 
@@ -41,18 +40,9 @@ SetsUp (Some text) p = Spells text p
 abbrev pub BeginsFrom : Game → Board → Type 0
 BeginsFrom game p = SetsUp (first_value (codes "FEN") game.tags) p
 
--- the text is no FEN, for this fault
-abbrev pub IsFenFault : List ℕ → FenRefusal → Type 0
-IsFenFault text (BadLetter at) = IsBadLetter text at
-IsFenFault text (BadSquare at) = IsBadSquare text at
-IsFenFault text (Twice square) = NamesTwice text square
-IsFenFault text (TooMany side) = NamesTooMany text side
-IsFenFault text (ManOnLastRow square) = NamesManOnLastRow text square
-IsFenFault text Truncated = IsTruncated text
-
 abbrev pub SetsUpNone : Option (List ℕ) → FenRefusal → Type 0
 SetsUpNone None fault = ⊥
-SetsUpNone (Some text) fault = IsFenFault text fault
+SetsUpNone (Some text) fault = IsFault text fault
 
 -- the game's first `FEN` is none, for this fault
 abbrev pub HasBadFen : Game → FenRefusal → Type 0

@@ -1,8 +1,8 @@
 -- The games that have no opening, and why.
-use Rattle.std.specs.Prelude.{◌≡◌, ℕ, suc, true, false, List, ◌∷◌, ◌++◌, length, take}
+use Rattle.std.specs.Prelude.{◌≡◌, ℕ, suc, Bool, true, false, List, ◌∷◌, ◌++◌, length, take}
 use Rattle.draughts_board.specs.Board.{Board}
-use Rattle.draughts_rules.specs.declared.resolution.ResolveRefusal.{ResolveRefusal}
-use Rattle.draughts_rules.specs.declared.resolution.ResolveRefusal.TheVariants as cause
+use Rattle.draughts_board.specs.declared.resolution.ResolveRefusal.{ResolveRefusal}
+use Rattle.draughts_board.specs.declared.resolution.ResolveRefusal.TheVariants as cause
 use Rattle.pdn_openings.specs.Beginning.{is_other_game, BeginsFrom, HasBadFen}
 use Rattle.pdn_openings.specs.Openings.{AreOpenings}
 use Rattle.pdn_openings.specs.Playing.{StopAt}
@@ -15,6 +15,11 @@ use Rattle.pdn_text.specs.declared.game.MoveText.{MoveText}
 -- Of the game's first `plies` moves, the first that means no legal path in its position is that of this ply.
 abbrev pub StopsAt : ℕ → Game → ℕ → ℕ → ResolveRefusal → Type 0
 StopsAt plies game ply at why = (start : Board) × (BeginsFrom game start × StopAt start (take plies game.moves) ply at why)
+
+-- memory ran out
+abbrev pub is_memory : OpeningRefusal → Bool
+is_memory (Memory error) = true
+is_memory other = false
 
 -- The first fault of the game of this number: it is another game than English draughts; else its FEN is none; else
 -- one of its moves is illegal or ambiguous, and those before it are neither.

@@ -8,11 +8,14 @@ use Rattle.pdn_text.specs.declared.game.Game.{Game}
 -- A list of games has no two lists of openings.
 abbrev pub OpeningsAreDetermined : Type 0
 OpeningsAreDetermined =
-    (plies : ℕ) (games : List Game) (a b : List Opening) → AreOpenings plies games a → AreOpenings plies games b → a ≡ b
+    (plies : ℕ) (games : List Game) (a b : List Opening) → AreOpenings plies games a
+    → AreOpenings plies games b → a ≡ b
 
 -- There are as many openings as games.
 abbrev pub EachGameHasOne : Type 0
-EachGameHasOne = (plies : ℕ) (games : List Game) (openings : List Opening) → AreOpenings plies games openings → length openings ≡ length games
+EachGameHasOne =
+    (plies : ℕ) (games : List Game) (openings : List Opening) → AreOpenings plies games openings
+    → length openings ≡ length games
 
 -- Each opening's position keeps the rule on pieces.
 abbrev pub OpeningsAreLawful : Type 0

@@ -2,5 +2,4 @@ pub mod Beginning
 pub mod Playing
 pub mod Openings
 pub mod Faults
-pub mod Answers
 pub mod Laws

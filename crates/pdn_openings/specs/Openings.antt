@@ -6,7 +6,8 @@ use Rattle.pdn_openings.specs.Playing.{LeadTo}
 use Rattle.pdn_openings.specs.declared.opening.Opening.{Opening}
 use Rattle.pdn_text.specs.declared.game.Game.{Game}
 
--- The opening of the game of this number: the position after its first `plies` moves, or after all where it has fewer.
+-- The opening of the game of this number: the position after its first `plies` moves, or after all
+-- where it has fewer.
 pub record IsOpening (plies number : ℕ) (game : Game) (opening : Opening) : Type 0 where
   pub numbered : opening.game ≡ number
   pub english : is_other_game game ≡ false
@@ -22,7 +23,7 @@ AreOpeningsFrom plies number (game ∷ games) [] = ⊥
 AreOpeningsFrom plies number (game ∷ games) (opening ∷ openings) =
     IsOpening plies number game opening × AreOpeningsFrom plies (suc number) games openings
 
--- These are the openings of these games after so many plies: one of each game, in the order of the games, which are
--- numbered from 1.
+-- These are the openings of these games after so many plies: one of each game, in the order of the
+-- games, which are numbered from 1.
 abbrev pub AreOpenings : ℕ → List Game → List Opening → Type 0
 AreOpenings plies games openings = AreOpeningsFrom plies 1 games openings

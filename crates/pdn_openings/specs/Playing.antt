@@ -2,8 +2,8 @@
 use Rattle.std.specs.Prelude.{◌≡◌, ℕ, suc, ◌-◌, List, [], ◌∷◌, ◌++◌, length, take, drop, Result, Ok, Err}
 use Rattle.draughts_board.specs.Board.{Board}
 use Rattle.draughts_board.specs.Rules.{first_square, last_square, after}
-use Rattle.draughts_rules.specs.Resolution.{matches, meaning}
-use Rattle.draughts_rules.specs.declared.resolution.ResolveRefusal.{ResolveRefusal}
+use Rattle.draughts_board.specs.Resolution.{matches, meaning}
+use Rattle.draughts_board.specs.declared.resolution.ResolveRefusal.{ResolveRefusal}
 use Rattle.pdn_text.specs.declared.game.MoveText.{MoveText}
 
 -- the squares between the first and the last

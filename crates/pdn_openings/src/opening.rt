@@ -1,17 +1,16 @@
 //! The openings of games.
-ghost use Rattle.std.specs.Prelude.{◌≡◌, ◌<◌, ◌≤◌, ◌^◌, ◌⊎◌, ℕ, List, All, IfOk, IfErr, IsOkAnd, length, take};
+ghost use Rattle.std.specs.Prelude.{◌≡◌, ◌≤◌, All, IfOk, IfErr, length, take};
+ghost use Rattle.std.specs.Bool.{OnFalse};
+ghost use Rattle.shared_words.specs.Answers.{IsExact, listed};
 ghost use Rattle.draughts_board.specs.Board.{IsLawful};
-ghost use Rattle.pdn_openings.specs.Answers.{IsMemory, UnlessMemory, GivesOnly};
-ghost use Rattle.pdn_openings.specs.Faults.{StandsFirst};
-ghost use Rattle.pdn_openings.specs.Openings.{AreOpenings};
-ghost use Rattle.pdn_openings.specs.declared.opening.Opening.{Opening};
-ghost use Rattle.pdn_openings.specs.declared.refusal.OpeningRefusal.{OpeningRefusal};
+ghost use Rattle.pdn_openings.specs.Faults.{is_memory, IsFault, StandsFirst};
+ghost use Rattle.pdn_openings.specs.Openings.{IsOpening, AreOpenings};
 
 use crate::beginning::{beginning, is_other_game};
 use crate::playing::played;
 use crate::refusal::OpeningRefusal;
 use draughts_board::Position;
-use pdn_text::{Game, MoveText};
+use pdn_text::{Game, MOST_GAMES, MoveText};
 use std::alloc::{AllocError, Global};
 
 /// A game's opening.
@@ -38,7 +37,8 @@ fn opening_of(
     game: &Game,
     plies: u32,
 ) -> Result<Opening, OpeningRefusal>
-    ensures { UnlessMemory result (GivesOnly plies number game.now result) }
+    ensures opening { IfOk result (IsOpening plies number game.now) }
+    ensures fault { IfErr result (λ e. OnFalse (is_memory e) (IsFault plies number game.now e)) }
 {
     if is_other_game(game) {
         return Err(OpeningRefusal::OtherGame(number));
@@ -68,21 +68,24 @@ fn opening_of(
 /// `Ambiguous` for its first move that means no legal one, with its ply and its place in the text. Tag names are
 /// compared letter for letter.
 pub fn openings(alloc: Global, games: &[Game], plies: u32) -> Result<Vec<Opening>, OpeningRefusal>
-    requires { length games.now ≤ 4096 }
+    requires { length games.now ≤ MOST_GAMES }
 
-    // What is answered: the openings of all games, or the fault of the first game that has one.
-    ensures openings { IfOk result (λ found. AreOpenings plies games.now found.items) }
-    ensures refused { IfErr result (λ fault. IsMemory fault ⊎ StandsFirst plies games.now fault) }
-
-    // Games that have openings get them, and a fault that stands first is answered, unless memory runs out.
-    ensures only_openings { (all : List Opening) → AreOpenings plies games.now all
-        → UnlessMemory result (IsOkAnd result (λ found. found.items ≡ all)) }
-    ensures only_refused { (fault : OpeningRefusal) → StandsFirst plies games.now fault
-        → UnlessMemory result (result ≡ Err fault) }
+    // The openings of all games, or the fault of the first game that has one: exactly that, unless memory ran out.
+    ensures exact { IsExact is_memory (AreOpenings plies games.now) (StandsFirst plies games.now)
+        (listed result) }
 
     // There is one opening of each game, and it is a position of English draughts.
     ensures count { IfOk result (λ found. length found.items ≡ length games.now) }
     ensures lawful { IfOk result (λ found. All (λ opening. IsLawful opening.position) found.items) }
+{
+    all_openings(alloc, games, plies)
+}
+
+/// Takes the opening of game after game, up to the first fault.
+fn all_openings(alloc: Global, games: &[Game], plies: u32) -> Result<Vec<Opening>, OpeningRefusal>
+    requires { length games.now ≤ MOST_GAMES }
+    ensures openings { IfOk result (λ found. AreOpenings plies games.now found.items) }
+    ensures refused { IfErr result (λ e. OnFalse (is_memory e) (StandsFirst plies games.now e)) }
 {
     let mut found = Vec::new(alloc);
     for (i, game) in games.iter().enumerate() {

@@ -34,6 +34,6 @@ pub enum OpeningRefusal {
         at: usize,
     },
     /// Memory ran out.
-    #[error(transparent)]
+    #[error("out of memory")]
     Memory(AllocError),
 }

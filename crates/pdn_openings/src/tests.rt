@@ -2,10 +2,11 @@
 //! is told as a line for each opening, `GAME FEN`, or as the refusal: `GAME CAUSE` or `GAME PLY PLACE CAUSE`.
 use crate::{OpeningRefusal, openings};
 use fen_text::{FenRefusal, print_fen};
-use pdn_text::read_games;
+use pdn_text::{MOST_GAMES, read_games};
 use std::alloc::{AllocError, Global};
 use std::test::Fail;
 
+/// A fault of a game's FEN, as it is told.
 fn told_fault(alloc: Global, game: u32, fault: FenRefusal) -> Result<String, AllocError> {
     match fault {
         FenRefusal::BadLetter(at) => format!(in alloc; "{game} bad-letter {at}"),
@@ -17,6 +18,7 @@ fn told_fault(alloc: Global, game: u32, fault: FenRefusal) -> Result<String, All
     }
 }
 
+/// A refusal, as it is told.
 fn told_refusal(alloc: Global, refusal: OpeningRefusal) -> Result<String, AllocError> {
     match refusal {
         OpeningRefusal::OtherGame(game) => format!(in alloc; "{game} other-game"),
@@ -29,9 +31,10 @@ fn told_refusal(alloc: Global, refusal: OpeningRefusal) -> Result<String, AllocE
     }
 }
 
+/// The answer to the games of a text, as it is told.
 fn told(alloc: Global, text: &str, plies: u32) -> Result<String, Fail> {
     let games = read_games(alloc, text.as_bytes())?;
-    if games.len() > 4096 {
+    if games.len() > MOST_GAMES {
         return Err(Fail::from("too many games"));
     }
     let found = match openings(alloc, &games, plies) {
@@ -155,6 +158,40 @@ fn refuses_the_first_fault(rt: HostRuntime) -> Result<(), Fail> {
         ("[FEN \"none\"] * [GameType \"25\"] *", "1 bad-letter 0"),
     ] {
         assert_eq!(rt; told(rt.alloc(), text, 200)?.as_str(), want, "{text}");
+    }
+    Ok(())
+}
+
+#[test]
+fn refusals_name_their_data(rt: HostRuntime) -> Result<(), Fail> {
+    for (refusal, want) in [
+        (
+            OpeningRefusal::OtherGame(2),
+            "game 2 is not one of English draughts",
+        ),
+        (
+            OpeningRefusal::Fen(2, FenRefusal::Truncated),
+            "game 2 begins from no position: the text ends too early",
+        ),
+        (
+            OpeningRefusal::Illegal {
+                game: 2,
+                ply: 5,
+                at: 70,
+            },
+            "game 2: the move of ply 5, at byte 70, is illegal",
+        ),
+        (
+            OpeningRefusal::Ambiguous {
+                game: 2,
+                ply: 5,
+                at: 70,
+            },
+            "game 2: the move of ply 5, at byte 70, is ambiguous",
+        ),
+        (OpeningRefusal::Memory(AllocError), "out of memory"),
+    ] {
+        assert_eq!(rt; format!(in rt.alloc(); "{refusal}")?.as_str(), want);
     }
     Ok(())
 }

@@ -6,9 +6,10 @@ use Rattle.std.proofs.lemmas.List.Concat.{flat_map-append}
 use Rattle.pdn_text.specs.Forms.{form_of}
 use Rattle.pdn_text.specs.Gathering.{no_game, all_taken, games_of}
 use Rattle.pdn_text.specs.Grammar.{IsItem, IsFault, form_at, begins_line}
-use Rattle.pdn_text.specs.Pdn.{beginning, AreItems, signs, most_games, ReadsTo, Reads, StandsFirst, BeginsOneMore, Refused}
+use Rattle.pdn_text.specs.Pdn.{beginning, AreItems, signs, ReadsTo, Reads, StandsFirst, BeginsOneMore, Refused}
 use Rattle.pdn_text.specs.Scans.{item_of}
 use Rattle.pdn_text.specs.declared.form.Form.TheVariants as form
+use Rattle.pdn_text.specs.declared.TheConstants.{MOST_GAMES}
 use Rattle.pdn_text.specs.declared.game.Game.{Game}
 use Rattle.pdn_text.specs.declared.items.Item.{Item}
 use Rattle.pdn_text.specs.declared.refusal.PdnRefusal.{PdnRefusal}
@@ -85,7 +86,7 @@ count_more xs more ys e =
     ap (λ z. all_taken no_game (signs z)) (sym e) ∙ ap (all_taken no_game) (flat_map-append (λ i. option_to_list i.sign) xs more) ∙ all_taken-append no_game (signs xs) (signs more) in
     rw all (games_more (all_taken no_game (signs xs)) (signs more))
 
-reads_count : (text : List ℕ) (place : ℕ) (items : List Item) (games : List Game) → ReadsTo text place items games → count items ≤ most_games
+reads_count : (text : List ℕ) (place : ℕ) (items : List Item) (games : List Game) → ReadsTo text place items games → count items ≤ MOST_GAMES
 reads_count text place items games r = rw (← made_is (signs items) games r.make) r.few
 
 -- where reading stops with games enough, no game too many has begun
@@ -94,7 +95,7 @@ not_too_many text place items games r stop m =
     let longer = m.items ++ m.item ∷ [] in
     let b = push_item text (beginning text) m.place m.items m.item m.before.are_items m.next in
     let few = reads_count text place items games r in
-    let many : count longer ≡ suc most_games = ap length (sym (made_is (signs longer) m.more m.make_more)) ∙ m.too_many in
+    let many : count longer ≡ suc MOST_GAMES = ap length (sym (made_is (signs longer) m.more m.make_more)) ∙ m.too_many in
     elim (one_begins text (beginning text) place m.item.end items longer r.are_items b) [
       | inl h ↦ (let s = stops text items longer place m.item.end stop h in let same = ap count s.0 in omega arith)
       | inr h ↦ (let less = count_more longer h.0 items h.1 in omega arith)

@@ -1,13 +1,15 @@
 -- How far a text has been read.
-use Rattle.std.proofs.Common.{◌≡◌, ◌∙◌, ◌⊎◌, inl, inr, Bool, IfOk, Vec, Global, ℕ, suc, ◌<◌, ◌≤◌, List, [], ◌∷◌, ◌++◌, length, drop, Some, None, Result, Ok, Err, refl, sym, ap, subst, arith, append-nil}
+use Rattle.std.proofs.Common.{◌≡◌, ◌∙◌, Bool, ℕ, suc, ◌<◌, ◌≤◌, List, [], ◌∷◌, ◌++◌, length, drop, Some, None, Ok, Err, refl, sym, ap, subst, arith, append-nil}
 use Rattle.std.specs.Prelude.{option_to_list}
 use Rattle.std.proofs.lemmas.List.Concat.{flat_map-append}
-use Rattle.pdn_text.specs.Gathering.{Progress, no_game, taken, all_taken, games_of}
+use Rattle.std.specs.Bool.{OnFalse}
+use Rattle.pdn_text.specs.Gathering.{Progress, no_game, taken, all_taken, games_of, IsRefusedAs}
 use Rattle.pdn_text.specs.Grammar.{IsItem, IsFault, form_at, begins_line}
 use Rattle.pdn_text.specs.Forms.{form_of}
-use Rattle.pdn_text.specs.Signs.{IsMemory, Fails}
-use Rattle.pdn_text.specs.Pdn.{Refused, beginning, AreItems, signs, most_games, ReadsTo, Reads, StandsFirst, BeginsOneMore}
+use Rattle.pdn_text.specs.Signs.{is_memory}
+use Rattle.pdn_text.specs.Pdn.{Refused, beginning, AreItems, signs, ReadsTo, Reads, StandsFirst, BeginsOneMore}
 use Rattle.pdn_text.specs.Scans.{item_of}
+use Rattle.pdn_text.specs.declared.TheConstants.{MOST_GAMES}
 use Rattle.pdn_text.specs.declared.game.Game.{Game}
 use Rattle.pdn_text.specs.declared.items.Item.{Item}
 use Rattle.pdn_text.specs.declared.items.Sign.{Sign}
@@ -21,7 +23,7 @@ pub record Reached (text : List ℕ) (at : ℕ) (p : Progress) : Type 0 where
   pub items : List Item
   pub are_items : AreItems text (beginning text) items at
   pub so_far : p ≡ all_taken no_game (signs items)
-  pub few : length (games_of p) ≤ most_games
+  pub few : length (games_of p) ≤ MOST_GAMES
   pub inside : at ≤ length text
 
 pub reached_beginning : (text : List ℕ) (p : Progress) → p ≡ no_game → beginning text ≤ length text → Reached text (beginning text) p
@@ -42,12 +44,12 @@ pub signs_push : (items : List Item) (item : Item) → signs (items ++ item ∷ 
 signs_push items item = flat_map-append (λ i. option_to_list i.sign) items (item ∷ []) ∙ ap (λ x. signs items ++ x) (append-nil (option_to_list item.sign))
 
 -- what was answered here is an item
-here : (text : List ℕ) (at : ℕ) (start : Bool) (item : Item) → start ≡ begins_line text at → item_of (form_of start (drop at text)) at (drop at text) ≡ Ok item
+here : (text : List ℕ) (at : ℕ) (start : Bool) (item : Item) → start ≡ begins_line text at → Ok item ≡ item_of (form_of start (drop at text)) at (drop at text)
     → IsItem (form_at text at) at (drop at text) item
-here text at start item e h = item_sound (begins_line text at) at (drop at text) item (rw (← e) h)
+here text at start item e h = item_sound (begins_line text at) at (drop at text) item (rw (← e) (sym h))
 
 -- an item that says nothing
-pub reached_skip : (text : List ℕ) (at : ℕ) (p : Progress) (start : Bool) (item : Item) → Reached text at p → start ≡ begins_line text at → item_of (form_of start (drop at text)) at (drop at text) ≡ Ok item → item.sign ≡ None
+pub reached_skip : (text : List ℕ) (at : ℕ) (p : Progress) (start : Bool) (item : Item) → Reached text at p → start ≡ begins_line text at → Ok item ≡ item_of (form_of start (drop at text)) at (drop at text) → item.sign ≡ None
     → item.end ≤ length text → Reached text item.end p
 reached_skip text at p start item r e h none inside = let is = here text at start item e h in record {
   items = r.items ++ item ∷ [];
@@ -58,8 +60,8 @@ reached_skip text at p start item r e h none inside = let is = here text at star
 }
 
 -- an item that says something
-pub reached_sign : (text : List ℕ) (at : ℕ) (p q : Progress) (start : Bool) (item : Item) (sign : Sign) → Reached text at p → start ≡ begins_line text at → item_of (form_of start (drop at text)) at (drop at text) ≡ Ok item → item.sign ≡ Some sign
-    → q ≡ taken p sign → length (games_of q) ≤ most_games → item.end ≤ length text → Reached text item.end q
+pub reached_sign : (text : List ℕ) (at : ℕ) (p q : Progress) (start : Bool) (item : Item) (sign : Sign) → Reached text at p → start ≡ begins_line text at → Ok item ≡ item_of (form_of start (drop at text)) at (drop at text) → item.sign ≡ Some sign
+    → q ≡ taken p sign → length (games_of q) ≤ MOST_GAMES → item.end ≤ length text → Reached text item.end q
 reached_sign text at p q start item sign r line h some e few inside = let is = here text at start item line h in record {
   items = r.items ++ item ∷ [];
   are_items = push_item text (beginning text) at r.items item r.are_items is;
@@ -76,13 +78,11 @@ reads_to text at p r = record {
   few = r.few;
 }
 
-pub reads_all : (text : List ℕ) (at : ℕ) (p : Progress) (result : Result (Vec Game Global) PdnRefusal) → Reached text at p → length text ≤ at → IfOk result (λ games. games.items ≡ games_of p)
-    → IfOk result (λ games. Reads text games.items)
-reads_all text at p (Ok games) r end e =
+pub reads_all : (text : List ℕ) (at : ℕ) (p : Progress) (games : List Game) → Reached text at p → length text ≤ at → games ≡ games_of p → Reads text games
+reads_all text at p games r end e =
     let inside = r.inside in
     let last : at ≡ length text = omega arith in
     rw e (r.items, rw (← last) (reads_to text at p r))
-reads_all text at p (Err e) r end h = tt
 
 pub fault_here : (text : List ℕ) (at : ℕ) (p : Progress) (e : PdnRefusal) → Reached text at p → at < length text → IsFault (form_at text at) at (drop at text) e → StandsFirst text e
 fault_here text at p e r inside fault = record {
@@ -95,7 +95,7 @@ fault_here text at p e r inside fault = record {
 }
 
 pub one_more : (text : List ℕ) (at : ℕ) (p : Progress) (item : Item) (sign : Sign) → Reached text at p → IsItem (form_at text at) at (drop at text) item → item.sign ≡ Some sign
-    → length (games_of (taken p sign)) ≡ suc most_games → BeginsOneMore text
+    → length (games_of (taken p sign)) ≡ suc MOST_GAMES → BeginsOneMore text
 one_more text at p item sign r is some many =
     let led : taken p sign ≡ all_taken no_game (signs (r.items ++ item ∷ [])) =
     ap (λ x. taken x sign) r.so_far ∙ sym (ap (all_taken no_game) (signs_push r.items item ∙ ap (λ x. signs r.items ++ option_to_list x) some) ∙ all_taken-append no_game (signs r.items) (sign ∷ [])) in
@@ -112,18 +112,27 @@ one_more text at p item sign r is some many =
     }
 
 pub refused_here : (text : List ℕ) (at : ℕ) (p : Progress) (start : Bool) (e : PdnRefusal) → Reached text at p → at < length text → start ≡ begins_line text at
-    → Fails e (item_of (form_of start (drop at text)) at (drop at text)) → IsMemory e ⊎ Refused text e
-refused_here text at p start (refusal.Memory m) r inside line h = inl tt
-refused_here text at p start refusal.TooManyGames r inside line h =
-    absurd (never_too_many (form_at text at) at (drop at text) (fault_sound (begins_line text at) at (drop at text) refusal.TooManyGames (rw (← line) h)))
-refused_here text at p start (refusal.BadByte n) r inside line h = inr (fault_here text at p (refusal.BadByte n) r inside (fault_sound (begins_line text at) at (drop at text) (refusal.BadByte n) (rw (← line) h)))
-refused_here text at p start (refusal.OpenTag n) r inside line h = inr (fault_here text at p (refusal.OpenTag n) r inside (fault_sound (begins_line text at) at (drop at text) (refusal.OpenTag n) (rw (← line) h)))
-refused_here text at p start (refusal.OpenComment n) r inside line h = inr (fault_here text at p (refusal.OpenComment n) r inside (fault_sound (begins_line text at) at (drop at text) (refusal.OpenComment n) (rw (← line) h)))
-refused_here text at p start (refusal.OpenVariation n) r inside line h = inr (fault_here text at p (refusal.OpenVariation n) r inside (fault_sound (begins_line text at) at (drop at text) (refusal.OpenVariation n) (rw (← line) h)))
-refused_here text at p start (refusal.BadMove n) r inside line h = inr (fault_here text at p (refusal.BadMove n) r inside (fault_sound (begins_line text at) at (drop at text) (refusal.BadMove n) (rw (← line) h)))
+    → OnFalse (is_memory e) (Err e ≡ item_of (form_of start (drop at text)) at (drop at text)) → OnFalse (is_memory e) (Refused text e)
+refused_here text at p start e r inside line h = by_fault e h
+  where
+    stands : (e : PdnRefusal) → Err e ≡ item_of (form_of start (drop at text)) at (drop at text) → IsFault (form_at text at) at (drop at text) e
+    stands e h = fault_sound (begins_line text at) at (drop at text) e (rw (← line) (sym h))
+
+    by_fault : (e : PdnRefusal) → OnFalse (is_memory e) (Err e ≡ item_of (form_of start (drop at text)) at (drop at text)) → OnFalse (is_memory e) (Refused text e)
+    by_fault (refusal.Memory m) h = tt
+    by_fault refusal.TooManyGames h = absurd (never_too_many (form_at text at) at (drop at text) (stands refusal.TooManyGames h))
+    by_fault (refusal.BadByte n) h = fault_here text at p (refusal.BadByte n) r inside (stands (refusal.BadByte n) h)
+    by_fault (refusal.OpenTag n) h = fault_here text at p (refusal.OpenTag n) r inside (stands (refusal.OpenTag n) h)
+    by_fault (refusal.OpenComment n) h = fault_here text at p (refusal.OpenComment n) r inside (stands (refusal.OpenComment n) h)
+    by_fault (refusal.OpenVariation n) h = fault_here text at p (refusal.OpenVariation n) r inside (stands (refusal.OpenVariation n) h)
+    by_fault (refusal.BadMove n) h = fault_here text at p (refusal.BadMove n) r inside (stands (refusal.BadMove n) h)
 
 pub refused_many : (text : List ℕ) (at : ℕ) (p : Progress) (start : Bool) (item : Item) (sign : Sign) (e : PdnRefusal) → Reached text at p → start ≡ begins_line text at
-    → item_of (form_of start (drop at text)) at (drop at text) ≡ Ok item → item.sign ≡ Some sign
-    → IsMemory e ⊎ ((e ≡ refusal.TooManyGames) × (length (games_of (taken p sign)) ≡ suc most_games)) → IsMemory e ⊎ Refused text e
-refused_many text at p start item sign e r line h some (inl memory) = inl memory
-refused_many text at p start item sign e r line h some (inr many) = rw many.0 (inr (one_more text at p item sign r (here text at start item line h) some many.1))
+    → Ok item ≡ item_of (form_of start (drop at text)) at (drop at text) → item.sign ≡ Some sign → IsRefusedAs p sign e → OnFalse (is_memory e) (Refused text e)
+refused_many text at p start item sign refusal.TooManyGames r line h some many = one_more text at p item sign r (here text at start item line h) some many
+refused_many text at p start item sign (refusal.Memory m) r line h some many = tt
+refused_many text at p start item sign (refusal.BadByte n) r line h some many = absurd many
+refused_many text at p start item sign (refusal.OpenTag n) r line h some many = absurd many
+refused_many text at p start item sign (refusal.OpenComment n) r line h some many = absurd many
+refused_many text at p start item sign (refusal.OpenVariation n) r line h some many = absurd many
+refused_many text at p start item sign (refusal.BadMove n) r line h some many = absurd many

@@ -3,7 +3,8 @@ use Rattle.std.proofs.Common.{suc, take_at, ◌≡◌, ◌∙◌, ◌⊎◌, inl
 use Rattle.std.specs.List.{flat_map, list_all, position_or_len}
 use Rattle.std.proofs.lemmas.List.{drop_at}
 use Rattle.std.proofs.lemmas.Bool.{eqb-true, eqb-false, ne_eqb}
-use Rattle.pdn_text.specs.Bytes.{is_letter, is_name_byte, is_blank, is_line_end}
+use Rattle.pdn_text.specs.Bytes.{is_name_byte, is_blank, is_line_end}
+use Rattle.std.specs.Char.{is_ascii_alphabetic}
 use Rattle.pdn_text.specs.Scans.{tag_at, named_tag, closed_tag, name_at, name_len, value_at, with_front, behind_blanks}
 use Rattle.pdn_text.specs.Tags.{BeginsWithTag, Written, Plain, Escaped, AreWritten, IsName, byte_of, as_written}
 use Rattle.pdn_text.specs.declared.game.Tag.{Tag}
@@ -102,7 +103,7 @@ value_only (Escaped b ∷ ws) behind h =
     escaped_only b (flat_map as_written ws ++ 34 ∷ behind) (map byte_of ws) behind (eqb b 34) (eqb b 92) h.0 (value_only ws behind h.1)
 
 -- names
-letter_is_name : (b : ℕ) → is_letter b ≡ true → is_name_byte b ≡ true
+letter_is_name : (b : ℕ) → is_ascii_alphabetic b ≡ true → is_name_byte b ≡ true
 letter_is_name b e = rw e refl
 
 blank_cases : (b : ℕ) (space tab : Bool) → eqb b 32 ≡ space → eqb b 9 ≡ tab → (space || tab) ≡ true → (b ≡ 32) ⊎ (b ≡ 9)
@@ -116,11 +117,11 @@ blank_is b h = blank_cases b (eqb b 32) (eqb b 9) refl refl h
 blank_no_name : (b : ℕ) → is_blank b ≡ true → is_name_byte b ≡ false
 blank_no_name b h = elim (blank_is b h) [ inl e ↦ rw e refl | inr e ↦ rw e refl ]
 
-letter_no_blank_at : (b : ℕ) (blank : Bool) → is_blank b ≡ blank → is_letter b ≡ true → blank ≡ false
+letter_no_blank_at : (b : ℕ) (blank : Bool) → is_blank b ≡ blank → is_ascii_alphabetic b ≡ true → blank ≡ false
 letter_no_blank_at b true e h = elim (blank_is b e) [ inl is ↦ (let wrong = rw is at h in cc) | inr is ↦ (let wrong = rw is at h in cc) ]
 letter_no_blank_at b false e h = refl
 
-letter_no_blank : (b : ℕ) → is_letter b ≡ true → is_blank b ≡ false
+letter_no_blank : (b : ℕ) → is_ascii_alphabetic b ≡ true → is_blank b ≡ false
 letter_no_blank b h = letter_no_blank_at b (is_blank b) refl h
 
 chosen : {A : Type 0} (b : Bool) (x y : A) → cond b (Some x) None ≡ Some y → (b ≡ true) × (x ≡ y)
@@ -144,7 +145,7 @@ record IsNamed (text name quoted : List ℕ) : Type 0 where
 run_step : (p : ℕ → Bool) (x : ℕ) (xs : List ℕ) → p x ≡ true → position_or_len (λ b. not (p b)) (x ∷ xs) ≡ suc (position_or_len (λ b. not (p b)) xs)
 run_step p x xs e = rw e (omega arith)
 
-name_shape : (front : List ℕ) → is_letter (slice_index front 0) ≡ true → IsName (take (name_len front) front)
+name_shape : (front : List ℕ) → is_ascii_alphabetic (slice_index front 0) ≡ true → IsName (take (name_len front) front)
 name_shape [] e = cc
 name_shape (b ∷ more) e = rw (run_step is_name_byte b more (letter_is_name b e)) (e, run_all is_name_byte more)
 
@@ -159,9 +160,9 @@ name_found text name quoted e =
     let len = name_len front in
     let after = drop len front in
     let mark = behind_blanks after in
-    let f = chosen (is_letter (slice_index front 0) && is_blank (slice_index after 0) && eqb (slice_index mark 0) 34) (take len front, drop 1 mark) (name, quoted) e in
-    let tests = and_true (is_letter (slice_index front 0) && is_blank (slice_index after 0)) (eqb (slice_index mark 0) 34) f.0 in
-    let letter_blank = and_true (is_letter (slice_index front 0)) (is_blank (slice_index after 0)) tests.0 in
+    let f = chosen (is_ascii_alphabetic (slice_index front 0) && is_blank (slice_index after 0) && eqb (slice_index mark 0) 34) (take len front, drop 1 mark) (name, quoted) e in
+    let tests = and_true (is_ascii_alphabetic (slice_index front 0) && is_blank (slice_index after 0)) (eqb (slice_index mark 0) 34) f.0 in
+    let letter_blank = and_true (is_ascii_alphabetic (slice_index front 0)) (is_blank (slice_index after 0)) tests.0 in
     let blanks = position_or_len (λ b. not (is_blank b)) in
     let is_name : take len front ≡ name = ap (λ (y : List ℕ × List ℕ). y.0) f.1 in
     let is_quoted : drop 1 mark ≡ quoted = ap (λ (y : List ℕ × List ℕ). y.1) f.1 in
@@ -178,7 +179,7 @@ name_found text name quoted e =
     }
 
 name_at_is : (text front after mark : List ℕ) (len : ℕ) → behind_blanks text ≡ front → name_len front ≡ len → drop len front ≡ after → behind_blanks after ≡ mark
-    → is_letter (slice_index front 0) ≡ true → is_blank (slice_index after 0) ≡ true → slice_index mark 0 ≡ 34 → name_at text ≡ Some (take len front, drop 1 mark)
+    → is_ascii_alphabetic (slice_index front 0) ≡ true → is_blank (slice_index after 0) ≡ true → slice_index mark 0 ≡ 34 → name_at text ≡ Some (take len front, drop 1 mark)
 unfolding name_at
 name_at_is text front after mark len e1 e2 e3 e4 letter blank quote = rw e1 (rw e2 (rw e3 (rw e4 (rw letter (rw blank (rw quote refl))))))
 

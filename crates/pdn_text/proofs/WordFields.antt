@@ -8,7 +8,7 @@ use Rattle.std.proofs.lemmas.List.Sums.{prefix_len_passes}
 use Rattle.std.proofs.lemmas.Grind.{common_steps}
 use borrow.Author.Tests.{tests}
 use Rattle.draughts_board.specs.Geometry.{is_square}
-use Rattle.pdn_text.specs.Bytes.{is_digit}
+use Rattle.std.specs.Char.{is_ascii_digit}
 use Rattle.pdn_text.specs.Grammar.{digits_len}
 use Rattle.pdn_text.specs.Words.{fields, number, path_of}
 
@@ -18,24 +18,24 @@ later [] = []
 later (separator ∷ more) = fields more
 
 -- one field more: a digit in front of it, or a separator
-field_step : (x : ℕ) (xs : List ℕ) (digit : Bool) → is_digit x ≡ digit → fields xs ≡ take (digits_len xs) xs ∷ later (drop (digits_len xs) xs)
+field_step : (x : ℕ) (xs : List ℕ) (digit : Bool) → is_ascii_digit x ≡ digit → fields xs ≡ take (digits_len xs) xs ∷ later (drop (digits_len xs) xs)
     → fields (x ∷ xs) ≡ take (digits_len (x ∷ xs)) (x ∷ xs) ∷ later (drop (digits_len (x ∷ xs)) (x ∷ xs))
 field_step x xs true e h = rw e (rw h (grind (arith, common_steps)))
 field_step x xs false e h = rw e refl
 
 pub fields_at : (word : List ℕ) → fields word ≡ take (digits_len word) word ∷ later (drop (digits_len word) word)
 fields_at [] = refl
-fields_at (x ∷ xs) = field_step x xs (is_digit x) refl (fields_at xs)
+fields_at (x ∷ xs) = field_step x xs (is_ascii_digit x) refl (fields_at xs)
 
 not_not : (b : Bool) → not (not b) ≡ true → b ≡ true
 not_not true e = refl
 not_not false e = e
 
 -- a field is digits alone
-pub field_digits : (word : List ℕ) → AllPass is_digit (take (digits_len word) word)
+pub field_digits : (word : List ℕ) → AllPass is_ascii_digit (take (digits_len word) word)
 field_digits word k d h =
-    let short : k < digits_len word = omega (arith, length-prefix_len (λ b. not (not (is_digit b))) word) in
-    rw (get_or-take (digits_len word) word k d short) (not_not (is_digit (get_or word k d)) (prefix_len_passes (λ b. not (not (is_digit b))) word k d short))
+    let short : k < digits_len word = omega (arith, length-prefix_len (λ b. not (not (is_ascii_digit b))) word) in
+    rw (get_or-take (digits_len word) word k d short) (not_not (is_ascii_digit (get_or word k d)) (prefix_len_passes (λ b. not (not (is_ascii_digit b))) word k d short))
 
 -- the first square behind a separator
 pub later_square : (rest more : List ℕ) → 0 < length rest → more ≡ drop 1 rest

@@ -1,17 +1,10 @@
 -- The bytes of PDN, as their codes.
-use Rattle.std.specs.Prelude.{ℕ, Bool, ◌&&◌, ◌||◌, nat_le, ◌==◌}
-
--- 0 to 9
-abbrev pub is_digit : ℕ → Bool
-is_digit b = nat_le 48 b && nat_le b 57
-
--- A to Z and a to z
-abbrev pub is_letter : ℕ → Bool
-is_letter b = (nat_le 65 b && nat_le b 90) || (nat_le 97 b && nat_le b 122)
+use Rattle.std.specs.Char.{is_ascii_digit, is_ascii_alphabetic}
+use Rattle.std.specs.Prelude.{ℕ, Bool, ◌||◌, ◌==◌}
 
 -- a byte of a word: a digit, `-`, `x` or `/`
 abbrev pub is_word_byte : ℕ → Bool
-is_word_byte b = is_digit b || b == 45 || b == 120 || b == 47
+is_word_byte b = is_ascii_digit b || b == 45 || b == 120 || b == 47
 
 -- a blank inside a tag: space or tab
 abbrev pub is_blank : ℕ → Bool
@@ -23,7 +16,7 @@ is_skipped b = b == 32 || b == 9 || b == 13 || b == 10 || b == 46 || b == 33 || 
 
 -- a byte of a tag's name: a letter, a digit or `_`
 abbrev pub is_name_byte : ℕ → Bool
-is_name_byte b = is_letter b || is_digit b || b == 95
+is_name_byte b = is_ascii_alphabetic b || is_ascii_digit b || b == 95
 
 -- the bytes 10 and 13
 abbrev pub is_line_end : ℕ → Bool

@@ -1,7 +1,8 @@
 -- The items of a text, and the faults: what stands at a place where an item is due.
 use Rattle.std.specs.Prelude.{◌≡◌, ◌⊎◌, ℕ, ◌+◌, ◌-◌, Bool, not, ◌||◌, ◌==◌, List, ◌++◌, length, take, drop, slice_index, Some, None, position}
 use Rattle.std.specs.List.{position_or_len}
-use Rattle.pdn_text.specs.Bytes.{is_digit, is_word_byte}
+use Rattle.pdn_text.specs.Bytes.{is_word_byte}
+use Rattle.std.specs.Char.{is_ascii_digit}
 use Rattle.pdn_text.specs.Forms.{form_of}
 use Rattle.pdn_text.specs.Signs.{skipped, saying}
 use Rattle.pdn_text.specs.Tags.{BeginsWithTag}
@@ -19,7 +20,7 @@ use Rattle.pdn_text.specs.declared.words.Word.TheVariants as word
 
 -- the longest run of digits at the front
 abbrev pub digits_len : List ℕ → ℕ
-digits_len rest = position_or_len (λ b. not (is_digit b)) rest
+digits_len rest = position_or_len (λ b. not (is_ascii_digit b)) rest
 
 -- the longest run of digits, `-`, `x` and `/` at the front
 abbrev pub word_len : List ℕ → ℕ
@@ -36,7 +37,8 @@ line_len rest = position_or_len (λ b. b == 10) rest
 abbrev pub IsWordItem : Word → ℕ → ℕ → Item → Type 0
 IsWordItem word.Result at end item = item ≡ saying end Ended
 IsWordItem word.Number at end item = item ≡ skipped end
-IsWordItem (word.Move squares) at end item = item ≡ saying end (Moved (record { at = at; end = end; squares = squares }))
+IsWordItem (word.Move squares) at end item =
+    item ≡ saying end (Moved (record { at = at; end = end; squares = squares }))
 IsWordItem word.Bad at end item = ⊥
 
 -- a variation stands at the front of `rest`
@@ -72,14 +74,16 @@ IsItem form.Star at rest item = item ≡ saying (at + 1) Ended
 IsItem form.Word at rest item = IsWordItem (word_of (word_at rest)) at (at + word_len rest) item
 IsItem form.Nothing at rest item = ⊥
 
--- An item of this form is due at `at` and does not stand there: this is the fault. A variation is not closed, or a
--- comment in it.
+-- An item of this form is due at `at` and does not stand there: this is the fault. A variation is
+-- not closed, or a comment in it.
 abbrev pub IsFault : Form → ℕ → List ℕ → PdnRefusal → Type 0
-IsFault form.Comment at rest fault = (position (λ b. b == 125) rest ≡ None) × (fault ≡ OpenComment at)
+IsFault form.Comment at rest fault =
+    (position (λ b. b == 125) rest ≡ None) × (fault ≡ OpenComment at)
 IsFault form.Variation at rest fault =
     (NeverClosed rest × (fault ≡ OpenVariation at))
     ⊎ ((place : ℕ) × HoldsOpenComment rest place × (fault ≡ OpenComment (at + place)))
-IsFault form.Tag at rest fault = ((tag : Tag) (behind : List ℕ) → ¬ BeginsWithTag rest tag behind) × (fault ≡ OpenTag at)
+IsFault form.Tag at rest fault =
+    ((tag : Tag) (behind : List ℕ) → ¬ BeginsWithTag rest tag behind) × (fault ≡ OpenTag at)
 IsFault form.Word at rest fault = (word_of (word_at rest) ≡ word.Bad) × (fault ≡ BadMove at)
 IsFault form.Nothing at rest fault = fault ≡ BadByte at
 IsFault other at rest fault = ⊥

@@ -4,6 +4,7 @@ use Rattle.std.specs.Str.{bytes_eq}
 use Rattle.std.specs.Prelude.{take}
 use Rattle.pdn_text.specs.Games.{Make}
 use Rattle.pdn_text.specs.Grammar.{IsItem, IsFault, form_at}
+use Rattle.pdn_text.specs.declared.TheConstants.{MOST_GAMES}
 use Rattle.pdn_text.specs.declared.game.Game.{Game}
 use Rattle.pdn_text.specs.declared.items.Item.{Item}
 use Rattle.pdn_text.specs.declared.items.Sign.{Sign}
@@ -17,21 +18,19 @@ beginning text = if bytes_eq (take 3 text) (239 ∷ 187 ∷ 191 ∷ []) then 3 e
 -- Between two places the text is these items, one straight behind the other.
 abbrev pub AreItems : List ℕ → ℕ → List Item → ℕ → Type 0
 AreItems text at [] to = at ≡ to
-AreItems text at (item ∷ items) to = IsItem (form_at text at) at (drop at text) item × AreItems text item.end items to
+AreItems text at (item ∷ items) to =
+    IsItem (form_at text at) at (drop at text) item × AreItems text item.end items to
 
 -- what the items say of games, in order
 abbrev pub signs : List Item → List Sign
 signs items = flat_map (λ item. option_to_list item.sign) items
 
--- how many games a text may have
-abbrev pub most_games : ℕ
-most_games = 4096
-
 -- The text is items up to this place, and they make these games, which are not too many.
-pub record ReadsTo (text : List ℕ) (place : ℕ) (items : List Item) (games : List Game) : Type 0 where
+pub record ReadsTo (text : List ℕ) (place : ℕ) (items : List Item)
+    (games : List Game) : Type 0 where
   pub are_items : AreItems text (beginning text) items place
   pub make : Make (signs items) games
-  pub few : length games ≤ most_games
+  pub few : length games ≤ MOST_GAMES
 
 -- the whole text is items, and they make these games
 abbrev pub Reads : List ℕ → List Game → Type 0
@@ -46,7 +45,8 @@ pub record StandsFirst (text : List ℕ) (fault : PdnRefusal) : Type 0 where
   pub inside : suc place ≤ length text
   pub stands : IsFault (form_at text place) place (drop place text) fault
 
--- The text is items up to a place, they make as many games as a text may have, and the item there begins one more.
+-- The text is items up to a place, they make as many games as a text may have, and the item there
+-- begins one more.
 pub record BeginsOneMore (text : List ℕ) : Type 0 where
   pub place : ℕ
   pub items : List Item
@@ -56,7 +56,7 @@ pub record BeginsOneMore (text : List ℕ) : Type 0 where
   pub next : IsItem (form_at text place) place (drop place text) item
   pub more : List Game
   pub make_more : Make (signs (items ++ item ∷ [])) more
-  pub too_many : length more ≡ suc most_games
+  pub too_many : length more ≡ suc MOST_GAMES
 
 -- the text is refused so
 abbrev pub Refused : List ℕ → PdnRefusal → Type 0

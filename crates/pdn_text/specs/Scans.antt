@@ -1,8 +1,9 @@
--- What the readers of single items answer, as functions of the bytes. `specs/Grammar.antt` says what the items are,
--- and each answer here is proved to be what it says.
+-- What the readers of single items answer, as functions of the bytes. `specs/Grammar.antt` says
+-- what the items are, and each answer here is proved to be what it says.
 use Rattle.std.specs.Prelude.{ℕ, ◌+◌, ◌-◌, List, [], ◌∷◌, ◌++◌, Bool, true, false, not, ◌&&◌, ◌==◌, nat_le, if◌then◌else◌, slice_index, length, take, drop, position, Option, Some, None, Result, Ok, Err, option_map}
 use Rattle.std.specs.List.{position_or_len}
-use Rattle.pdn_text.specs.Bytes.{is_letter, is_name_byte, is_blank, is_line_end}
+use Rattle.pdn_text.specs.Bytes.{is_name_byte, is_blank, is_line_end}
+use Rattle.std.specs.Char.{is_ascii_alphabetic}
 use Rattle.pdn_text.specs.Grammar.{line_len, digits_len, word_len, word_at}
 use Rattle.pdn_text.specs.Signs.{skipped, saying}
 use Rattle.pdn_text.specs.Words.{word_of}
@@ -18,8 +19,8 @@ use Rattle.pdn_text.specs.declared.variations.Unclosed.TheVariants as unclosed
 use Rattle.pdn_text.specs.declared.words.Word.{Word}
 use Rattle.pdn_text.specs.declared.words.Word.TheVariants as word
 
--- Where the outermost open variation ends: `depth` of them are open at `place`, and the comment that began at the
--- place in `comment`, if any.
+-- Where the outermost open variation ends: `depth` of them are open at `place`, and the comment
+-- that began at the place in `comment`, if any.
 abbrev pub variation_end : ℕ → Option ℕ → ℕ → List ℕ → Result ℕ Unclosed
 variation_end depth None place [] = Err unclosed.Variation
 variation_end depth (Some opened) place [] = Err (unclosed.Comment opened)
@@ -28,7 +29,9 @@ variation_end depth (Some opened) place (b ∷ rest) =
 variation_end depth None place (b ∷ rest) =
     if b == 123 then variation_end depth (Some place) (place + 1) rest
     else if b == 40 then variation_end (depth + 1) None (place + 1) rest
-    else if b == 41 then (if nat_le depth 1 then Ok (place + 1) else variation_end (depth - 1) None (place + 1) rest)
+    else if b == 41
+    then (if nat_le depth 1 then Ok (place + 1)
+    else variation_end (depth - 1) None (place + 1) rest)
     else variation_end depth None (place + 1) rest
 
 -- what stands behind the blanks at the front
@@ -44,7 +47,8 @@ name_at text =
     let front = behind_blanks text in
     let after = drop (name_len front) front in
     let quoted = behind_blanks after in
-    if is_letter (slice_index front 0) && is_blank (slice_index after 0) && slice_index quoted 0 == 34
+    if is_ascii_alphabetic (slice_index front 0) && is_blank (slice_index after 0)
+    && slice_index quoted 0 == 34
     then Some (take (name_len front) front, drop 1 quoted)
     else None
 
@@ -52,8 +56,8 @@ name_at text =
 abbrev pub with_front : List ℕ → Option (List ℕ × List ℕ) → Option (List ℕ × List ℕ)
 with_front front found = option_map (λ x. (front ++ x.0, x.1)) found
 
--- The value of a tag without its escapes, and what stands behind the quotation mark that closes it. `escaped` says
--- whether a `\` stands straight before the text.
+-- The value of a tag without its escapes, and what stands behind the quotation mark that closes it.
+-- `escaped` says whether a `\` stands straight before the text.
 abbrev pub value_at : Bool → List ℕ → Option (List ℕ × List ℕ)
 value_at escaped [] = None
 value_at escaped (b ∷ text) =
@@ -67,7 +71,8 @@ abbrev pub closed_tag : List ℕ → Option (List ℕ × List ℕ) → Option (T
 closed_tag name None = None
 closed_tag name (Some (value, text)) =
     let after = behind_blanks text in
-    if slice_index after 0 == 93 then Some (record { name = name; value = value }, drop 1 after) else None
+    if slice_index after 0 == 93 then Some (record { name = name; value = value }, drop 1 after)
+    else None
 
 abbrev pub named_tag : Option (List ℕ × List ℕ) → Option (Tag × List ℕ)
 named_tag None = None
@@ -93,7 +98,8 @@ tag_item at len (Some (tag, behind)) = Ok (saying (at + (len - length behind)) (
 abbrev pub word_item : ℕ → ℕ → Word → Result Item PdnRefusal
 word_item at end word.Result = Ok (saying end Ended)
 word_item at end word.Number = Ok (skipped end)
-word_item at end (word.Move squares) = Ok (saying end (Moved (record { at = at; end = end; squares = squares })))
+word_item at end (word.Move squares) =
+    Ok (saying end (Moved (record { at = at; end = end; squares = squares })))
 word_item at end word.Bad = Err (BadMove at)
 
 -- the item of this form at `at`, or the fault

@@ -1,7 +1,8 @@
 -- Tags: `[`, blanks, a name, at least one blank, `"`, a value, `"`, blanks, `]`.
 use Rattle.std.specs.Prelude.{◌≡◌, ◌≢◌, ◌<◌, ℕ, true, false, List, [], ◌∷◌, ◌++◌, length, map, flat_map}
 use Rattle.std.specs.List.{list_all}
-use Rattle.pdn_text.specs.Bytes.{is_letter, is_name_byte, is_blank, is_line_end}
+use Rattle.pdn_text.specs.Bytes.{is_name_byte, is_blank, is_line_end}
+use Rattle.std.specs.Char.{is_ascii_alphabetic}
 use Rattle.pdn_text.specs.declared.game.Tag.{Tag}
 
 -- a byte of a value as it is written: the byte itself, or `\` and the byte
@@ -29,7 +30,7 @@ AreWritten (w ∷ ws) = IsWritten w × AreWritten ws
 -- a letter followed by letters, digits and `_`
 abbrev pub IsName : List ℕ → Type 0
 IsName [] = ⊥
-IsName (b ∷ more) = (is_letter b ≡ true) × (list_all is_name_byte more ≡ true)
+IsName (b ∷ more) = (is_ascii_alphabetic b ≡ true) × (list_all is_name_byte more ≡ true)
 
 -- the text begins with this tag, and this stands behind it
 pub record BeginsWithTag (text : List ℕ) (tag : Tag) (behind : List ℕ) : Type 0 where
@@ -44,4 +45,6 @@ pub record BeginsWithTag (text : List ℕ) (tag : Tag) (behind : List ℕ) : Typ
   pub written : AreWritten value
   pub value_of_tag : tag.value ≡ map byte_of value
   pub blanks_after : list_all is_blank after ≡ true
-  pub whole : text ≡ 91 ∷ before ++ tag.name ++ between ++ 34 ∷ flat_map as_written value ++ 34 ∷ after ++ 93 ∷ behind
+  pub whole : text
+      ≡ 91 ∷ before ++ tag.name ++ between ++ 34 ∷ flat_map as_written value ++ 34 ∷ after ++ 93
+      ∷ behind

@@ -2,8 +2,8 @@
 use Rattle.std.specs.Prelude.{◌≡◌, ◌≢◌, ℕ, ◌==◌, true, not, List, [], ◌∷◌, ◌++◌, length}
 use Rattle.std.specs.List.{list_all}
 
--- What stands inside a variation, from its front: nothing; or something, and behind it one more byte, comment or
--- variation.
+-- What stands inside a variation, from its front: nothing; or something, and behind it one more
+-- byte, comment or variation.
 pub data Inside : Type 0 where
   Empty : Inside
   Byte : Inside → ℕ → Inside
@@ -35,8 +35,8 @@ IsInside (Nested before inside) = IsInside before × IsInside inside
 abbrev pub variation : Inside → List ℕ
 variation inside = 40 ∷ spelled inside ++ 41 ∷ []
 
--- Variations that have begun and not ended, the innermost first: each is a `(` and what stands in it so far, and
--- stands inside the next.
+-- Variations that have begun and not ended, the innermost first: each is a `(` and what stands in
+-- it so far, and stands inside the next.
 abbrev pub begun : List Inside → List ℕ
 begun [] = []
 begun (inside ∷ outer) = begun outer ++ 40 ∷ spelled inside
@@ -52,7 +52,8 @@ pub record NeverClosed (text : List ℕ) : Type 0 where
   pub insides : AreInsides (inner ∷ outer)
   pub whole : text ≡ begun (inner ∷ outer)
 
--- the text is variations that have begun, at least one, up to `place`, and there a `{` that is never closed
+-- the text is variations that have begun, at least one, up to `place`, and there a `{` that is
+-- never closed
 pub record HoldsOpenComment (text : List ℕ) (place : ℕ) : Type 0 where
   pub inner : Inside
   pub outer : List Inside

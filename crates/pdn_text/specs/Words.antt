@@ -3,19 +3,20 @@ use Rattle.std.specs.Prelude.{ℕ, ◌+◌, ◌-◌, ◌*◌, List, [], ◌∷�
 use Rattle.std.specs.List.{list_all, slice_split}
 use Rattle.std.specs.Str.{bytes_eq}
 use Rattle.draughts_board.specs.Geometry.{is_square}
-use Rattle.pdn_text.specs.Bytes.{is_digit}
+use Rattle.std.specs.Char.{is_ascii_digit}
 use Rattle.pdn_text.specs.declared.words.Word.{Word}
 use Rattle.pdn_text.specs.declared.words.Word.TheVariants.{Result, Number, Move, Bad}
 
 -- the results with digits
 abbrev pub is_result : List ℕ → Bool
 is_result word =
-    bytes_eq word (codes "1-0") || bytes_eq word (codes "0-1") || bytes_eq word (codes "1/2-1/2") || bytes_eq word (codes "2-0")
+    bytes_eq word (codes "1-0") || bytes_eq word (codes "0-1") || bytes_eq word (codes "1/2-1/2")
+    || bytes_eq word (codes "2-0")
     || bytes_eq word (codes "0-2") || bytes_eq word (codes "1-1") || bytes_eq word (codes "0-0")
 
 -- digits alone
 abbrev pub is_number : List ℕ → Bool
-is_number word = list_all is_digit word
+is_number word = list_all is_ascii_digit word
 
 -- what one or two digits stand for; 0 for any other number of them
 abbrev pub number : List ℕ → ℕ
@@ -26,26 +27,28 @@ number (b ∷ c ∷ d ∷ more) = 0
 
 -- the digits between the separators
 abbrev pub fields : List ℕ → List (List ℕ)
-fields word = slice_split (λ b. not (is_digit b)) word
+fields word = slice_split (λ b. not (is_ascii_digit b)) word
 
 -- each separator is `x`
 abbrev pub is_crossed : List ℕ → Bool
-is_crossed word = list_all (λ b. is_digit b || b == 120) word
+is_crossed word = list_all (λ b. is_ascii_digit b || b == 120) word
 
 -- each separator is `-`
 abbrev pub is_dashed : List ℕ → Bool
-is_dashed word = list_all (λ b. is_digit b || b == 45) word
+is_dashed word = list_all (λ b. is_ascii_digit b || b == 45) word
 
 -- the squares between the separators, where they are squares, two to thirteen of them
 unfoldable pub path_of : List ℕ → Option (List ℕ)
 path_of word =
     let squares = map number (fields word) in
-    if list_all is_square squares && nat_le 2 (length squares) && nat_le (length squares) 13 then Some squares else None
+    if list_all is_square squares && nat_le 2 (length squares) && nat_le (length squares) 13
+    then Some squares else None
 
 -- two to thirteen squares with `x` between each two, or two squares with `-` between
 abbrev pub separated : List ℕ → Option (List ℕ) → Option (List ℕ)
 separated word None = None
-separated word (Some squares) = if is_crossed word || (length squares == 2 && is_dashed word) then Some squares else None
+separated word (Some squares) =
+    if is_crossed word || (length squares == 2 && is_dashed word) then Some squares else None
 
 unfoldable pub move_of : List ℕ → Option (List ℕ)
 move_of word = separated word (path_of word)

@@ -1,12 +1,12 @@
 //! What is read: games with their tags and moves.
-use crate::lists::{Bytes, Moves, Tags};
 use draughts_board::Move;
+use shared_words::ItemList;
 
 /// A tag pair, as `[Event "Open"]`: the name, and the value without its quotation marks and escapes.
 #[derive(Debug, Drop)]
 pub struct Tag {
-    pub name: Bytes,
-    pub value: Bytes,
+    pub name: ItemList<u8>,
+    pub value: ItemList<u8>,
 }
 
 /// A move as it stands in the text: the squares that are written, and the span of its bytes.
@@ -23,6 +23,6 @@ pub struct MoveText {
 /// A game: its tags and its moves, each in the order of the text. Results, comments and variations are not kept.
 #[derive(Debug, Drop)]
 pub struct Game {
-    pub tags: Tags,
-    pub moves: Moves,
+    pub tags: ItemList<Tag>,
+    pub moves: ItemList<MoveText>,
 }

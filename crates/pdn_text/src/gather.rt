@@ -1,16 +1,13 @@
 //! Gathers what the items say into games.
-ghost use Rattle.std.specs.Prelude.{◌≡◌, ◌+◌, ◌≤◌, false, ◌↔◌, ◌⊎◌, length, OnOk, IfOk, IfErr, IsTrue};
-ghost use Rattle.pdn_text.specs.Signs.{IsMemory};
+ghost use Rattle.std.specs.Prelude.{◌≡◌, ◌≤◌, false, ◌↔◌, length, OnOk, IfOk, IfErr, IsTrue};
 
+use crate::MOST_GAMES;
 use crate::game::{Game, MoveText, Tag};
 use crate::items::Sign;
-use crate::lists::{Moves, Tags};
 use crate::refusal::PdnRefusal;
+use shared_words::ItemList;
 use std::alloc::{AllocError, Global};
 use std::mem;
-
-/// How many games a text may have.
-pub(crate) const MOST_GAMES: usize = 4096;
 
 /// The games that have ended, and the tags and moves of the game that has begun, if one has.
 #[derive(Drop)]
@@ -22,7 +19,7 @@ pub(crate) struct Gathered {
 }
 
 impl Gathered {
-    ghost use Rattle.pdn_text.specs.Gathering.{progress, no_game, taken, closed, games_of, is_open};
+    ghost use Rattle.pdn_text.specs.Gathering.{progress, no_game, taken, closed, games_of, is_open, IsRefusedAs};
     ghost use Rattle.pdn_text.specs.declared.items.Sign.TheVariants.{Tagged, Moved, Ended};
 
     /// No game yet.
@@ -42,7 +39,7 @@ impl Gathered {
         requires { length (games_of (progress self.old)) ≤ MOST_GAMES }
         ensures ok { OnOk result (progress self.new ≡ taken (progress self.old) sign) }
         ensures few { OnOk result (length (games_of (progress self.new)) ≤ MOST_GAMES) }
-        ensures err { IfErr result (λ e. IsMemory e ⊎ ((e ≡ PdnRefusal.TooManyGames) × (length (games_of (taken (progress self.old) sign)) ≡ MOST_GAMES + 1))) }
+        ensures err { IfErr result (IsRefusedAs (progress self.old) sign) }
     {
         match sign {
             Sign::Tagged(tag) => self.tag(tag),
@@ -61,25 +58,24 @@ impl Gathered {
     /// Whether no game is open and none more may begin.
     fn is_full(&self) -> bool
         requires { length (games_of (progress self.now)) ≤ MOST_GAMES }
-        ensures { IsTrue result ↔ ((is_open (progress self.now) ≡ false) × (length self.now.games.items ≡ MOST_GAMES)) }
+        ensures { IsTrue result ↔ ((is_open (progress self.now) ≡ false)
+            × (length self.now.games.items ≡ MOST_GAMES)) }
     {
         !self.is_open() && self.games.len() == MOST_GAMES
     }
 
     /// Ends the open game, which is one without tags and moves where none was open.
-    fn close(&mut self) -> Result<(), PdnRefusal>
-        ensures ok { OnOk result (progress self.new ≡ closed (progress self.old)) }
-        ensures err { IfErr result IsMemory }
+    fn close(&mut self) -> Result<(), AllocError>
+        ensures { OnOk result (progress self.new ≡ closed (progress self.old)) }
     {
         let tags = mem::replace(&mut self.tags, Vec::new(self.alloc));
         let moves = mem::replace(&mut self.moves, Vec::new(self.alloc));
         let game = Game {
-            tags: Tags::from_vec(tags),
-            moves: Moves::from_vec(moves),
+            tags: ItemList::from_vec(tags),
+            moves: ItemList::from_vec(moves),
         };
-        self.games
-            .push(game)
-            .map_err(|_| PdnRefusal::Memory(AllocError))
+        self.games.push(game)?;
+        Ok(())
     }
 
     /// A tag; behind a move it begins the next game.
@@ -87,7 +83,7 @@ impl Gathered {
         requires { length (games_of (progress self.old)) ≤ MOST_GAMES }
         ensures ok { OnOk result (progress self.new ≡ taken (progress self.old) (Tagged tag)) }
         ensures few { OnOk result (length (games_of (progress self.new)) ≤ MOST_GAMES) }
-        ensures err { IfErr result (λ e. IsMemory e ⊎ ((e ≡ PdnRefusal.TooManyGames) × (length (games_of (taken (progress self.old) (Tagged tag))) ≡ MOST_GAMES + 1))) }
+        ensures err { IfErr result (IsRefusedAs (progress self.old) (Tagged tag)) }
     {
         if !self.moves.is_empty() {
             self.close()?;
@@ -105,7 +101,7 @@ impl Gathered {
         requires { length (games_of (progress self.old)) ≤ MOST_GAMES }
         ensures ok { OnOk result (progress self.new ≡ taken (progress self.old) (Moved text)) }
         ensures few { OnOk result (length (games_of (progress self.new)) ≤ MOST_GAMES) }
-        ensures err { IfErr result (λ e. IsMemory e ⊎ ((e ≡ PdnRefusal.TooManyGames) × (length (games_of (taken (progress self.old) (Moved text))) ≡ MOST_GAMES + 1))) }
+        ensures err { IfErr result (IsRefusedAs (progress self.old) (Moved text)) }
     {
         if self.is_full() {
             return Err(PdnRefusal::TooManyGames);
@@ -120,18 +116,18 @@ impl Gathered {
         requires { length (games_of (progress self.old)) ≤ MOST_GAMES }
         ensures ok { OnOk result (progress self.new ≡ taken (progress self.old) Ended) }
         ensures few { OnOk result (length (games_of (progress self.new)) ≤ MOST_GAMES) }
-        ensures err { IfErr result (λ e. IsMemory e ⊎ ((e ≡ PdnRefusal.TooManyGames) × (length (games_of (taken (progress self.old) Ended)) ≡ MOST_GAMES + 1))) }
+        ensures err { IfErr result (IsRefusedAs (progress self.old) Ended) }
     {
         if self.is_full() {
             return Err(PdnRefusal::TooManyGames);
         }
-        self.close()
+        self.close()?;
+        Ok(())
     }
 
     /// The games, where the text ends here.
-    pub(crate) fn finish(mut self) -> Result<Vec<Game>, PdnRefusal>
-        ensures ok { IfOk result (λ games. games.items ≡ games_of (progress self)) }
-        ensures err { IfErr result IsMemory }
+    pub(crate) fn finish(mut self) -> Result<Vec<Game>, AllocError>
+        ensures { IfOk result (λ games. games.items ≡ games_of (progress self)) }
     {
         if self.is_open() {
             self.close()?;

@@ -12,7 +12,6 @@ mod form;
 mod game;
 mod gather;
 mod items;
-mod lists;
 mod reader;
 mod refusal;
 mod runs;
@@ -22,7 +21,9 @@ mod tests;
 mod variations;
 mod words;
 
+/// How many games a text may have.
+pub const MOST_GAMES: usize = 4096;
+
 pub use game::{Game, MoveText, Tag};
-pub use lists::{Bytes, Moves, Tags};
 pub use reader::read_games;
 pub use refusal::PdnRefusal;

@@ -1,10 +1,10 @@
 //! Reads a whole text.
-ghost use Rattle.std.specs.Prelude.{◌≡◌, ◌⊎◌, ◌<◌, ◌≤◌, List, length, IfOk, IfErr};
+ghost use Rattle.std.specs.Prelude.{◌≡◌, ◌<◌, ◌≤◌, length, IfOk, IfErr};
+ghost use Rattle.std.specs.Bool.{OnFalse};
+ghost use Rattle.shared_words.specs.Answers.{IsExact, listed};
 ghost use Rattle.pdn_text.specs.Grammar.{begins_line};
 ghost use Rattle.pdn_text.specs.Pdn.{Reads, Refused, beginning};
-ghost use Rattle.pdn_text.specs.Signs.{IsMemory, Gives};
-ghost use Rattle.pdn_text.specs.declared.game.Game.{Game};
-ghost use Rattle.pdn_text.specs.declared.refusal.PdnRefusal.{PdnRefusal};
+ghost use Rattle.pdn_text.specs.Signs.{is_memory};
 
 use crate::game::Game;
 use crate::gather::Gathered;
@@ -18,13 +18,8 @@ use std::alloc::Global;
 /// `TooManyGames` and `Memory` has the place of its fault, a byte offset from 0: of the byte itself, of the `[` of
 /// what is no tag, of the `{` or the outermost `(` that is not closed, of the first byte of a word that is no move.
 pub fn read_games(alloc: Global, text: &[u8]) -> Result<Vec<Game>, PdnRefusal>
-    // What is read is what the text's items make.
-    ensures games { IfOk result (λ games. Reads text.now games.items) }
-    // A refusal is the fault that stands first.
-    ensures refused { IfErr result (λ refusal. IsMemory refusal ⊎ Refused text.now refusal) }
-    // A text that can be read is read so, and a text that is refused is refused so, unless memory runs out.
-    ensures only_games { (games : List Game) → Reads text.now games → Gives (λ v. v.items) result (Ok games) }
-    ensures only_refused { (refusal : PdnRefusal) → Refused text.now refusal → Gives (λ v. v.items) result (Err refusal) }
+    // The games that the text's items make, or the fault that stands first: exactly that, unless memory ran out.
+    ensures { IsExact is_memory (Reads text.now) (Refused text.now) (listed result) }
 {
     read_items(alloc, text)
 }
@@ -32,7 +27,7 @@ pub fn read_games(alloc: Global, text: &[u8]) -> Result<Vec<Game>, PdnRefusal>
 /// Reads item after item, up to the end or the first fault.
 fn read_items(alloc: Global, text: &[u8]) -> Result<Vec<Game>, PdnRefusal>
     ensures games { IfOk result (λ games. Reads text.now games.items) }
-    ensures refused { IfErr result (λ refusal. IsMemory refusal ⊎ Refused text.now refusal) }
+    ensures refused { IfErr result (λ e. OnFalse (is_memory e) (Refused text.now e)) }
 {
     let mut gathered = Gathered::new(alloc);
     let mut at = beginning(text);
@@ -44,7 +39,7 @@ fn read_items(alloc: Global, text: &[u8]) -> Result<Vec<Game>, PdnRefusal>
         }
         at = end;
     }
-    gathered.finish()
+    Ok(gathered.finish()?)
 }
 
 /// Where the items begin: behind the byte order mark, if one stands at the front.

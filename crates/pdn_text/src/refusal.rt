@@ -1,4 +1,7 @@
 //! Why a text is refused.
+ghost use Rattle.std.specs.Prelude.{◌≡◌};
+ghost use Rattle.pdn_text.specs.declared.refusal.PdnRefusal.TheVariants as refusals;
+
 use std::alloc::AllocError;
 use thiserror::Error;
 
@@ -24,6 +27,15 @@ pub enum PdnRefusal {
     #[error("more than 4,096 games")]
     TooManyGames,
     /// Memory ran out.
-    #[error(transparent)]
+    #[error("out of memory")]
     Memory(AllocError),
+}
+
+impl From<AllocError> for PdnRefusal {
+    ghost from_gives = { λ error refusal. refusal ≡ refusals.Memory error };
+
+    /// Want of memory.
+    fn from(error: AllocError) -> PdnRefusal {
+        PdnRefusal::Memory(error)
+    }
 }

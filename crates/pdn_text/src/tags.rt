@@ -4,15 +4,16 @@ ghost use Rattle.pdn_text.specs.Bytes.{is_blank, is_line_end};
 ghost use Rattle.pdn_text.specs.Scans.{tag_at, name_at, value_at, behind_blanks};
 
 use crate::game::Tag;
-use crate::lists::Bytes;
 use crate::runs::{blanks_len, name_len};
+use shared_words::ItemList;
 use std::alloc::{AllocError, Global};
 
 /// The tag that begins at the front of `rest`, with `[`, and what stands behind it; none where no tag stands there.
 #[tactic(auto, unfolding(crate::specs::Scans::tag_at))]
 pub(crate) fn tag_at(alloc: Global, rest: &[u8]) -> Result<Option<(Tag, &[u8])>, AllocError>
     requires { 0 < length rest.now }
-    ensures value { IfOk result (λ found. tag_at rest.now ≡ option_map (λ x. (x.0, x.1.now)) found) }
+    ensures value { IfOk result (λ found. tag_at rest.now ≡ option_map
+        (λ x. (x.0, x.1.now)) found) }
     ensures inside { IfOk result (λ found. IfSome found (λ x. length x.1.now < length rest.now)) }
 {
     let Some((name, quoted)) = name_at(behind_front(rest)) else {
@@ -25,7 +26,7 @@ pub(crate) fn tag_at(alloc: Global, rest: &[u8]) -> Result<Option<(Tag, &[u8])>,
     if front_byte(closing) != b']' {
         return Ok(None);
     }
-    let name = Bytes::from_vec(name.to_vec(alloc)?);
+    let name = ItemList::from_vec(name.to_vec(alloc)?);
     Ok(Some((Tag { name, value }, behind_front(closing))))
 }
 
@@ -85,15 +86,16 @@ fn behind_blanks(rest: &[u8]) -> &[u8]
 }
 
 /// The value of a tag without its escapes, and what stands behind the quotation mark that closes it.
-fn value_at(alloc: Global, rest: &[u8]) -> Result<Option<(Bytes, &[u8])>, AllocError>
-    ensures value { IfOk result (λ found. value_at false rest.now ≡ option_map (λ x. (x.0, x.1.now)) found) }
+fn value_at(alloc: Global, rest: &[u8]) -> Result<Option<(ItemList<u8>, &[u8])>, AllocError>
+    ensures value { IfOk result (λ found. value_at false rest.now ≡ option_map
+        (λ x. (x.0, x.1.now)) found) }
     ensures inside { IfOk result (λ found. IfSome found (λ x. length x.1.now ≤ length rest.now)) }
 {
     let mut value = Vec::new(alloc);
     let mut escaped = false;
     for (i, byte) in rest.iter().enumerate() {
         if *byte == b'"' && !escaped {
-            return Ok(Some((Bytes::from_vec(value), rest.split_at(i + 1).1)));
+            return Ok(Some((ItemList::from_vec(value), rest.split_at(i + 1).1)));
         }
         if ends_line(*byte) {
             return Ok(None);

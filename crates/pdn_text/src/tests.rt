@@ -1,10 +1,12 @@
 //! Texts worked out by hand from the grammar. An answer is written as `<TAGS|MOVES>` for each game, with tags
 //! `NAME=VALUE` and moves `SQUARES@PLACE-END`, or as the refusal and its place.
 use crate::{Game, PdnRefusal, read_games};
+use draughts_board::Square;
 use std::alloc::{AllocError, Global};
 use std::process::Abort;
 use std::test::Fail;
 
+/// Appends bytes, each as the character of its code.
 fn push_bytes(out: &mut String, bytes: &[u8]) -> Result<(), AllocError> {
     for byte in bytes {
         out.push(char::from(*byte))?;
@@ -12,11 +14,7 @@ fn push_bytes(out: &mut String, bytes: &[u8]) -> Result<(), AllocError> {
     Ok(())
 }
 
-fn push_number(alloc: Global, out: &mut String, number: usize) -> Result<(), AllocError> {
-    let digits = format!(in alloc; "{number}")?;
-    out.push_str(digits.as_str())
-}
-
+/// Appends a game as it is told.
 fn push_game(alloc: Global, out: &mut String, game: &Game) -> Result<(), AllocError> {
     out.push_str("<")?;
     for (i, tag) in game.tags.as_slice().iter().enumerate() {
@@ -33,28 +31,23 @@ fn push_game(alloc: Global, out: &mut String, game: &Game) -> Result<(), AllocEr
             out.push_str(",")?;
         }
         push_squares(alloc, out, text.squares.path())?;
-        out.push_str("@")?;
-        push_number(alloc, out, text.at)?;
-        out.push_str("-")?;
-        push_number(alloc, out, text.end)?;
+        out.push_str(format!(in alloc; "@{}-{}", text.at, text.end)?.as_str())?;
     }
     out.push_str(">")
 }
 
-fn push_squares(
-    alloc: Global,
-    out: &mut String,
-    squares: &[draughts_board::Square],
-) -> Result<(), AllocError> {
+/// Appends the squares of a move.
+fn push_squares(alloc: Global, out: &mut String, squares: &[Square]) -> Result<(), AllocError> {
     for (i, square) in squares.iter().enumerate() {
         if i > 0 {
             out.push_str(".")?;
         }
-        push_number(alloc, out, square.number() as usize)?;
+        out.push_str(format!(in alloc; "{}", square.number())?.as_str())?;
     }
     Ok(())
 }
 
+/// The answer to a text, as it is told.
 fn told(alloc: Global, text: &[u8]) -> Result<String, AllocError> {
     let mut out = String::new(alloc);
     match read_games(alloc, text) {
@@ -74,12 +67,14 @@ fn told(alloc: Global, text: &[u8]) -> Result<String, AllocError> {
     }
 }
 
+/// The text is answered so.
 fn expect_told<R: Abort>(rt: &R, alloc: Global, text: &[u8], want: &str) -> Result<(), AllocError> {
     let told = told(alloc, text)?;
     assert_eq!(rt; told.as_str(), want);
     Ok(())
 }
 
+/// Each text is answered so.
 fn expect_all<R: Abort>(rt: &R, alloc: Global, cases: &[(&str, &str)]) -> Result<(), AllocError> {
     for (text, want) in cases {
         expect_told(rt, alloc, text.as_bytes(), want)?;
@@ -347,6 +342,7 @@ fn games(rt: HostRuntime) -> Result<(), Fail> {
     Ok(())
 }
 
+/// This byte so often, and these behind it.
 fn repeated(alloc: Global, byte: u8, count: usize, behind: &[u8]) -> Result<Vec<u8>, AllocError> {
     let mut text = vec![in alloc; byte; count]?;
     text.extend_from_slice(behind)?;
@@ -374,6 +370,31 @@ fn too_many_games(rt: HostRuntime) -> Result<(), Fail> {
     for (behind, want) in &cases {
         let text = repeated(rt.alloc(), b'*', 4096, behind.as_bytes())?;
         expect_told(&rt, rt.alloc(), text.as_slice(), want)?;
+    }
+    Ok(())
+}
+
+#[test]
+fn refusals_name_their_data(rt: HostRuntime) -> Result<(), Fail> {
+    for (refusal, want) in &[
+        (
+            PdnRefusal::BadByte(7),
+            "byte 7 begins nothing that may stand there",
+        ),
+        (PdnRefusal::OpenTag(7), "no tag stands at byte 7"),
+        (
+            PdnRefusal::OpenComment(7),
+            "the comment at byte 7 is not closed",
+        ),
+        (
+            PdnRefusal::OpenVariation(7),
+            "the variation at byte 7 is not closed",
+        ),
+        (PdnRefusal::BadMove(7), "the word at byte 7 is no move"),
+        (PdnRefusal::TooManyGames, "more than 4,096 games"),
+        (PdnRefusal::Memory(AllocError), "out of memory"),
+    ] {
+        assert_eq!(rt; format!(in rt.alloc(); "{refusal}")?.as_str(), *want);
     }
     Ok(())
 }

@@ -16,7 +16,8 @@ pub(crate) fn variation_end(rest: &[u8]) -> Result<usize, Unclosed>
     ensures value { result ≡ variation_end 0 None 0 rest.now }
     ensures onward { IfOk result (λ end. 0 < end) }
     ensures inside { IfOk result (λ end. end ≤ length rest.now) }
-    ensures comment { (place : ℕ) → result ≡ Err (Unclosed.Comment place) → place < length rest.now }
+    ensures comment { (place : ℕ) → result ≡ Err (Unclosed.Comment place)
+        → place < length rest.now }
 {
     let mut depth = 0_usize;
     let mut comment = None;

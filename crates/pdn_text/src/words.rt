@@ -2,7 +2,7 @@
 ghost use Rattle.std.specs.Prelude.{◌≡◌, false, IfSome, IfNone};
 ghost use Rattle.std.specs.List.{AllPass};
 ghost use Rattle.draughts_board.specs.Geometry.{IsSquare, is_square};
-ghost use Rattle.pdn_text.specs.Bytes.{is_digit};
+ghost use Rattle.std.specs.Char.{is_ascii_digit};
 ghost use Rattle.pdn_text.specs.Words.{is_result, is_number, word_of, move_of, path_of, is_crossed, is_dashed, number};
 
 use crate::runs::digits_len;
@@ -104,7 +104,7 @@ fn path_of(word: &[u8]) -> Option<Move>
 
 /// The square that one or two digits stand for.
 fn square_of(field: &[u8]) -> Option<Square>
-    requires { AllPass is_digit field.now }
+    requires { AllPass is_ascii_digit field.now }
     ensures some { IfSome result (λ s. (s ≡ number field.now) × IsSquare s) }
     ensures none { IfNone result (is_square (number field.now) ≡ false) }
 {

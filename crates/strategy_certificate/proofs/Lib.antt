@@ -1,4 +1,5 @@
 pub mod Tables
+pub mod TableRanks
 pub mod PartLemmas
 pub mod MergeLemmas
 pub mod GoodMerges

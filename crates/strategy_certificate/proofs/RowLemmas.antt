@@ -1,6 +1,6 @@
 -- What a look-up says of the entries, and what each row of a part keeps.
-use Rattle.std.proofs.Common.{◌≡◌, ℕ, ◌↔◌, List, [], ◌∷◌, ◌++◌, refl, sym, ◌∙◌, Option, Some, None, map}
-use Rattle.std.specs.Prelude.{Contains, All, IfSome, IsNone, is_none}
+use Rattle.std.proofs.Common.{◌≡◌, ℕ, ◌↔◌, List, [], ◌∷◌, ◌++◌, refl, sym, ◌∙◌, Option, Some, None, Bool, true, false, cond, map}
+use Rattle.std.specs.Prelude.{Contains, All, IfSome, IsNone, MatchBool, is_none}
 use Rattle.std.proofs.lemmas.List.Elements.{All-weaker, All-append, All-map, All-filter, All-nil, All-cons}
 use Rattle.std.proofs.lemmas.Map.Entries.{All-lookup}
 use Rattle.std.proofs.lemmas.Map.Views.{Contains-from_lookup, lookup-from_Contains}
@@ -33,6 +33,19 @@ module _ {E : Type 0} (rows : List (Board × E)) (p : Board) where
       by None is = (λ _. absent-from_none distinct is, λ _. refl)
       by (Some e) is = (λ none. cc, λ absent. absurd (absent (e, Contains-from_lookup equal_boards p e rows is)))
 
+  -- whether nothing stands there, as a test
+  pub tells_new : HasDistinctPositions rows → MatchBool (is_none (entry_of rows p)) (¬ HasEntry rows p) (HasEntry rows p)
+  tells_new distinct = by (entry_of rows p) refl
+    where
+      by : (o : Option E) → entry_of rows p ≡ o → MatchBool (is_none o) (¬ HasEntry rows p) (HasEntry rows p)
+      by None is = absent-from_none distinct is
+      by (Some e) is = (e, Contains-from_lookup equal_boards p e rows is)
+
+-- where nothing stands the test says so
+pub told_new : {X : Type 0} (b : Bool) → MatchBool b (¬ X) X → ¬ X → b ≡ true
+told_new true tells absent = refl
+told_new false tells absent = absurd (absent tells)
+
 -- ---- rows
 
 pub entry_of-in_range : (rows : List (Board × WinEntry)) (p : Board) → All IsWinRow rows → IfSome (entry_of rows p) IsInRange
@@ -58,5 +71,9 @@ All-merged_holds into from all more =
 pub All-hold_of : (rows : List (Board × WinEntry)) → All IsWinRow rows → All IsHoldRow (map without_rank rows)
 All-hold_of rows all = All-map IsHoldRow without_rank rows (All-weaker IsWinRow (λ row. IsHoldRow (without_rank row)) (λ row keeps. (keeps.0, keeps.1.1)) rows all)
 
-pub All-push : {X : Type 0} (P : X → Type 0) (xs : List X) (x : X) → All P xs → P x → All P (xs ++ x ∷ [])
+All-push : {X : Type 0} (P : X → Type 0) (xs : List X) (x : X) → All P xs → P x → All P (xs ++ x ∷ [])
 All-push P xs x all here = All-append P xs (x ∷ []) all (All-cons P x [] here (All-nil P))
+
+pub All-added : {X : Type 0} (P : X → Type 0) (xs : List X) (x : X) (b : Bool) → All P xs → P x → All P (cond b (xs ++ x ∷ []) xs)
+All-added P xs x true all here = All-push P xs x all here
+All-added P xs x false all here = all

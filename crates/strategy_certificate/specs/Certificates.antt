@@ -1,4 +1,5 @@
--- When a certificate is good: local conditions on its parts, and what the table shows at their edges.
+-- When a certificate is good: local conditions on its parts, and what the table shows at their
+-- edges.
 use Rattle.std.specs.Prelude.{◌≡◌, ℕ, ◌<◌, ◌⊎◌, List, [], ◌∷◌, Contains, All, map, Option, Some, None}
 use Rattle.draughts_board.specs.Board.{Board, IsLawful, other}
 use Rattle.draughts_board.specs.Rules.{IsLegal, after}
@@ -25,7 +26,8 @@ abbrev pub HasDueMove : Side → Board → Option (List ℕ) → Type 0
 HasDueMove s p (Some path) = (p.to_move ≡ s) × IsLegal p path
 HasDueMove s p None = p.to_move ≡ other s
 
--- the positions at which the strategy has to go on: that after the chosen move, or else every successor
+-- the positions at which the strategy has to go on: that after the chosen move, or else every
+-- successor
 abbrev pub due_positions : Board → Option (List ℕ) → List Board
 due_positions p (Some path) = after p path ∷ []
 due_positions p None = successors_of p
@@ -45,7 +47,8 @@ abbrev pub IsReachedBelow : WinList → (Board → Option Answer) → ℕ → Bo
 IsReachedBelow part answer r q = (m : ℕ) × ((m < r) × IsReached part answer m q)
 
 -- the entry is of a position, has its due move, and each due position has a rank below its own
-pub record IsGoodWinEntry (part : WinList) (answer : Board → Option Answer) (p : Board) (e : WinEntry) : Type 0 where
+pub record IsGoodWinEntry (part : WinList) (answer : Board → Option Answer) (p : Board)
+    (e : WinEntry) : Type 0 where
   pub lawful : IsLawful p
   pub move : HasDueMove part.side p e.chosen
   pub below : All (IsReachedBelow part answer e.rank) (due_positions p e.chosen)
@@ -60,7 +63,8 @@ abbrev pub IsHeld : HoldList → (Board → Option Answer) → Board → Type 0
 IsHeld part answer q = HasEntry part.entries q ⊎ TableHolds draughts answer part.side q
 
 -- the entry is of a position, has its due move, and each due position is held
-pub record IsGoodHoldEntry (part : HoldList) (answer : Board → Option Answer) (p : Board) (chosen : Option (List ℕ)) : Type 0 where
+pub record IsGoodHoldEntry (part : HoldList) (answer : Board → Option Answer) (p : Board)
+    (chosen : Option (List ℕ)) : Type 0 where
   pub lawful : IsLawful p
   pub move : HasDueMove part.side p chosen
   pub held : All (IsHeld part answer) (due_positions p chosen)
@@ -102,7 +106,8 @@ pub record IsGoodBy (answer : Board → Option Answer) (c : Certificate) : Type 
 
 -- good by the sound table of its number of pieces
 abbrev pub IsGood : Certificate → Type 0
-IsGood c = (answer : Board → Option Answer) × (IsSoundTable draughts c.pieces answer × IsGoodBy answer c)
+IsGood c =
+    (answer : Board → Option Answer) × (IsSoundTable draughts c.pieces answer × IsGoodBy answer c)
 
 -- ---- what a claim says
 

@@ -1,9 +1,11 @@
--- What sound tables and good certificates promise, each law the contract of a function of `src/laws.rt`.
-use Rattle.std.specs.Prelude.{◌≡◌, ◌≤◌, ℕ, Option}
+-- What sound tables and good certificates promise, each law the contract of a function of
+-- `src/laws.rt`.
+use Rattle.std.specs.Prelude.{◌≡◌, ◌≤◌, ◌<◌, ℕ, Option}
 use Rattle.draughts_board.specs.Board.{Board}
 use Rattle.draughts_board.specs.Draughts.{draughts}
 use Rattle.draughts_board.specs.Game.{Game, WinsIn, Holds}
 use Rattle.draughts_board.specs.declared.pieces.Side.{Side}
+use Rattle.strategy_certificate.specs.declared.oracle.TheConstants.{TABLE_POSITIONS}
 use Rattle.strategy_certificate.specs.declared.oracle.Answer.{Answer}
 use Rattle.strategy_certificate.specs.declared.certificates.Certificate.{Certificate}
 use Rattle.strategy_certificate.specs.Tables.{IsSoundTable, TableWins, TableHolds}
@@ -27,7 +29,15 @@ ShownHoldsAreTrue {P} game =
 -- There is one sound table for each number of pieces.
 abbrev pub OneSoundTable : {P : Type 0} → Game P → Type 0
 OneSoundTable {P} game =
-    (k : ℕ) (a b : P → Option Answer) → IsSoundTable game k a → IsSoundTable game k b → (p : P) → a p ≡ b p
+    (k : ℕ) (a b : P → Option Answer) → IsSoundTable game k a → IsSoundTable game k b → (p : P)
+    → a p ≡ b p
+
+-- In draughts each rank in a sound table of at most three pieces is below the number of its
+-- positions.
+abbrev pub TableRanksAreLow : Type 0
+TableRanksAreLow =
+    (k : ℕ) (answer : Board → Option Answer) → k ≤ 3 → IsSoundTable draughts k answer
+    → (s : Side) (r : ℕ) (p : Board) → TableWins draughts answer s r p → r < TABLE_POSITIONS
 
 -- ---- good certificates, in draughts
 
@@ -52,32 +62,38 @@ GoodCertificatesAreTrue = (c : Certificate) → IsGood c → IsTrueOf c.claim c.
 -- A good certificate is good by whichever sound table of its number of pieces is asked.
 abbrev pub GoodByEachTable : Type 0
 GoodByEachTable =
-    (c : Certificate) (answer : Board → Option Answer) → IsSoundTable draughts c.pieces answer → IsGood c → IsGoodBy answer c
+    (c : Certificate) (answer : Board → Option Answer) → IsSoundTable draughts c.pieces answer
+    → IsGood c → IsGoodBy answer c
 
 -- ---- merging
 
 -- what the one part reaches, the other reaches too, with a rank that is no greater
 abbrev pub ReachesNoLater : (Board → Option Answer) → WinList → WinList → Type 0
 ReachesNoLater answer part other =
-    (r : ℕ) (p : Board) → IsReached part answer r p → (m : ℕ) × ((m ≤ r) × IsReached other answer m p)
+    (r : ℕ) (p : Board) → IsReached part answer r p
+    → (m : ℕ) × ((m ≤ r) × IsReached other answer m p)
 
 -- what the one part holds, the other holds too
 abbrev pub HoldsAsMuch : (Board → Option Answer) → HoldList → HoldList → Type 0
 HoldsAsMuch answer part other = (p : Board) → IsHeld part answer p → IsHeld other answer p
 
 abbrev pub merged_win_list : WinList → WinList → WinList
-merged_win_list into from = record { side = into.side; entries = merged_wins into.entries from.entries }
+merged_win_list into from =
+    record { side = into.side; entries = merged_wins into.entries from.entries }
 
 abbrev pub merged_hold_list : HoldList → HoldList → HoldList
-merged_hold_list into from = record { side = into.side; entries = merged_holds into.entries from.entries }
+merged_hold_list into from =
+    record { side = into.side; entries = merged_holds into.entries from.entries }
 
 -- Of good win parts of one side a good part comes out, which reaches what each of them reached.
 abbrev pub MergedWinsAreGood : Type 0
 MergedWinsAreGood =
-    (answer : Board → Option Answer) (into from : WinList) → into.side ≡ from.side → HasDistinctPositions from.entries
+    (answer : Board → Option Answer) (into from : WinList) → into.side ≡ from.side
+    → HasDistinctPositions from.entries
     → IsGoodWinPart into answer → IsGoodWinPart from answer
     → IsGoodWinPart (merged_win_list into from) answer
-    × (ReachesNoLater answer into (merged_win_list into from) × ReachesNoLater answer from (merged_win_list into from))
+    × (ReachesNoLater answer into (merged_win_list into from)
+    × ReachesNoLater answer from (merged_win_list into from))
 
 -- Of good hold parts of one side a good part comes out, which holds what each of them held.
 abbrev pub MergedHoldsAreGood : Type 0
@@ -85,7 +101,8 @@ MergedHoldsAreGood =
     (answer : Board → Option Answer) (into from : HoldList) → into.side ≡ from.side
     → IsGoodHoldPart into answer → IsGoodHoldPart from answer
     → IsGoodHoldPart (merged_hold_list into from) answer
-    × (HoldsAsMuch answer into (merged_hold_list into from) × HoldsAsMuch answer from (merged_hold_list into from))
+    × (HoldsAsMuch answer into (merged_hold_list into from)
+    × HoldsAsMuch answer from (merged_hold_list into from))
 
 -- A good win part without its ranks is a good hold part, and it holds what was reached.
 abbrev pub GoodWinsHold : Type 0

@@ -3,3 +3,4 @@ pub mod Parts
 pub mod Certificates
 pub mod Laws
 pub mod Examples
+pub mod Claims

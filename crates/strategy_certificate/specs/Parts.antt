@@ -1,11 +1,13 @@
--- The parts of a certificate as contracts see them, each a side and a list of entries, and how parts are merged.
-use Rattle.std.specs.Prelude.{ℕ, ◌≤◌, ◌^◌, List, ◌++◌, Contains, All, length, map, filter, Option, IfSome, is_none, nat_lt, if◌then◌else◌}
+-- The parts of a certificate as contracts see them, each a side and a list of entries, and how
+-- parts are merged.
+use Rattle.std.specs.Prelude.{ℕ, ◌≤◌, List, ◌++◌, Contains, All, length, map, filter, Option, IfSome, is_none, nat_lt, if◌then◌else◌}
 use Rattle.std.specs.List.{IsDistinct}
 use Rattle.std.specs.Map.{lookup}
 use Rattle.std.specs.Option.{option_map_or}
 use Rattle.draughts_board.specs.Geometry.{IsSquare}
 use Rattle.draughts_board.specs.Board.{Board, IsLawful, same_board}
 use Rattle.draughts_board.specs.declared.pieces.Side.{Side}
+use Rattle.strategy_certificate.specs.declared.entries.TheConstants.{MOST_RANK}
 use Rattle.strategy_certificate.specs.declared.entries.WinEntry.{WinEntry}
 
 -- a strategy by which the side wins: positions, each with a rank and the move chosen there
@@ -40,9 +42,9 @@ entry_of rows p = lookup (same_board p) rows
 abbrev pub IsPath : List ℕ → Type 0
 IsPath path = (2 ≤ length path) × (length path ≤ 13) × All IsSquare path
 
--- a rank of at most 2^62, and a path where a move is chosen
+-- a rank of at most MOST_RANK, and a path where a move is chosen
 abbrev pub IsInRange : WinEntry → Type 0
-IsInRange e = (e.rank ≤ 2 ^ 62) × IfSome e.chosen IsPath
+IsInRange e = (e.rank ≤ MOST_RANK) × IfSome e.chosen IsPath
 
 -- a position and an entry in range
 abbrev pub IsWinRow : Board × WinEntry → Type 0
@@ -74,12 +76,14 @@ improved from row = (row.0, option_map_or (smaller row.1) (entry_of from row.0) 
 abbrev pub new_rows : {E : Type 0} → List (Board × E) → List (Board × E) → List (Board × E)
 new_rows into from = filter (λ row. is_none (entry_of into row.0)) from
 
--- The rows that were there keep their places, each improved by those of `from`, and the new ones go last.
+-- The rows that were there keep their places, each improved by those of `from`, and the new ones go
+-- last.
 abbrev pub merged_wins : List (Board × WinEntry) → List (Board × WinEntry) → List (Board × WinEntry)
 merged_wins into from = map (improved from) into ++ new_rows into from
 
 -- The rows that were there stay, and the new ones go last.
-abbrev pub merged_holds : List (Board × Option (List ℕ)) → List (Board × Option (List ℕ)) → List (Board × Option (List ℕ))
+abbrev pub merged_holds : List (Board × Option (List ℕ)) → List (Board × Option (List ℕ))
+    → List (Board × Option (List ℕ))
 merged_holds into from = into ++ new_rows into from
 
 abbrev pub without_rank : Board × WinEntry → Board × Option (List ℕ)

@@ -1,9 +1,9 @@
 //! Certificates: a position, a claim, and the strategies that show it.
 use crate::claims::Claim;
 use crate::hold_parts::HoldPart;
+use crate::lists::ItemList;
 use crate::win_parts::WinPart;
 use draughts_board::Position;
-use std::marker::Model;
 
 /// One strategy of a certificate.
 #[derive(Drop)]
@@ -30,44 +30,7 @@ impl Part {
 }
 
 /// The parts of a certificate, in order.
-#[derive(Drop)]
-pub struct PartList {
-    parts: Vec<Part>,
-}
-
-impl Model for PartList {
-    ghost use Rattle.std.specs.Prelude.{List};
-    ghost use Rattle.strategy_certificate.specs.declared.certificates.Part.{Part};
-
-    ghost Value = { List Part };
-
-    ghost view = { λ l. l.parts.items };
-}
-
-impl PartList {
-    ghost use Rattle.std.specs.Prelude.{◌≡◌};
-
-    /// The parts of this `Vec`. No memory is taken.
-    pub fn from_vec(parts: Vec<Part>) -> PartList
-        ensures { result ≡ parts.items }
-    {
-        PartList { parts }
-    }
-
-    /// The `Vec`, given back. No memory is taken.
-    pub fn into_vec(self) -> Vec<Part>
-        ensures { result.items ≡ self }
-    {
-        self.parts
-    }
-
-    /// The parts, in order.
-    pub fn as_slice(&self) -> &[Part]
-        ensures { result.now ≡ self.now }
-    {
-        self.parts.as_slice()
-    }
-}
+pub type PartList = ItemList<Part>;
 
 /// A claim about a position, and what is to show it.
 ///

@@ -1,10 +1,17 @@
 //! One entry of a strategy.
 use draughts_board::{Move, Position};
 
+/// The greatest rank of an entry in a win part.
+pub const MOST_RANK: u64 = 1 << 62;
+
+/// The greatest rank of an entry in a strategy that a search gives and a journal keeps, so that a strategy that is
+/// joined from many of them has room above.
+pub const MOST_FOUND_RANK: u64 = 1 << 40;
+
 /// What a winning strategy says of one of its positions.
 #[derive(Clone, Copy, PartialEq, Eq, Debug)]
 pub struct WinEntry {
-    /// A bound on the plies to the win, at most 2^62 in a part.
+    /// A bound on the plies to the win, at most [`MOST_RANK`] in a part.
     pub rank: u64,
     /// The move of the side, where it is its turn.
     pub chosen: Option<Move>,

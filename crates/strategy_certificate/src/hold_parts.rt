@@ -1,6 +1,7 @@
 //! Strategies by which a side never loses.
 use crate::entries::note_rules;
 use crate::merging::add_all_new;
+use crate::rows::{add_new_row, find_row, row_at};
 use draughts_board::{Move, Position, Side};
 use indexmap::IndexMap;
 use std::alloc::{AllocError, Global};
@@ -23,11 +24,14 @@ impl Model for HoldPart {
 
     ghost view = { λ part. record { side = part.side; entries = part.entries.entries } };
 
-    ghost invariant = { λ part. IsHoldList (record { side = part.side; entries = part.entries.entries }) };
+    ghost invariant = { λ part. IsHoldList (record {
+      side = part.side;
+      entries = part.entries.entries;
+    }) };
 }
 
 impl HoldPart {
-    ghost use Rattle.std.specs.Prelude.{◌≡◌, ◌∷◌, [], ◌++◌, ◌<◌, ◌↔◌, ◌==◌, ℕ, List, Option, Contains, slice_get, length, IfOk, IsNone, OnOk, OnErr};
+    ghost use Rattle.std.specs.Prelude.{◌≡◌, ◌∷◌, [], ◌++◌, ◌<◌, ◌↔◌, ◌==◌, ℕ, List, Option, Contains, slice_get, length, take, IfOk, IsNone, MatchBool, OnOk, OnErr, if◌then◌else◌};
     ghost use Rattle.strategy_certificate.specs.Parts.{HasEntry, IsHoldList, IsHoldRow};
 
     /// A part of this side without entries.
@@ -77,29 +81,53 @@ impl HoldPart {
         ensures value { slice_get self.now.entries i ≡ Some result }
         ensures valid { IsHoldRow result }
     {
-        let Some((p, chosen)) = self.entries.get_index(i) else {
-            unreachable!()
-        };
-        (*p, *chosen)
+        row_at(&self.entries, i)
     }
 
     /// What is chosen at this position; none exactly where it has no entry.
     pub fn find(&self, p: &Position) -> Option<Option<Move>>
-        ensures found { (chosen : Option (List ℕ)) → (result ≡ Some chosen) ↔ Contains self.now.entries (p.now, chosen) }
+        ensures found { (chosen : Option (List ℕ))
+            → (result ≡ Some chosen) ↔ Contains self.now.entries (p.now, chosen) }
         ensures none { IsNone result ↔ (¬ HasEntry self.now.entries p.now) }
     {
-        self.entries.get(p).copied()
+        find_row(&self.entries, p)
+    }
+
+    /// Adds an entry behind the others, unless the position has one; tells whether it had none. The position is
+    /// hashed once.
+    ///
+    /// After want of memory the part is as it was.
+    pub fn add_new(&mut self, p: Position, chosen: Option<Move>) -> Result<bool, AllocError>
+        ensures tells { IfOk result (λ added.
+            MatchBool added (¬ HasEntry self.old.entries p) (HasEntry self.old.entries p)) }
+        ensures entries { IfOk result (λ added. self.new ≡ record self.old {
+          entries =
+              (if added then self.old.entries ++ (p, chosen) ∷ [] else self.old.entries);
+        }) }
+        ensures err { OnErr result (self.new ≡ self.old) }
+        ensures valid { IsHoldList self.new }
+    {
+        note_rules(&p, &chosen);
+        let added = add_new_row(&mut self.entries, p, chosen)?;
+        Ok(added)
     }
 
     /// Adds an entry behind the others. After want of memory the part is as it was.
     pub fn add(&mut self, p: Position, chosen: Option<Move>) -> Result<(), AllocError>
         requires absent { ¬ HasEntry self.old.entries p }
-        ensures ok { OnOk result (self.new ≡ record self.old { entries = self.old.entries ++ (p, chosen) ∷ [] }) }
+        ensures ok { OnOk result (self.new
+            ≡ record self.old { entries = self.old.entries ++ (p, chosen) ∷ [] }) }
         ensures err { OnErr result (self.new ≡ self.old) }
     {
-        note_rules(&p, &chosen);
-        self.entries.insert(p, chosen)?;
+        self.add_new(p, chosen)?;
         Ok(())
+    }
+
+    /// Keeps the first `count` entries and takes back those behind them. Where there are no more, nothing changes.
+    pub fn truncate(&mut self, count: usize)
+        ensures { self.new ≡ record self.old { entries = take count self.old.entries } }
+    {
+        self.entries.truncate(count);
     }
 }
 
@@ -112,7 +140,8 @@ ghost use Rattle.strategy_certificate.specs.Parts.{merged_holds};
 /// After want of memory the part is as it was.
 pub fn merge_holds(_alloc: Global, into: &mut HoldPart, from: &HoldPart) -> Result<(), AllocError>
     requires { into.old.side ≡ from.now.side }
-    ensures ok { OnOk result (into.new ≡ record into.old { entries = merged_holds into.old.entries from.now.entries }) }
+    ensures ok { OnOk result (into.new
+        ≡ record into.old { entries = merged_holds into.old.entries from.now.entries }) }
     ensures err { OnErr result (into.new ≡ into.old) }
 {
     into.entries.reserve(from.entries.len())?;

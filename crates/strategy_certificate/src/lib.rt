@@ -7,15 +7,20 @@ mod entries;
 pub mod examples;
 mod hold_parts;
 pub mod laws;
+mod lists;
 mod merging;
 mod oracle;
+mod rows;
+mod shown;
 #[cfg(test)]
 mod tests;
 mod win_parts;
 
 pub use certificates::{Certificate, Part, PartList};
 pub use claims::Claim;
-pub use entries::WinEntry;
+pub use entries::{MOST_FOUND_RANK, MOST_RANK, WinEntry};
 pub use hold_parts::{HoldPart, merge_holds};
-pub use oracle::{Answer, Oracle};
+pub use lists::ItemList;
+pub use oracle::{Answer, Oracle, TABLE_POSITIONS};
+pub use shown::{is_held, table_holds, table_rank};
 pub use win_parts::{WinPart, as_hold, merge_wins};

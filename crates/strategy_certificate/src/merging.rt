@@ -4,6 +4,7 @@ ghost use Rattle.indexmap.specs.IndexMap.{spare};
 ghost use Rattle.strategy_certificate.specs.Parts.{HasDistinctPositions, merged_wins, merged_holds, without_rank};
 
 use crate::entries::WinEntry;
+use crate::rows::add_new_row;
 use draughts_board::{Move, Position};
 use indexmap::IndexMap;
 use std::alloc::{AllocError, Global};
@@ -42,23 +43,7 @@ pub(crate) fn improve_all(
     }
 }
 
-/// Takes over the entry where its position has none yet. There is room for it.
-fn add_new(into: &mut IndexMap<Position, Option<Move>>, p: &Position, chosen: &Option<Move>)
-    requires room { 0 < spare into.old }
-    requires distinct { HasDistinctPositions into.old.entries }
-    ensures entries { into.new.entries ≡ merged_holds into.old.entries ((p.now, chosen.now) ∷ []) }
-    ensures distinct { HasDistinctPositions into.new.entries }
-    ensures room { spare into.old ≤ spare into.new + 1 }
-{
-    if into.get(p).is_some() {
-        return;
-    }
-    let Ok(_) = into.insert(*p, *chosen) else {
-        unreachable!()
-    };
-}
-
-/// Takes over each entry of `from` so, in order. There is room for all of them.
+/// Takes over each entry of `from` whose position has none yet, in order. There is room for all of them.
 pub(crate) fn add_all_new(
     into: &mut IndexMap<Position, Option<Move>>,
     from: &IndexMap<Position, Option<Move>>,
@@ -69,7 +54,9 @@ pub(crate) fn add_all_new(
     ensures distinct { HasDistinctPositions into.new.entries }
 {
     for (p, chosen) in from.iter() {
-        add_new(into, p, chosen);
+        let Ok(_) = add_new_row(into, *p, *chosen) else {
+            unreachable!()
+        };
     }
 }
 

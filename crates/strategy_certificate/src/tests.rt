@@ -106,7 +106,7 @@ fn adds_and_finds_wins(rt: HostRuntime) -> Result<(), Fail> {
     let (won, blocked) = (won()?, blocked()?);
     let empty = WinPart::new(rt.alloc(), Side::Black)?;
     assert!(rt; empty.is_empty() && empty.side() == Side::Black && empty.find(&won).is_none());
-    let part = win_in_one(rt.alloc(), won, blocked)?;
+    let mut part = win_in_one(rt.alloc(), won, blocked)?;
     assert!(rt; is_win_in_one(&part, &won, &blocked) && !part.is_empty());
     assert_eq!(rt;
         part.find(&won),
@@ -123,6 +123,10 @@ fn adds_and_finds_wins(rt: HostRuntime) -> Result<(), Fail> {
         })
     );
     assert_eq!(rt; part.find(&Position::start()), None);
+    part.truncate(2);
+    assert!(rt; is_win_in_one(&part, &won, &blocked));
+    part.truncate(1);
+    assert!(rt; part.len() == 1 && part.find(&won).is_some() && part.find(&blocked).is_none());
     Ok(())
 }
 
@@ -131,14 +135,16 @@ fn adds_and_finds_holds(rt: HostRuntime) -> Result<(), Fail> {
     let (won, blocked) = (won()?, blocked()?);
     let mut part = HoldPart::new(rt.alloc(), Side::White)?;
     assert!(rt; part.is_empty() && part.find(&won).is_none());
-    part.add(won, step(23, 19))?;
-    if part.find(&blocked).is_none() {
-        part.add(blocked, None)?;
-    }
+    assert!(rt; part.add_new(won, step(23, 19))? && !part.add_new(won, None)?);
+    assert!(rt; part.add_new(blocked, None)? && !part.add_new(blocked, step(16, 11))?);
     assert!(rt; is_its_hold(&part, &won, &blocked) && !part.is_empty());
     assert_eq!(rt; part.find(&won), Some(step(23, 19)));
     assert_eq!(rt; part.find(&blocked), Some(None));
     assert_eq!(rt; part.find(&Position::start()), None);
+    part.truncate(7);
+    assert!(rt; is_its_hold(&part, &won, &blocked));
+    part.truncate(1);
+    assert!(rt; part.len() == 1 && part.find(&won).is_some() && part.find(&blocked).is_none());
     Ok(())
 }
 

@@ -1,7 +1,8 @@
 //! Strategies by which a side wins.
-use crate::entries::{WinEntry, note_rules};
+use crate::entries::{MOST_RANK, WinEntry, note_rules};
 use crate::hold_parts::HoldPart;
 use crate::merging::{improve_all, without_ranks};
+use crate::rows::{add_new_row, find_row, row_at};
 use draughts_board::{Position, Side};
 use indexmap::IndexMap;
 use std::alloc::{AllocError, Global};
@@ -10,7 +11,7 @@ use std::marker::Model;
 /// Positions in which a side wins, each with a rank and, where the side is to move, its move.
 ///
 /// A contract sees the side and the list of entries in the order in which they came. No position stands twice, and
-/// no rank is above 2^62. An entry is looked up, not searched for.
+/// no rank is above [`MOST_RANK`]. An entry is looked up, not searched for.
 #[derive(Drop)]
 pub struct WinPart {
     side: Side,
@@ -24,11 +25,14 @@ impl Model for WinPart {
 
     ghost view = { λ part. record { side = part.side; entries = part.entries.entries } };
 
-    ghost invariant = { λ part. IsWinList (record { side = part.side; entries = part.entries.entries }) };
+    ghost invariant = { λ part. IsWinList (record {
+      side = part.side;
+      entries = part.entries.entries;
+    }) };
 }
 
 impl WinPart {
-    ghost use Rattle.std.specs.Prelude.{◌≡◌, ◌∷◌, [], ◌++◌, ◌≤◌, ◌<◌, ◌^◌, ◌↔◌, ◌==◌, ℕ, Option, Contains, slice_get, length, IfOk, IfSome, IsNone, OnOk, OnErr};
+    ghost use Rattle.std.specs.Prelude.{◌≡◌, ◌∷◌, [], ◌++◌, ◌≤◌, ◌<◌, ◌↔◌, ◌==◌, ℕ, Option, Contains, slice_get, length, take, IfOk, IfSome, IsNone, MatchBool, OnOk, OnErr, if◌then◌else◌};
     ghost use Rattle.draughts_board.specs.Board.{IsLawful};
     ghost use Rattle.strategy_certificate.specs.Parts.{HasEntry, IsInRange, IsWinList, IsWinRow};
     ghost use Rattle.strategy_certificate.specs.declared.entries.WinEntry.{WinEntry};
@@ -72,10 +76,7 @@ impl WinPart {
         ensures value { slice_get self.now.entries i ≡ Some result }
         ensures valid { IsWinRow result }
     {
-        let Some((p, e)) = self.entries.get_index(i) else {
-            unreachable!()
-        };
-        (*p, *e)
+        row_at(&self.entries, i)
     }
 
     /// The entry of this position; none exactly where it has none.
@@ -84,19 +85,46 @@ impl WinPart {
         ensures none { IsNone result ↔ (¬ HasEntry self.now.entries p.now) }
         ensures valid { IfSome result IsInRange }
     {
-        self.entries.get(p).copied()
+        find_row(&self.entries, p)
+    }
+
+    /// Adds an entry behind the others, unless the position has one; tells whether it had none. The position is
+    /// hashed once.
+    ///
+    /// After want of memory the part is as it was.
+    pub fn add_new(&mut self, p: Position, e: WinEntry) -> Result<bool, AllocError>
+        requires rank { e.rank ≤ MOST_RANK }
+        ensures tells { IfOk result (λ added.
+            MatchBool added (¬ HasEntry self.old.entries p) (HasEntry self.old.entries p)) }
+        ensures entries { IfOk result (λ added. self.new ≡ record self.old {
+          entries =
+              (if added then self.old.entries ++ (p, e) ∷ [] else self.old.entries);
+        }) }
+        ensures err { OnErr result (self.new ≡ self.old) }
+        ensures valid { IsWinList self.new }
+    {
+        note_rules(&p, &e.chosen);
+        let added = add_new_row(&mut self.entries, p, e)?;
+        Ok(added)
     }
 
     /// Adds an entry behind the others. After want of memory the part is as it was.
     pub fn add(&mut self, p: Position, e: WinEntry) -> Result<(), AllocError>
         requires absent { ¬ HasEntry self.old.entries p }
-        requires rank { e.rank ≤ 2 ^ 62 }
-        ensures ok { OnOk result (self.new ≡ record self.old { entries = self.old.entries ++ (p, e) ∷ [] }) }
+        requires rank { e.rank ≤ MOST_RANK }
+        ensures ok { OnOk result (self.new
+            ≡ record self.old { entries = self.old.entries ++ (p, e) ∷ [] }) }
         ensures err { OnErr result (self.new ≡ self.old) }
     {
-        note_rules(&p, &e.chosen);
-        self.entries.insert(p, e)?;
+        self.add_new(p, e)?;
         Ok(())
+    }
+
+    /// Keeps the first `count` entries and takes back those behind them. Where there are no more, nothing changes.
+    pub fn truncate(&mut self, count: usize)
+        ensures { self.new ≡ record self.old { entries = take count self.old.entries } }
+    {
+        self.entries.truncate(count);
     }
 }
 
@@ -109,7 +137,8 @@ ghost use Rattle.strategy_certificate.specs.Parts.{merged_wins, hold_of};
 /// After want of memory the part is as it was.
 pub fn merge_wins(_alloc: Global, into: &mut WinPart, from: &WinPart) -> Result<(), AllocError>
     requires { into.old.side ≡ from.now.side }
-    ensures ok { OnOk result (into.new ≡ record into.old { entries = merged_wins into.old.entries from.now.entries }) }
+    ensures ok { OnOk result (into.new
+        ≡ record into.old { entries = merged_wins into.old.entries from.now.entries }) }
     ensures err { OnErr result (into.new ≡ into.old) }
 {
     into.entries.reserve(from.entries.len())?;

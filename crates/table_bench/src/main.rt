@@ -5,7 +5,7 @@
 //! clock.
 #![tactic(auto)]
 
-ghost use Rattle.std.specs.Prelude.{◌≡◌, ◌⊎◌};
+ghost use Rattle.strategy_certificate.specs.Tables.{IsTableSize};
 
 mod measure;
 
@@ -51,7 +51,7 @@ fn count_answers(table: &Table) -> Tally {
 
 /// Fills a table, checks its bytes, and prints what it answers, counted.
 fn tell(rt: &(impl Print + Alloc<A = Global>), pieces: u8) -> Result<()>
-    requires { (pieces ≡ 2) ⊎ (pieces ≡ 3) }
+    requires { IsTableSize pieces }
 {
     let table = fill(rt.alloc(), pieces)?;
     let bytes = table_bytes(rt.alloc(), &table)?;

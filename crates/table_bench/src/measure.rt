@@ -1,5 +1,5 @@
 //! How long filling and checking a table take.
-ghost use Rattle.std.specs.Prelude.{◌≡◌, ◌⊎◌};
+ghost use Rattle.strategy_certificate.specs.Tables.{IsTableSize};
 
 use anyhow::Result;
 use endgame_table::{fill, table_bytes};
@@ -13,7 +13,7 @@ const RUNS: u32 = 5;
 
 /// Prints the best times of filling a table of so many pieces and of checking its bytes, in milliseconds.
 pub fn time(rt: &(impl Print + Clock + Alloc<A = Global>), pieces: u8) -> Result<()>
-    requires { (pieces ≡ 2) ⊎ (pieces ≡ 3) }
+    requires { IsTableSize pieces }
 {
     let mut filling = u128::MAX;
     let mut checking = u128::MAX;

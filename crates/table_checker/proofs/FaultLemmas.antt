@@ -3,9 +3,10 @@ use Rattle.std.proofs.Common.{◌≡◌, ◌≢◌, inl, inr, ℕ, List, length,
 use Rattle.std.specs.Prelude.{slice_index}
 use Rattle.std.proofs.lemmas.Bool.{cases_order}
 use Rattle.endgame_table.specs.Bytes.{bytes_of}
-use Rattle.endgame_table.specs.Entries.{IsTable}
+use Rattle.endgame_table.specs.Entries.{Entries, IsTable}
+use Rattle.table_checker.specs.declared.refusal.TableRefusal.{TableRefusal}
 use Rattle.table_checker.specs.declared.refusal.TableRefusal.TheVariants.{BadHead, WrongLength, BadEntry, Memory}
-use Rattle.table_checker.specs.Faults.{BeginsTable, HasForm, FailsFirst, due_length}
+use Rattle.table_checker.specs.Faults.{AreBytesOf, IsTableFault, BeginsTable, HasForm, FailsFirst, due_length}
 use Rattle.table_checker.specs.Laws.{FaultyBytesAreNoTable, OneFault, OneTableOfBytes}
 use Rattle.table_checker.proofs.ByteLemmas.{begins-form, length-form}
 use Rattle.table_checker.proofs.RankLemmas.{table-words}
@@ -37,25 +38,25 @@ first-one k numbers i j a b =
 -- ---- the laws
 
 pub one_fault : OneFault
-one_fault bytes (Memory e) b of_a of_b fa fb = absurd of_a
-one_fault bytes BadHead (Memory e) of_a of_b fa fb = absurd of_b
-one_fault bytes (WrongLength found due) (Memory e) of_a of_b fa fb = absurd of_b
-one_fault bytes (BadEntry index kept) (Memory e) of_a of_b fa fb = absurd of_b
-one_fault bytes BadHead BadHead of_a of_b fa fb = cc
-one_fault bytes BadHead (WrongLength found due) of_a of_b fa fb = absurd (fa fb.0 fb.1.0)
-one_fault bytes BadHead (BadEntry index kept) of_a of_b fa fb = absurd (fa fb.0 (begins-form fb.0 fb.1.0 bytes fb.1.1.0))
-one_fault bytes (WrongLength found due) BadHead of_a of_b fa fb = absurd (fb fa.0 fa.1.0)
-one_fault bytes (BadEntry index kept) BadHead of_a of_b fa fb = absurd (fb fa.0 (begins-form fa.0 fa.1.0 bytes fa.1.1.0))
-one_fault bytes (WrongLength found due) (WrongLength found' due') of_a of_b fa fb =
+one_fault bytes (Memory e) b fa fb = absurd fa
+one_fault bytes BadHead (Memory e) fa fb = absurd fb
+one_fault bytes (WrongLength found due) (Memory e) fa fb = absurd fb
+one_fault bytes (BadEntry index kept) (Memory e) fa fb = absurd fb
+one_fault bytes BadHead BadHead fa fb = cc
+one_fault bytes BadHead (WrongLength found due) fa fb = absurd (fa fb.0 fb.1.0)
+one_fault bytes BadHead (BadEntry index kept) fa fb = absurd (fa fb.0 (begins-form fb.0 fb.1.0 bytes fb.1.1.0))
+one_fault bytes (WrongLength found due) BadHead fa fb = absurd (fb fa.0 fa.1.0)
+one_fault bytes (BadEntry index kept) BadHead fa fb = absurd (fb fa.0 (begins-form fa.0 fa.1.0 bytes fa.1.1.0))
+one_fault bytes (WrongLength found due) (WrongLength found' due') fa fb =
     let pieces : fa.0 ≡ fb.0 = begins-one fa.0 fb.0 bytes fa.1.0 fb.1.0 in
     let lengths : found ≡ found' = fa.1.1.0 ∙ sym fb.1.1.0 in
     let dues : due ≡ due' = fa.1.1.1.0 ∙ ap due_length pieces ∙ sym fb.1.1.1.0 in
     cc
-one_fault bytes (WrongLength found due) (BadEntry index kept) of_a of_b fa fb =
+one_fault bytes (WrongLength found due) (BadEntry index kept) fa fb =
     absurd (no_form fa.0 fb.0 found due fb.1.0 bytes fa.1.0 fa.1.1.0 fa.1.1.1.0 fa.1.1.1.1 fb.1.1.0)
-one_fault bytes (BadEntry index kept) (WrongLength found due) of_a of_b fa fb =
+one_fault bytes (BadEntry index kept) (WrongLength found due) fa fb =
     absurd (no_form fb.0 fa.0 found due fa.1.0 bytes fb.1.0 fb.1.1.0 fb.1.1.1.0 fb.1.1.1.1 fa.1.1.0)
-one_fault bytes (BadEntry index kept) (BadEntry index' kept') of_a of_b fa fb =
+one_fault bytes (BadEntry index kept) (BadEntry index' kept') fa fb =
     let same = form-one fa.0 fb.0 fa.1.0 fb.1.0 bytes fa.1.1.0 fb.1.1.0 in
     let fails = subst (λ k. FailsFirst k fb.1.0 index) same.0 (subst (λ l. FailsFirst fa.0 l index) same.1 fa.1.1.1.0) in
     let indices : index ≡ index' = first-one fb.0 fb.1.0 index index' fails fb.1.1.1.0 in
@@ -67,15 +68,23 @@ form-table : (k : ℕ) (numbers bytes : List ℕ) → IsTable k numbers → byte
 form-table k numbers bytes table is = record { size = table.size; entries = table.entries; words = table-words k numbers table; written = is }
 
 pub faulty_bytes_are_no_table : FaultyBytesAreNoTable
-faulty_bytes_are_no_table bytes BadHead of fault k numbers table is = fault k (begins-form k numbers bytes (form-table k numbers bytes table is))
-faulty_bytes_are_no_table bytes (WrongLength found due) of fault k numbers table is =
+faulty_bytes_are_no_table bytes BadHead fault k numbers table is = fault k (begins-form k numbers bytes (form-table k numbers bytes table is))
+faulty_bytes_are_no_table bytes (WrongLength found due) fault k numbers table is =
     no_form fault.0 k found due numbers bytes fault.1.0 fault.1.1.0 fault.1.1.1.0 fault.1.1.1.1 (form-table k numbers bytes table is)
-faulty_bytes_are_no_table bytes (BadEntry index kept) of fault k numbers table is =
+faulty_bytes_are_no_table bytes (BadEntry index kept) fault k numbers table is =
     let form = form-table k numbers bytes table is in
     let same = form-one fault.0 k fault.1.0 numbers bytes fault.1.1.0 form in
     let fails = subst (λ k. FailsFirst k numbers index) same.0 (subst (λ l. FailsFirst fault.0 l index) same.1 fault.1.1.1.0) in
     fails.fails ((tables_fit_everywhere k numbers table.size table.entries).0 table index fails.below)
-faulty_bytes_are_no_table bytes (Memory e) of fault k numbers table is = of
+faulty_bytes_are_no_table bytes (Memory e) fault k numbers table is = absurd fault
 
 pub one_table_of_bytes : OneTableOfBytes
 one_table_of_bytes bytes j k a b ta tb is_a is_b = form-one j k a b bytes (form-table j a bytes ta is_a) (form-table k b bytes tb is_b)
+
+-- ---- the same of tables
+
+pub one_table : (bytes : List ℕ) (a b : Entries) → AreBytesOf bytes a → AreBytesOf bytes b → a ≡ b
+one_table bytes a b x y = let same = one_table_of_bytes bytes a.pieces b.pieces a.numbers b.numbers x.0 y.0 x.1 y.1 in λ i. record { pieces = same.0 i; numbers = same.1 i }
+
+pub table_or_fault : (bytes : List ℕ) (t : Entries) (fault : TableRefusal) → AreBytesOf bytes t → IsTableFault bytes fault → ⊥
+table_or_fault bytes t fault x wrong = faulty_bytes_are_no_table bytes fault wrong t.pieces t.numbers x.0 x.1

@@ -12,9 +12,9 @@ use Rattle.draughts_board.proofs.Successors.{is_lawful-true, lawful-from_test, d
 use Rattle.table_index.specs.Order.{entry_count, index_of, position_at}
 use Rattle.strategy_certificate.specs.declared.oracle.Answer.{Answer}
 use Rattle.strategy_certificate.specs.declared.oracle.Answer.TheVariants.{Win, Loss, Draw}
-use Rattle.strategy_certificate.specs.Tables.{IsRight}
+use Rattle.strategy_certificate.specs.Tables.{IsRight, IsTableSize}
 use Rattle.endgame_table.specs.Numbers.{answer_of, no_position}
-use Rattle.endgame_table.specs.Entries.{answers, FitsAt, IsTableSize}
+use Rattle.endgame_table.specs.Entries.{answers, FitsAt}
 use Rattle.table_checker.specs.Fitting.{FitsNext}
 use Rattle.table_checker.specs.Kept.{IsKept, kept_answer}
 use Rattle.table_index.proofs.OrderLemmas.{block_sizes, positions_have_indices}

@@ -1,8 +1,9 @@
 -- Why bytes are no endgame table.
-use Rattle.std.specs.Prelude.{◌≡◌, ◌≢◌, ℕ, ◌+◌, ◌*◌, ◌^◌, ◌<◌, List, length, take, All, slice_index}
+use Rattle.std.specs.Prelude.{◌≡◌, ◌≢◌, ℕ, ◌+◌, ◌*◌, ◌^◌, ◌<◌, Bool, true, false, List, length, take, All, slice_index}
 use Rattle.table_index.specs.Order.{entry_count}
 use Rattle.endgame_table.specs.Bytes.{head, bytes_of}
-use Rattle.endgame_table.specs.Entries.{FitsAt, IsTableSize}
+use Rattle.strategy_certificate.specs.Tables.{IsTableSize}
+use Rattle.endgame_table.specs.Entries.{Entries, FitsAt, IsTable}
 use Rattle.table_checker.specs.declared.refusal.TableRefusal.{TableRefusal}
 use Rattle.table_checker.specs.declared.refusal.TableRefusal.TheVariants.{BadHead, WrongLength, BadEntry, Memory}
 
@@ -15,7 +16,8 @@ pub record BeginsTable (k : ℕ) (bytes : List ℕ) : Type 0 where
 abbrev pub due_length : ℕ → ℕ
 due_length k = 8 + 4 * entry_count k
 
--- The bytes have the form of a table of k pieces: the head, and behind it a number of 4 bytes for each index.
+-- The bytes have the form of a table of k pieces: the head, and behind it a number of 4 bytes for
+-- each index.
 pub record HasForm (k : ℕ) (numbers : List ℕ) (bytes : List ℕ) : Type 0 where
   pub size : IsTableSize k
   pub entries : length numbers ≡ entry_count k
@@ -28,22 +30,27 @@ pub record FailsFirst (k : ℕ) (numbers : List ℕ) (index : ℕ) : Type 0 wher
   pub before : (i : ℕ) → i < index → FitsAt k numbers i
   pub fails : FitsAt k numbers index → ⊥
 
+-- memory ran out
+abbrev pub is_memory : TableRefusal → Bool
+is_memory (Memory e) = true
+is_memory other = false
+
+-- the bytes are those of this table
+abbrev pub AreBytesOf : List ℕ → Entries → Type 0
+AreBytesOf bytes t = IsTable t.pieces t.numbers × (bytes ≡ bytes_of t.pieces t.numbers)
+
 -- The bytes are refused for this.
 -- A bad head: they do not begin with the head of a table of 2 or of 3 pieces.
--- A wrong length: they begin with such a head, and their length is not that of a table of so many pieces.
--- A bad entry: they have the form of a table, and the rule of tables fails first at this index, where this number is kept.
--- Memory may be wanting for any bytes.
+-- A wrong length: they begin with such a head, and their length is not that of a table of so many
+-- pieces. A bad entry: they have the form of a table, and the rule of tables fails first at this
+-- index, where this number is kept. Want of memory is no fault of the bytes.
 abbrev pub IsTableFault : List ℕ → TableRefusal → Type 0
 IsTableFault bytes BadHead = (k : ℕ) → BeginsTable k bytes → ⊥
 IsTableFault bytes (WrongLength found due) =
-    (k : ℕ) × (BeginsTable k bytes × ((found ≡ length bytes) × ((due ≡ due_length k) × (found ≢ due))))
+    (k : ℕ) × (BeginsTable k bytes
+    × ((found ≡ length bytes) × ((due ≡ due_length k) × (found ≢ due))))
 IsTableFault bytes (BadEntry index kept) =
-    (k : ℕ) × ((numbers : List ℕ) × (HasForm k numbers bytes × (FailsFirst k numbers index × (kept ≡ slice_index numbers index))))
-IsTableFault bytes (Memory e) = Unit {0}
-
--- the refusal tells of the bytes, and not of memory
-abbrev pub IsOfBytes : TableRefusal → Type 0
-IsOfBytes BadHead = Unit {0}
-IsOfBytes (WrongLength found due) = Unit {0}
-IsOfBytes (BadEntry index kept) = Unit {0}
-IsOfBytes (Memory e) = ⊥
+    (k : ℕ) × ((numbers : List ℕ)
+    × (HasForm k numbers bytes
+    × (FailsFirst k numbers index × (kept ≡ slice_index numbers index))))
+IsTableFault bytes (Memory e) = ⊥

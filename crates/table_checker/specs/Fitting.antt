@@ -1,15 +1,17 @@
--- When an answer fits those at the next positions, as a rule on their list: nothing here is about draughts.
+-- When an answer fits those at the next positions, as a rule on their list: nothing here is about
+-- draughts.
 use Rattle.std.specs.Prelude.{◌≡◌, ◌⊎◌, ◌≤◌, ◌<◌, ℕ, suc, List, Contains, Option, Some, None, Bool, true, false, nat_lt}
 use Rattle.strategy_certificate.specs.declared.oracle.Answer.{Answer}
 use Rattle.strategy_certificate.specs.declared.oracle.Answer.TheVariants.{Win, Loss, Draw}
 
--- The answer fits those at the next positions, among which None stands for a number that is no answer.
--- A win of rank r: a loss of rank r - 1 is among them, and no loss of a lower rank.
--- A loss of rank r: each is a win of a rank below r, and r is 0 or a win of rank r - 1 is among them.
--- A draw: a draw is among them, and no loss.
+-- The answer fits those at the next positions, among which None stands for a number that is no
+-- answer. A win of rank r: a loss of rank r - 1 is among them, and no loss of a lower rank.
+-- A loss of rank r: each is a win of a rank below r, and r is 0 or a win of rank r - 1 is among
+-- them. A draw: a draw is among them, and no loss.
 abbrev pub FitsNext : List (Option Answer) → Answer → Type 0
 FitsNext next (Win r) =
-    (l : ℕ) × ((r ≡ suc l) × (Contains next (Some (Loss l)) × ((m : ℕ) → Contains next (Some (Loss m)) → l ≤ m)))
+    (l : ℕ) × ((r ≡ suc l)
+    × (Contains next (Some (Loss l)) × ((m : ℕ) → Contains next (Some (Loss m)) → l ≤ m)))
 FitsNext next (Loss r) =
     ((a : Option Answer) → Contains next a → (m : ℕ) × ((a ≡ Some (Win m)) × (m < r)))
     × ((r ≡ 0) ⊎ ((m : ℕ) × (Contains next (Some (Win m)) × (r ≡ suc m))))

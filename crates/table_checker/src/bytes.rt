@@ -8,7 +8,8 @@ use std::alloc::{AllocError, Global};
 
 /// For how many pieces the table is that begins with these bytes, 2 or 3; none where no table does.
 pub(crate) fn pieces_of_head(bytes: &[u8]) -> Option<u8>
-    ensures { MatchOption result ((k : ℕ) → BeginsTable k bytes.now → ⊥) (λ k. BeginsTable k bytes.now) }
+    ensures { MatchOption result ((k : ℕ) → BeginsTable k bytes.now → ⊥)
+        (λ k. BeginsTable k bytes.now) }
 {
     match bytes.strip_prefix(b"DRTABLE") {
         Some([pieces @ (2 | 3), ..]) => Some(*pieces),

@@ -2,7 +2,8 @@
 ghost use Rattle.std.specs.Prelude.{◌≡◌, ◌↔◌, ◌<◌, ℕ, All, IfOk, IsTrue, MatchOption, length, map};
 ghost use Rattle.draughts_board.specs.Play.{successors_of};
 ghost use Rattle.table_index.specs.Order.{entry_count};
-ghost use Rattle.endgame_table.specs.Entries.{FitsAt, IsTableSize};
+ghost use Rattle.endgame_table.specs.Entries.{FitsAt};
+ghost use Rattle.strategy_certificate.specs.Tables.{IsTableSize};
 ghost use Rattle.table_checker.specs.Faults.{FailsFirst};
 ghost use Rattle.table_checker.specs.Fitting.{FitsNext};
 ghost use Rattle.table_checker.specs.Kept.{IsKept, kept_answer};
@@ -39,7 +40,8 @@ fn fits_position(
     answer: Answer,
 ) -> Result<bool, AllocError>
     requires { All (IsKept numbers.now) (successors_of p.now) }
-    ensures { IfOk result (λ fits. IsTrue fits ↔ FitsNext (map (kept_answer numbers.now) (successors_of p.now)) answer) }
+    ensures { IfOk result (λ fits. IsTrue fits
+        ↔ FitsNext (map (kept_answer numbers.now) (successors_of p.now)) answer) }
 {
     let next = successors(alloc, p)?;
     let answers = kept_answers(alloc, numbers, &next)?;

@@ -17,13 +17,15 @@ pub enum TableRefusal {
     /// The first index at which the number that is kept does not fit those of the next positions.
     #[error("the number {kept} at index {index} does not fit")]
     BadEntry { index: u32, kept: u32 },
-    #[error("no memory is left")]
+    /// Memory ran out.
+    #[error("out of memory")]
     Memory(AllocError),
 }
 
 impl From<AllocError> for TableRefusal {
     ghost from_gives = { λ error refusal. refusal ≡ refusals.Memory error };
 
+    /// Want of memory.
     fn from(error: AllocError) -> TableRefusal {
         TableRefusal::Memory(error)
     }

@@ -113,3 +113,28 @@ fn refuses_the_first_entry_that_does_not_fit(rt: HostRuntime) -> Result<(), Fail
     }
     Ok(())
 }
+
+#[test]
+fn refusals_name_their_data(rt: HostRuntime) -> Result<(), Fail> {
+    for (refusal, want) in [
+        (TableRefusal::BadHead, "no table of 2 or 3 pieces begins so"),
+        (
+            TableRefusal::WrongLength {
+                found: 9,
+                due: 64_528,
+            },
+            "9 bytes where a table has 64528",
+        ),
+        (
+            TableRefusal::BadEntry {
+                index: 226,
+                kept: 7,
+            },
+            "the number 7 at index 226 does not fit",
+        ),
+        (TableRefusal::Memory(AllocError), "out of memory"),
+    ] {
+        assert_eq!(rt; format!(in rt.alloc(); "{refusal}")?.as_str(), want);
+    }
+    Ok(())
+}

@@ -1,19 +1,23 @@
 -- The cells of a choice, built from the first square on.
-use Rattle.std.proofs.Common.{◌≡◌, ℕ, zero, suc, ◌+◌, ◌-◌, ◌*◌, ◌/◌, ◌%◌, ◌^◌, ◌<◌, ◌≤◌, true, false, cond, List, [], ◌∷◌, ◌++◌, length, take, drop, set, get_or, replicate, slice_get, slice_index_or, option_and_then, ◌==◌, nat_le, ◌&&◌, Some, None, refl, sym, ap, ap₂, subst, ◌∙◌, ⊎_elim, arith, length-drop, append_assoc, take-append-drop}
-use Rattle.std.proofs.lemmas.List.{drop_more, drop_all, take_more, set_at, length-take-le, get_or-drop, get_or-replicate}
+use Rattle.std.proofs.Common.{◌≡◌, ℕ, zero, suc, ◌+◌, ◌-◌, ◌*◌, ◌/◌, ◌%◌, ◌^◌, ◌<◌, ◌≤◌, true, false, cond, List, [], ◌∷◌, ◌++◌, length, take, drop, set, get_or, replicate, slice_get, slice_index_or, option_and_then, ◌==◌, nat_le, ◌&&◌, Some, None, refl, sym, ap, ap₂, subst, ◌∙◌, ⊎_elim, arith, length-drop, length-append, append_assoc, take-append-drop}
+use Rattle.std.proofs.lemmas.List.{drop_more, drop_all, take_more, set_at, length-take-le, length-replicate, get_or-drop, get_or-replicate}
 use Rattle.std.proofs.lemmas.Nat.{div-mul-add, mod-mul-add}
 use Rattle.std.proofs.lemmas.Bool.{cases_Bool, cases_lt, cases_eq, false_from_ne_true, and_right}
+use Rattle.std.specs.Prelude.{Option, MatchOption, IfSome, IsTrue, IsFalse}
+use Rattle.std.specs.Cmp.Derive.{both_true}
+use Rattle.draughts_board.specs.declared.pieces.Side.{Side}
 use Rattle.draughts_board.specs.declared.pieces.Side.TheVariants.{Black, White}
 use Rattle.draughts_board.specs.declared.pieces.Cell.{Cell}
 use Rattle.draughts_board.specs.declared.pieces.Cell.TheVariants.{Empty, Man, King}
 use Rattle.draughts_board.specs.Geometry.{squares}
-use Rattle.draughts_board.specs.Board.{Board, IsLawful, pieces, is_empty, is_allowed, all_allowed}
+use Rattle.draughts_board.specs.Board.{Board, IsLawful, pieces, piece_count, is_empty, is_allowed, all_allowed}
+use Rattle.draughts_board.specs.Rules.{put}
 use Rattle.draughts_board.proofs.Allowed.{allowed_at, allowed_from}
 use Rattle.table_index.specs.Counting.{choose}
-use Rattle.table_index.specs.Order.{choices, kind, piece_of, with_pieces, first_index, entry_count, block_of, if_lawful, board_of, side_of, position_at}
+use Rattle.table_index.specs.Order.{choices, kind, piece_of, with_pieces, first_index, entry_count, block_of, if_lawful, board_of, side_of, index_of, position_at}
 use Rattle.table_index.proofs.CellsFrom.{held, later, digits, digits-lt, kind-lt, piece-of_kind, pieces-held}
-use Rattle.table_index.proofs.OrderLemmas.{cells-of_choice, choice-at, IsInBlock, find-block, block-is, block-step, place-below, kinds-below, at-index}
-use Rattle.table_index.proofs.Steps.{later-lt}
+use Rattle.table_index.proofs.OrderLemmas.{cells-of_choice, choice-at, IsInBlock, find-block, block-is, block-step, place-below, kinds-below, at-index, if-lawful, indices_hold_positions}
+use Rattle.table_index.proofs.Tally.{later-lt}
 
 -- the cells with pieces of these kinds on the squares of the choice at this place
 abbrev pub wanted : ℕ → ℕ → ℕ → List Cell
@@ -23,6 +27,7 @@ wanted n place kinds = with_pieces (replicate 32 Empty) (slice_index_or (choices
 pub record IsBuilt (all : List Cell) (i a b k : ℕ) (cells : List Cell) : Type 0 where
   pub long : length all ≡ 32
   pub few : a ≤ 3
+  pub whole : held all ≤ 3
   pub front : cells ≡ take i all ++ replicate (32 - i) Empty
   pub count : a ≡ held (drop i all)
   pub place : later (drop i all) + b + 1 ≡ choose a (32 - i)
@@ -44,6 +49,7 @@ built-start n place kinds most below small =
     subst (λ all. IsBuilt all 0 n place kinds (replicate 32 Empty)) (sym (wanted-chosen n place kinds got.0 got.1)) (record {
       long = are.long;
       few = most;
+      whole = omega (arith, are.count);
       front = refl;
       count = sym are.count;
       place = are.behind;
@@ -192,6 +198,7 @@ built-piece all i a b k cells built some h below fine =
     record {
       long = built.long;
       few = omega arith;
+      whole = built.whole;
       front = ap₂ (λ l c. set l i c) built.front step.piece ∙ front-more all i built.long h;
       count = omega arith;
       place = omega arith;
@@ -212,6 +219,7 @@ built-none all i a b k cells built some h least =
     record {
       long = built.long;
       few = built.few;
+      whole = built.whole;
       front = built.front ∙ front-none all i built.long h none;
       count = built.count ∙ n.held_none e;
       place = omega arith;
@@ -256,6 +264,53 @@ built-end all i a b k cells built h none =
 -- at the last place no piece is left
 pub built-last : (all : List Cell) (i a b k : ℕ) (cells : List Cell) → IsBuilt all i a b k cells → 32 ≤ i → a ≡ 0
 built-last all i a b k cells built h = let long = built.long in built.count ∙ ap held (drop_all i all (omega arith))
+
+-- ---- what stands is a position
+
+none-allowed : (n m : ℕ) → all_allowed n (replicate m Empty) ≡ true
+none-allowed n zero = refl
+none-allowed n (suc m) = none-allowed (n + 1) m
+
+front-allowed : (n i m : ℕ) (all : List Cell) → ((k : ℕ) → k < i → is_allowed (n + k) (get_or all k Empty) ≡ true) → all_allowed n (take i all ++ replicate m Empty) ≡ true
+front-allowed n zero m all each = none-allowed n m
+front-allowed n (suc i) m [] each = none-allowed n m
+front-allowed n (suc i) m (c ∷ all) each =
+    let e : n + 0 ≡ n = omega arith in
+    both_true (subst (λ k. is_allowed k c ≡ true) e (each 0 (omega arith)))
+    (front-allowed (n + 1) i m all (λ k l. let f : n + suc k ≡ n + 1 + k = omega arith in subst (λ j. is_allowed j (get_or all k Empty) ≡ true) f (each (suc k) (omega arith))))
+
+none-more : (m : ℕ) → held (replicate m Empty) ≡ 0
+none-more zero = refl
+none-more (suc m) = none-more m
+
+held-front : (i m : ℕ) (all : List Cell) → held (take i all ++ replicate m Empty) ≤ held all
+held-front zero m all = let none = none-more m in omega arith
+held-front (suc i) m [] = let none = none-more m in omega arith
+held-front (suc i) m (Empty ∷ all) = held-front i m all
+held-front (suc i) m (Man s ∷ all) = let rest = held-front i m all in omega arith
+held-front (suc i) m (King s ∷ all) = let rest = held-front i m all in omega arith
+
+length-front : (i : ℕ) (all : List Cell) → length all ≡ 32 → i ≤ 32 → length (take i all ++ replicate (32 - i) Empty) ≡ 32
+length-front i all long h =
+    let first = length-take-le i all (omega arith) in
+    length-append (take i all) (replicate (32 - i) Empty) ∙ omega (arith, length-replicate (32 - i) Empty)
+
+pub built-lawful : (all : List Cell) (i a b k : ℕ) (cells : List Cell) (s : Side) → IsBuilt all i a b k cells → i ≤ 32 → IsLawful (record { cells = cells; to_move = s })
+built-lawful all i a b k cells s built h =
+    let both = pieces-held cells in
+    let front = held-front i (32 - i) all in
+    let same = ap held built.front in
+    let few = built.whole in
+    record {
+      squares = ap length built.front ∙ length-front i all built.long h;
+      black = omega arith;
+      white = omega arith;
+      men = ap (all_allowed 1) built.front ∙ front-allowed 1 i (32 - i) all built.allowed;
+    }
+
+-- the piece put on the square of place i
+pub put-there : (cells : List Cell) (i x : ℕ) (c : Cell) → x ≡ i + 1 → put cells x c ≡ set cells i c
+put-there cells i x c e = let there : x - 1 ≡ i = omega arith in ap (λ n. set cells n c) there
 
 -- ---- the same by the names that the code has
 
@@ -320,3 +375,25 @@ few-lawful i n f w chosen is h =
 
 pub first-least : (i n f : ℕ) → i < entry_count 3 → n ≡ block_of i → f ≡ first_index n → f ≤ i
 first-least i n f below block first = subst (λ x. x ≤ i) (sym (first ∙ ap first_index block)) (block-at i below).least
+
+-- what the code made of the choice is what stands at the index
+pub made-is : (i n f w : ℕ) (chosen : List ℕ) (s : Side) (r : Option Board) → IsFound i n f w chosen → s ≡ side_of ((i - f) % 2)
+    → (let cells = with_pieces (replicate 32 Empty) chosen ((i - f) / 2 % w) in
+    MatchOption r (IsFalse (all_allowed 1 cells)) (λ p. (p ≡ record { cells = cells; to_move = s }) × IsTrue (all_allowed 1 cells)))
+    → r ≡ position_at i
+made-is i n f w chosen s None is side h = sym (is.at ∙ none-lawful (board_of chosen ((i - f) / 2 % w) (side_of ((i - f) % 2))) h)
+made-is i n f w chosen s (Some p) is side h =
+    let cells : List Cell = with_pieces (replicate 32 Empty) chosen ((i - f) / 2 % w) in
+    let board : Board = board_of chosen ((i - f) / 2 % w) (side_of ((i - f) % 2)) in
+    ap Some (h.0 ∙ ap (λ (m : Side). record { cells = cells; to_move = m }) side) ∙ sym (is.at ∙ if-lawful board (few-lawful i n f w chosen is h.1))
+
+pub record IsHeld (i : ℕ) (r : Option Board) : Type 0 where
+  pub lawful : IfSome r (λ p. IsLawful p)
+  pub few : (k : ℕ) → k ≤ 3 → i < entry_count k → IfSome r (λ p. piece_count p ≤ k)
+  pub index : IfSome r (λ p. index_of p ≡ i)
+
+pub is-held : (i : ℕ) (r : Option Board) → i < entry_count 3 → r ≡ position_at i → IsHeld i r
+is-held i None below e = record { lawful = tt; few = λ k most less. tt; index = tt }
+is-held i (Some p) below e =
+    let here = indices_hold_positions 3 i p (omega arith) below (sym e) in
+    record { lawful = here.lawful; few = λ k most less. (indices_hold_positions k i p most less (sym e)).few; index = here.index }

@@ -1,5 +1,5 @@
 -- The choices of squares: how many there are, and what stands where in their order.
-use Rattle.std.proofs.Common.{◌≡◌, ℕ, zero, suc, ◌+◌, ◌-◌, ◌*◌, ◌/◌, ◌<◌, ◌≤◌, Bool, true, false, ◌&&◌, cond, not, eqb, leb, List, [], ◌∷◌, ◌++◌, map, length, slice_get, Some, refl, sym, ap, ap₂, ◌∙◌, arith, length-append}
+use Rattle.std.proofs.Common.{◌≡◌, ℕ, zero, suc, ◌+◌, ◌<◌, ◌≤◌, Bool, true, false, ◌&&◌, cond, not, eqb, leb, List, [], ◌∷◌, ◌++◌, map, length, slice_get, Some, refl, sym, ap, ap₂, ◌∙◌, arith, length-append}
 use Rattle.std.specs.List.{position_or_len}
 use Rattle.std.specs.Cmp.Lexicographic.{pointwise}
 use Rattle.std.proofs.lemmas.List.{length-map}
@@ -27,14 +27,6 @@ choose-none m = refl
 pub choose-one : (m : ℕ) → m ≤ 32 → choose 1 m ≡ m
 unfolding choose
 choose-one m h = eqb-true (choose 1 m) m (at_each (λ k. eqb (choose 1 k) k) refl m h)
-
-pub choose-two : (m : ℕ) → m ≤ 32 → choose 2 m ≡ m * (m - 1) / 2
-unfolding choose
-choose-two m h = eqb-true (choose 2 m) (m * (m - 1) / 2) (at_each (λ k. eqb (choose 2 k) (k * (k - 1) / 2)) refl m h)
-
-pub choose-three : (m : ℕ) → m ≤ 32 → choose 3 m ≡ m * (m - 1) * (m - 2) / 6
-unfolding choose
-choose-three m h = eqb-true (choose 3 m) (m * (m - 1) * (m - 2) / 6) (at_each (λ k. eqb (choose 3 k) (k * (k - 1) * (k - 2) / 6)) refl m h)
 
 -- there are at most 4,960
 pub choose-most : (n m : ℕ) → n ≤ 3 → m ≤ 32 → choose n m ≤ 4960

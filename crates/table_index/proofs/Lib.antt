@@ -2,6 +2,7 @@ pub mod Choosing
 pub mod CellsFrom
 pub mod CellsOfChoice
 pub mod OrderLemmas
-pub mod Steps
+pub mod Tally
+pub mod SquaresLeft
 pub mod Building
 pub mod InOrder

@@ -96,10 +96,10 @@ count-held p = pieces-held p.cells
 squares-of : (p : Board) → length p.cells ≡ 32 → squares ≡ from 1 (length p.cells)
 squares-of p long = squares-from ∙ ap (from 1) (sym long)
 
-occupied-stood : (p : Board) → length p.cells ≡ 32 → occupied p ≡ stood 1 p.cells
+pub occupied-stood : (p : Board) → length p.cells ≡ 32 → occupied p ≡ stood 1 p.cells
 occupied-stood p long = ap (filter (λ n. not (is_empty (cell_at p n)))) (squares-of p long) ∙ filter-stood [] p.cells 1 refl
 
-kinds-digits : (p : Board) → length p.cells ≡ 32 → kinds_of p ≡ digits p.cells
+pub kinds-digits : (p : Board) → length p.cells ≡ 32 → kinds_of p ≡ digits p.cells
 kinds-digits p long = ap (fold (λ number n. number * 4 + kind (cell_at p n)) 0) (occupied-stood p long) ∙ fold-digits [] p.cells 1 0 refl ∙ omega arith
 
 pub has_index : (p : Board) → length p.cells ≡ 32 → HasIndex p

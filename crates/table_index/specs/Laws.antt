@@ -18,7 +18,8 @@ pub record AreChoices (n : ℕ) (all : List (List ℕ)) : Type 0 where
   pub complete : (choice : List ℕ) → IsChoice n choice → Contains all choice
   pub in_order : AllPairs IsBefore all
 
--- The list `choices n squares`, by whose places the indices go, has every choice of n squares in lexicographic order.
+-- The list `choices n squares`, by whose places the indices go, has every choice of n squares in
+-- lexicographic order.
 abbrev pub ChoicesAreInOrder : Type 0
 ChoicesAreInOrder = (n : ℕ) → AreChoices n (choices n squares)
 
@@ -33,16 +34,19 @@ pub record BlockSizes : Type 0 where
 
 -- Each position with at most k pieces, k at most 3, has an index in the table of k pieces.
 abbrev pub PositionsHaveIndices : Type 0
-PositionsHaveIndices = (p : Board) (k : ℕ) → IsLawful p → piece_count p ≤ k → k ≤ 3 → index_of p < entry_count k
+PositionsHaveIndices =
+    (p : Board) (k : ℕ) → IsLawful p → piece_count p ≤ k → k ≤ 3 → index_of p < entry_count k
 
 -- At the index of a position with at most three pieces stands that position.
 abbrev pub PositionsStandAtTheirIndices : Type 0
-PositionsStandAtTheirIndices = (p : Board) → IsLawful p → piece_count p ≤ 3 → position_at (index_of p) ≡ Some p
+PositionsStandAtTheirIndices =
+    (p : Board) → IsLawful p → piece_count p ≤ 3 → position_at (index_of p) ≡ Some p
 
 -- two positions with at most three pieces never share an index
 abbrev pub NoIndexIsShared : Type 0
 NoIndexIsShared =
-    (p q : Board) → IsLawful p → IsLawful q → piece_count p ≤ 3 → piece_count q ≤ 3 → index_of p ≡ index_of q → p ≡ q
+    (p q : Board) → IsLawful p → IsLawful q → piece_count p ≤ 3 → piece_count q ≤ 3
+    → index_of p ≡ index_of q → p ≡ q
 
 -- what stands at an index below the count of k pieces
 pub record IsPositionOf (k i : ℕ) (p : Board) : Type 0 where
@@ -50,6 +54,8 @@ pub record IsPositionOf (k i : ℕ) (p : Board) : Type 0 where
   pub few : piece_count p ≤ k
   pub index : index_of p ≡ i
 
--- What stands at an index of the table of k pieces is a position with at most k pieces, and that index is its index.
+-- What stands at an index of the table of k pieces is a position with at most k pieces, and that
+-- index is its index.
 abbrev pub IndicesHoldPositions : Type 0
-IndicesHoldPositions = (k i : ℕ) (p : Board) → k ≤ 3 → i < entry_count k → position_at i ≡ Some p → IsPositionOf k i p
+IndicesHoldPositions =
+    (k i : ℕ) (p : Board) → k ≤ 3 → i < entry_count k → position_at i ≡ Some p → IsPositionOf k i p

@@ -1,5 +1,5 @@
--- The order of the positions with few pieces in an endgame table: in blocks of 0, 1, 2 and 3 pieces, and in a block by
--- squares, then by kinds, then by the side to move.
+-- The order of the positions with few pieces in an endgame table: in blocks of 0, 1, 2 and 3
+-- pieces, and in a block by squares, then by kinds, then by the side to move.
 use Rattle.std.specs.Prelude.{ℕ, zero, suc, ◌+◌, ◌-◌, ◌*◌, ◌/◌, ◌%◌, ◌^◌, List, [], ◌∷◌, ◌++◌, length, filter, fold, map, Option, Some, None, not, nat_lt, ◌==◌, if◌then◌else◌, replicate, slice_get, option_and_then}
 use Rattle.std.specs.List.{position_or_len}
 use Rattle.std.specs.Cmp.Lexicographic.{pointwise}
@@ -19,7 +19,8 @@ choices zero all = [] ∷ []
 choices (suc n) [] = []
 choices (suc n) (x ∷ all) = map (λ rest. x ∷ rest) (choices n all) ++ choices (suc n) all
 
--- how many places the block of n pieces has: one for each choice of squares, each choice of kinds and each side to move
+-- how many places the block of n pieces has: one for each choice of squares, each choice of kinds
+-- and each side to move
 abbrev pub block_size : ℕ → ℕ
 block_size n = length (choices n squares) * 4 ^ n * 2
 
@@ -40,7 +41,8 @@ occupied p = filter (λ n. not (is_empty (cell_at p n))) squares
 
 -- the place of a choice of squares among the choices of so many
 abbrev pub place_of : List ℕ → ℕ
-place_of choice = position_or_len (λ other. pointwise ◌==◌ other choice) (choices (length choice) squares)
+place_of choice =
+    position_or_len (λ other. pointwise ◌==◌ other choice) (choices (length choice) squares)
 
 -- a piece's kind as a digit to base 4 (an empty square has none)
 abbrev pub kind : Cell → ℕ
@@ -68,12 +70,15 @@ index_of p =
 
 -- the piece of a kind
 abbrev pub piece_of : ℕ → Cell
-piece_of k = (if k == 0 then Man Black else if k == 1 then King Black else if k == 2 then Man White else King White)
+piece_of k =
+    (if k == 0 then Man Black else if k == 1 then King Black else if k == 2 then Man White
+    else King White)
 
 abbrev pub side_of : ℕ → Side
 side_of s = (if s == 0 then Black else White)
 
--- the cells with a piece put on each of these squares; the first digit of the kinds is the first square's
+-- the cells with a piece put on each of these squares; the first digit of the kinds is the first
+-- square's
 abbrev pub with_pieces : List Cell → List ℕ → ℕ → List Cell
 with_pieces cells [] kinds = cells
 with_pieces cells (n ∷ rest) kinds =
@@ -81,24 +86,29 @@ with_pieces cells (n ∷ rest) kinds =
 
 -- the board with pieces of these kinds on the chosen squares
 abbrev pub board_of : List ℕ → ℕ → Side → Board
-board_of choice kinds side = record { cells = with_pieces (replicate 32 Empty) choice kinds; to_move = side }
+board_of choice kinds side =
+    record { cells = with_pieces (replicate 32 Empty) choice kinds; to_move = side }
 
 -- the board where it keeps the rule on pieces
 abbrev pub if_lawful : Board → Option Board
 if_lawful p = (if is_lawful p then Some p else None)
 
--- what stands at a place of the block of n pieces: the last digit of the place is the side, then come the kinds
+-- what stands at a place of the block of n pieces: the last digit of the place is the side, then
+-- come the kinds
 abbrev pub position_in_block : ℕ → ℕ → Option Board
 position_in_block n place =
     let side = side_of (place % 2) in
     let kinds = place / 2 % 4 ^ n in
-    option_and_then (λ choice. if_lawful (board_of choice kinds side)) (slice_get (choices n squares) (place / 2 / 4 ^ n))
+    option_and_then (λ choice. if_lawful (board_of choice kinds side)) (slice_get
+    (choices n squares) (place / 2 / 4 ^ n))
 
 -- how many pieces stand on the boards of an index's block
 abbrev pub block_of : ℕ → ℕ
 block_of i =
-    (if nat_lt i (first_index 1) then 0 else if nat_lt i (first_index 2) then 1 else if nat_lt i (first_index 3) then 2 else 3)
+    (if nat_lt i (first_index 1) then 0 else if nat_lt i (first_index 2) then 1
+    else if nat_lt i (first_index 3) then 2 else 3)
 
--- The position at an index of the tables of up to three pieces: none where the index is no position.
+-- The position at an index of the tables of up to three pieces: none where the index is no
+-- position.
 unfoldable pub position_at : ℕ → Option Board
 position_at i = position_in_block (block_of i) (i - first_index (block_of i))

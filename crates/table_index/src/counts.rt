@@ -5,7 +5,38 @@ ghost use Rattle.table_index.specs.Counting.{choose};
 
 use draughts_board::Side;
 
+/// In how many ways one can choose two squares out of so many, by this number from 0 on.
+static PAIRS: [u32; 33] = [
+    0, 0, 1, 3, 6, 10, 15, 21, 28, 36, 45, 55, 66, 78, 91, 105, 120, 136, 153, 171, 190, 210, 231,
+    253, 276, 300, 325, 351, 378, 406, 435, 465, 496,
+];
+
+/// The same of three squares.
+static TRIPLES: [u32; 33] = [
+    0, 0, 0, 1, 4, 10, 20, 35, 56, 84, 120, 165, 220, 286, 364, 455, 560, 680, 816, 969, 1140,
+    1330, 1540, 1771, 2024, 2300, 2600, 2925, 3276, 3654, 4060, 4495, 4960,
+];
+
+/// In how many ways one can choose two of these squares.
+#[inline]
+fn pairs_of(squares: u32) -> u32
+    requires { squares ≤ 32 }
+    ensures { result ≡ choose 2 squares }
+{
+    PAIRS[squares as usize]
+}
+
+/// In how many ways one can choose three of these squares.
+#[inline]
+fn triples_of(squares: u32) -> u32
+    requires { squares ≤ 32 }
+    ensures { result ≡ choose 3 squares }
+{
+    TRIPLES[squares as usize]
+}
+
 /// In how many ways one can choose so many pieces' squares out of these.
+#[inline]
 pub(crate) fn choices_of(pieces: u32, squares: u32) -> u32
     requires pieces { pieces ≤ 3 }
     requires squares { squares ≤ 32 }
@@ -14,8 +45,8 @@ pub(crate) fn choices_of(pieces: u32, squares: u32) -> u32
     match pieces {
         0 => 1,
         1 => squares,
-        2 => squares * squares.saturating_sub(1) / 2,
-        _ => squares * squares.saturating_sub(1) * squares.saturating_sub(2) / 6,
+        2 => pairs_of(squares),
+        _ => triples_of(squares),
     }
 }
 
@@ -66,7 +97,8 @@ pub(crate) fn index_at(pieces: u32, choice: u32, kinds: u32, to_move: Side) -> u
     requires pieces { pieces ≤ 3 }
     requires choice { choice < choose pieces 32 }
     requires kinds { kinds < 4 ^ pieces }
-    ensures value { result ≡ first_index pieces + (choice * 4 ^ pieces + kinds) * 2 + side_number to_move }
+    ensures value { result
+        ≡ first_index pieces + (choice * 4 ^ pieces + kinds) * 2 + side_number to_move }
     ensures range { result < first_index (pieces + 1) }
 {
     let side = match to_move {

@@ -1,12 +1,13 @@
 //! The index of a position, and the position at an index.
-ghost use Rattle.std.specs.Prelude.{◌≡◌, ◌≤◌, ◌<◌, ◌+◌, ◌^◌, ℕ, IfSome, MatchOption, IsTrue, IsFalse, replicate, slice_get, Some, length, List};
+ghost use Rattle.std.specs.Prelude.{◌≡◌, ◌≤◌, ◌<◌, ◌+◌, ◌*◌, ◌^◌, ℕ, if◌then◌else◌, IfSome, MatchOption, IsTrue, IsFalse, replicate, slice_get, Some, length, List};
 ghost use Rattle.draughts_board.specs.Board.{IsLawful, piece_count, all_allowed, is_allowed};
-ghost use Rattle.table_index.specs.Order.{entry_count, index_of, position_at, kind, side_number, piece_of, choices, with_pieces};
+ghost use Rattle.table_index.specs.Order.{entry_count, index_of, position_at, piece_of, choices, with_pieces};
 ghost use Rattle.table_index.specs.Counting.{choose};
-ghost use Rattle.draughts_board.specs.Geometry.{squares};
+ghost use Rattle.draughts_board.specs.Geometry.{IsSquare, squares};
+ghost use Rattle.draughts_board.specs.Masks.{stands_in};
 
 use crate::counts::{block_of, choices_of, first_index, index_at, kinds_of};
-use draughts_board::{Cell, Position, Side};
+use draughts_board::{Cell, Position, Side, Square};
 
 /// How many indices a table of so many pieces has.
 pub fn entry_count(pieces: u8) -> u32
@@ -16,18 +17,23 @@ pub fn entry_count(pieces: u8) -> u32
     first_index(pieces as u32 + 1)
 }
 
-/// A piece's kind as a digit to base 4.
-fn kind(piece: Cell) -> u32
-    ensures value { result ≡ kind piece }
-    ensures digit { result < 4 }
+/// The square stands in the mask.
+#[inline]
+fn stands_in(mask: u32, square: Square) -> bool
+    ensures value { result ≡ stands_in mask square }
+    ensures square { IsSquare square }
 {
-    match piece {
-        Cell::Empty => 0,
-        Cell::Man(Side::Black) => 0,
-        Cell::King(Side::Black) => 1,
-        Cell::Man(Side::White) => 2,
-        Cell::King(Side::White) => 3,
-    }
+    (mask >> (square.number() - 1)) & 1 == 1
+}
+
+/// The kind of the piece on the square as a digit to base 4, by the masks of all kings and of White's pieces.
+#[inline]
+fn kind_in(kings: u32, white: u32, square: Square) -> u32
+    ensures value { result
+        ≡ (if stands_in kings square then 1 else 0) + 2 * (if stands_in white square then 1 else 0) }
+    ensures square { IsSquare square }
+{
+    u32::from(stands_in(kings, square)) + 2 * u32::from(stands_in(white, square))
 }
 
 /// The piece of a kind.
@@ -49,20 +55,21 @@ pub fn index_of(p: &Position) -> u32
     ensures value { result ≡ index_of p.now }
     ensures range { result < entry_count (piece_count p.now) }
 {
-    let cells = p.cells();
+    let pieces = u32::from(p.count(Side::Black) + p.count(Side::White));
+    let [_, black_kings, white_men, white_kings] = p.masks();
+    let kings = black_kings | white_kings;
+    let white = white_men | white_kings;
+    let mut left = p.occupied();
+    let mut behind = pieces;
     // How many choices of as many squares come behind this one.
     let mut later = 0;
-    let mut pieces = 0;
     let mut kinds = 0;
-    let mut weight = 1;
-    for i in (0..32).rev() {
-        let cell = cells[i];
-        if !cell.is_empty() {
-            pieces += 1;
-            later += choices_of(pieces, 31 - i as u32);
-            kinds += kind(cell) * weight;
-            weight *= 4;
-        }
+    while left != 0 {
+        let square = Square::lowest(left);
+        later += choices_of(behind, 32 - u32::from(square.number()));
+        kinds = kinds * 4 + kind_in(kings, white, square);
+        behind -= 1;
+        left &= left - 1;
     }
     let choice = choices_of(pieces, 32) - 1 - later;
     index_at(pieces, choice, kinds, p.to_move())
@@ -80,17 +87,18 @@ fn is_allowed(place: usize, piece: Cell) -> bool
     }
 }
 
-/// The cells with pieces of these kinds on the squares of the choice with this place among the choices of so many
+/// The position with pieces of these kinds on the squares of the choice with this place among the choices of so many
 /// squares; none where a man would stand on its farthest row.
-fn cells_of(mut pieces: u32, mut choice: u32, mut kinds: u32) -> Option<[Cell; 32]>
+fn position_of(mut pieces: u32, mut choice: u32, mut kinds: u32, to_move: Side) -> Option<Position>
     requires pieces { pieces ≤ 3 }
     requires choice { choice < choose pieces 32 }
     requires kinds { kinds < 4 ^ pieces }
     ensures { (chosen : List ℕ) → slice_get (choices pieces squares) choice ≡ Some chosen
         → let cells = with_pieces (replicate 32 Cell.Empty) chosen kinds in
-        MatchOption result (IsFalse (all_allowed 1 cells)) (λ found. (found ≡ cells) × IsTrue (all_allowed 1 cells)) }
+        MatchOption result (IsFalse (all_allowed 1 cells))
+        (λ p. (p ≡ record { cells = cells; to_move = to_move }) × IsTrue (all_allowed 1 cells)) }
 {
-    let mut cells = [Cell::Empty; 32];
+    let mut p = Position::bare(to_move);
     for i in 0..32 {
         if pieces == 0 {
             break;
@@ -104,13 +112,13 @@ fn cells_of(mut pieces: u32, mut choice: u32, mut kinds: u32) -> Option<[Cell; 3
             if !is_allowed(i, piece) {
                 return None;
             }
-            cells[i] = piece;
+            p = p.with(Square::new(i as u8 + 1).unwrap(), piece, to_move);
             kinds %= weight;
         } else {
             choice -= here;
         }
     }
-    Some(cells)
+    Some(p)
 }
 
 /// The position at an index of the table of three pieces; none where the index is no position.
@@ -123,12 +131,11 @@ pub fn position_at(index: u32) -> Option<Position>
 {
     let pieces = block_of(index);
     let place = index - first_index(pieces);
-    let weight = kinds_of(pieces);
-    let cells = cells_of(pieces, place / 2 / weight, place / 2 % weight)?;
     let to_move = if place % 2 == 0 {
         Side::Black
     } else {
         Side::White
     };
-    Some(Position::of_lawful(cells, to_move))
+    let weight = kinds_of(pieces);
+    position_of(pieces, place / 2 / weight, place / 2 % weight, to_move)
 }

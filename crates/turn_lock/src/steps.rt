@@ -117,10 +117,12 @@ impl<V: Kept> TurnLock<V> {
     /// Ends the other seat, and keeps the longer front.
     pub(crate) fn join_seats(&self, seat: &mut LockSeat<V>, other: LockSeat<V>)
         requires lock { (seat.old.table_id ≡ self.now) × (other.table_id ≡ self.now) }
-        requires outside { (seat.old.me ≡ (outside seat.old.me.0.front, [])) × (other.me ≡ (outside other.me.0.front, [])) }
+        requires outside { (seat.old.me ≡ (outside seat.old.me.0.front, []))
+            × (other.me ≡ (outside other.me.0.front, [])) }
         ensures lock { seat.new.table_id ≡ self.now }
         ensures outside { seat.new.me ≡ (outside seat.new.me.0.front, []) }
-        ensures longer { (seat.new.me.0.front ≡ seat.old.me.0.front) ⊎ (seat.new.me.0.front ≡ other.me.0.front) }
+        ensures longer { (seat.new.me.0.front ≡ seat.old.me.0.front)
+            ⊎ (seat.new.me.0.front ≡ other.me.0.front) }
         ensures this { GrowsTo V.may_add seat.old.me.0.front seat.new.me.0.front }
         ensures that { GrowsTo V.may_add other.me.0.front seat.new.me.0.front }
     {

@@ -1,11 +1,12 @@
 // Threads at the lock, and values that may not be dropped.
-ghost use Rattle.std.specs.Prelude.{◌<◌, IfOk};
+ghost use Rattle.std.specs.Prelude.{◌<◌, All, IfOk};
 ghost use Rattle.turn_lock.specs.Seen.{IsOutside};
 
 use crate::{Kept, Pass, TurnLock};
-use std::alloc::AllocError;
+use std::alloc::{AllocError, Global};
 use std::rt::Clock;
 use std::sync::Wait;
+use std::sync::atomic::{AtomicU64, Ordering};
 use std::test::*;
 use std::thread;
 use std::thread::{Promise, Threads};
@@ -92,7 +93,8 @@ fn take_turns_in_two_threads<R: Threads + Wait + Sync>(
         rt,
         |scope| -> Result<(Pass<Turns>, Pass<Turns>), AllocError>
             requires { IsOutside lock.now one × IsOutside lock.now two }
-            ensures { IfOk result (λ passes. IsOutside lock.entry.now passes.0 × IsOutside lock.entry.now passes.1) }
+            ensures { IfOk result (λ passes. IsOutside lock.entry.now passes.0
+                × IsOutside lock.entry.now passes.1) }
         {
             let one = scope.spawn_with(Outside(lock), move || take_turns(rt, lock, one, 1))?;
             let two = scope.spawn_with(Outside(lock), move || take_turns(rt, lock, two, 2))?;
@@ -181,6 +183,118 @@ fn a_pass_that_sleeps_is_woken(rt: HostRuntime) -> Result<(), Fail> {
     };
     keep_and_wait(&rt, &lock, &mut pass);
     assert_eq!(rt; lock.close(&rt, pass).taken.len(), 100);
+    Ok(())
+}
+
+/// What passes that hand the turn on know of each other.
+#[derive(Drop)]
+struct Relay {
+    /// How often the turn was taken.
+    taken: AtomicU64,
+    /// How many passes come again, those that have the turn or wait for it among them.
+    running: AtomicU64,
+}
+
+/// Waits until the count is at least this.
+fn wait_for<R: Wait>(rt: &R, count: &AtomicU64, least: u64) {
+    for _ in rt.forever() {
+        if count.load(Ordering::SeqCst) >= least {
+            return;
+        }
+        thread::yield_now();
+    }
+}
+
+/// Takes the turn so often. With the turn in hand it waits until every other pass that comes again sleeps, and behind
+/// `leave` until one of them has the turn. So that `leave` alone can wake them: nobody else enters or leaves.
+fn hand_on<R: Wait>(
+    rt: &R,
+    lock: &TurnLock<Turns>,
+    relay: &Relay,
+    pass: &mut Pass<Turns>,
+    turns: u64,
+)
+    requires { IsOutside lock.now pass.old }
+    ensures { IsOutside lock.now pass.new }
+{
+    for turn in 0..turns {
+        let value = lock.enter(rt, pass);
+        let taken = relay.taken.fetch_add(1, Ordering::SeqCst);
+        if turn + 1 == turns {
+            relay.running.fetch_sub(1, Ordering::SeqCst);
+        }
+        let running = relay.running.load(Ordering::SeqCst);
+        let others = running.saturating_sub(u64::from(turn + 1 != turns));
+        wait_for(rt, &lock.sleepers, others);
+        lock.leave(pass, value);
+        if others != 0 {
+            wait_for(rt, &relay.taken, taken.saturating_add(2));
+        }
+    }
+}
+
+/// So many passes hand the turn round, each in a thread of its own, until each has had it so often.
+fn hand_round<R: Threads + Wait + Sync>(
+    rt: &R,
+    alloc: Global,
+    passes: u64,
+    turns: u64,
+) -> Result<u64, AllocError> {
+    let none = Turns {
+        taken: Vec::new(alloc),
+    };
+    let (lock, mut pass) = match TurnLock::new(alloc, none) {
+        Ok(made) => made,
+        Err((_, error)) => return Err(error),
+    };
+    let relay = Relay {
+        taken: AtomicU64::new(0),
+        running: AtomicU64::new(passes),
+    };
+    let mut all = split_off(alloc, &lock, &mut pass, passes)?;
+    let shared = &lock;
+    let known = &relay;
+    thread::for_each_mut(
+        rt,
+        all.as_mut_slice(),
+        (passes as usize).max(1),
+        &|_, own: &mut Pass<Turns>|
+            requires { IsOutside shared.now own.old }
+            ensures { IsOutside shared.entry.now own.new }
+        { hand_on(rt, shared, known, own, turns) },
+    );
+    Ok(relay.taken.load(Ordering::SeqCst))
+}
+
+/// So many passes of the lock.
+fn split_off(
+    alloc: Global,
+    lock: &TurnLock<Turns>,
+    pass: &mut Pass<Turns>,
+    passes: u64,
+) -> Result<Vec<Pass<Turns>>, AllocError>
+    requires { IsOutside lock.now pass.old }
+    ensures outside { IsOutside lock.now pass.new }
+    ensures each { IfOk result (λ all. All (λ p. IsOutside lock.now p) all.items) }
+{
+    let mut all = Vec::new(alloc);
+    for _ in 0..passes {
+        all.push(lock.split(pass))?;
+    }
+    Ok(all)
+}
+
+// Each `leave` has one sleeper, which nothing else wakes: a wake that is lost shows as a test that does not end.
+#[test]
+fn two_passes_hand_the_turn_to_and_fro(rt: HostRuntime) -> Result<(), Fail> {
+    assert_eq!(rt; hand_round(&rt, rt.alloc(), 2, 5_000)?, 10_000);
+    Ok(())
+}
+
+// Each `leave` has two sleepers and wakes one; the other sleeps on.
+#[test]
+fn three_passes_hand_the_turn_round(rt: HostRuntime) -> Result<(), Fail> {
+    assert_eq!(rt; hand_round(&rt, rt.alloc(), 3, 3_000)?, 9_000);
     Ok(())
 }
 

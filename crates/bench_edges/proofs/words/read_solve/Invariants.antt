@@ -8,6 +8,7 @@ invariant-loop-at l = record {
   given : List Setting;
   read : IsReadTo (texts l.words) l.at given;
   depth : number_for (codes "--depth") given ≡ l.depth;
+  pieces : number_for (codes "--pieces") given ≡ l.pieces;
   plies : number_for (codes "--plies") given ≡ l.plies;
 }
 

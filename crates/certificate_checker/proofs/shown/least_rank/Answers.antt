@@ -8,4 +8,4 @@ pub returns : goal.returns
 returns g c =
     rw c.lesser.ensures
     (IsLeast-either (λ r. HasRank c.args.part.now r c.args.q.now) (λ r. TableWins draughts (g.O.Oracle.answer_at c.args.oracle.now) c.args.part.now.side r c.args.q.now)
-    c.kept_rank.result c.table_rank.result c.kept_rank.ensures (rw c.side.ensures.value at c.table_rank.ensures))
+    c.kept_rank.result c.table_rank.result c.kept_rank.ensures (rw c.side.ensures.value at c.table_rank.ensures.rank))

@@ -1,6 +1,5 @@
-use Rattle.std.proofs.Common.{◌∙◌, refl, sym, ap, Some}
+use Rattle.std.proofs.Common.{refl, ap, Some}
 use Rattle.certificate_text.specs.Lines.{win_entry}
-use Rattle.certificate_text.proofs.Fields.{is_taken, not_taken}
 use Rattle.certificate_text.proofs.due.add_win.Goals as goal
 
 pub returns-in_default-printed_position-clause-err : goal.returns-in_default-printed_position-clause-err
@@ -17,8 +16,8 @@ returns-in_default-printed_position-clause-err c after left =
       },
     )
 
-pub returns-then-is_some-clause-err : goal.returns-then-is_some-clause-err
-returns-then-is_some-clause-err c after left =
+pub returns-in-Ok-false-clause-err : goal.returns-in-Ok-false-clause-err
+returns-in-Ok-false-clause-err c after left =
     let line = c.in-Some.ensures.some in
     let fen = c.in-Some-printed_position.ensures.some in (
       refl,
@@ -29,12 +28,12 @@ returns-then-is_some-clause-err c after left =
         spelled = line.1.1.1;
         lawful = fen.0;
         has = ap Some fen.1;
-        taken = is_taken c.find.result c.args.part.now.entries c.in-Some-printed_position.p c.find.ensures.found (sym c.is_some.ensures ∙ c.if-is_some.true);
+        taken = rw c.in-Ok-false.field-0-test at c.in-Ok-false.ensures.tells;
       },
     )
 
-pub returns-in-Ok-clause-ok : goal.returns-in-Ok-clause-ok
-returns-in-Ok-clause-ok c =
+pub returns-in-Ok-true-clause-ok : goal.returns-in-Ok-true-clause-ok
+returns-in-Ok-true-clause-ok c =
     let line = c.in-Some.ensures.some in
     let fen = c.in-Some-printed_position.ensures.some in (
       win_entry c.in-Some.field.now c.in-Some.rank c.in-Some.chosen,
@@ -44,10 +43,10 @@ returns-in-Ok-clause-ok c =
           p = c.in-Some-printed_position.p;
           lawful = fen.0;
           fen = fen.1;
-          absent = not_taken c.find.result c.args.part.now.entries c.in-Some-printed_position.p c.find.ensures.none (sym c.is_some.ensures ∙ c.if-is_some.false);
+          absent = rw c.in-Ok-true.field-0-test at c.in-Ok-true.ensures.tells;
           range = (line.1.0, line.1.1.0);
-          behind = c.in-Ok.ensures.ok;
-          valid = c.side-side.ensures.valid;
+          behind = rw c.in-Ok-true.field-0-test at c.in-Ok-true.ensures.entries;
+          valid = c.add_new.ensures.valid;
         },
       ),
     )

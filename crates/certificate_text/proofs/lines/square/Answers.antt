@@ -1,4 +1,4 @@
-use Rattle.certificate_text.proofs.Numbers.{square_some, square_none}
+use Rattle.certificate_text.proofs.Squares.{square_some, square_none}
 use Rattle.certificate_text.proofs.lines.square.Goals as goal
 
 pub returns-clause-some : goal.returns-clause-some

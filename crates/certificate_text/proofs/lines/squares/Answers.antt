@@ -18,17 +18,16 @@ loop-word-preserved c =
     let count = c.loop-word.count in
     let s = c.in_ok-path.field-0 in
     let found = c.in_ok-path.ensures.some in
-    let cut = c.in-Some.ensures.some in
     let so_far = c.loop-word.invariant in
     let next = taken_next path count s (omega (arith, so_far.full, so_far.few)) in
     record {
       full = length-set path count s ∙ so_far.full;
       few = omega (arith, so_far.few);
-      spelled = so_far.spelled ∙ ap (λ t. ended sep (take count path) ++ t) (cut.1 ∙ ap (λ w. w ++ sep ∷ c.in-Some.behind.now) found.1)
+      spelled = so_far.spelled ∙ ap (λ t. ended sep (take count path) ++ t) (c.in-Some.ensures.whole ∙ ap (λ w. w ++ sep ∷ c.in-Some.behind.now) found.1)
           ∙ sym (ended_next sep (take count path) s c.in-Some.behind.now) ∙ ap (λ p. ended sep p ++ c.in-Some.behind.now) (sym next);
       each = subst (All IsSquare) (sym next) (All-push IsSquare (take count path) s so_far.each found.0);
       only = λ full whole same.
-          let step = Left-step sep full (take count path) c.loop-word.rest.now c.in-Some.word.now c.in-Some.behind.now c.requires (so_far.only full whole same) cut.0 cut.1 in
+          let step = Left-step sep full (take count path) c.loop-word.rest.now c.in-Some.word.now c.in-Some.behind.now c.requires (so_far.only full whole same) c.in-Some.ensures.before c.in-Some.ensures.whole in
           let one : s ≡ step.square = same_square s step.square found.0 step.one (sym found.1 ∙ step.word_is) in
           subst (λ front. Left sep full front c.in-Some.behind.now) (ap (λ n. take count path ++ n ∷ []) (sym one) ∙ sym next) step.left;
     }
@@ -36,17 +35,15 @@ loop-word-preserved c =
 pub returns-then-count-eq12-clause-none : goal.returns-then-count-eq12-clause-none
 returns-then-count-eq12-clause-none c path whole same =
     let so_far = c.loop-word.invariant in
-    let cut = c.in-Some.ensures.some in
     let front = take c.loop-word.count c.loop-word.path in
-    let step = Left-step c.args.separator path front c.loop-word.rest.now c.in-Some.word.now c.in-Some.behind.now c.requires (so_far.only path whole same) cut.0 cut.1 in
+    let step = Left-step c.args.separator path front c.loop-word.rest.now c.in-Some.word.now c.in-Some.behind.now c.requires (so_far.only path whole same) c.in-Some.ensures.before c.in-Some.ensures.whole in
     too_many path front step.square step.left.here step.left.more step.left.whole (omega (arith, length-take c.loop-word.count c.loop-word.path, so_far.full, c.if-count-eq12.true)) whole.1
 
 pub returns-in_err-path-clause-none : goal.returns-in_err-path-clause-none
 returns-in_err-path-clause-none c =
     let so_far = c.loop-word.invariant in
-    let cut = c.in-Some.ensures.some in
     if_none c.from_residual.result _ (λ path whole same.
-    let step = Left-step c.args.separator path (take c.loop-word.count c.loop-word.path) c.loop-word.rest.now c.in-Some.word.now c.in-Some.behind.now c.requires (so_far.only path whole same) cut.0 cut.1 in
+    let step = Left-step c.args.separator path (take c.loop-word.count c.loop-word.path) c.loop-word.rest.now c.in-Some.word.now c.in-Some.behind.now c.requires (so_far.only path whole same) c.in-Some.ensures.before c.in-Some.ensures.whole in
     c.in_err-path.ensures.none step.square step.one step.word_is)
 
 pub returns-in_err-path-2-clause-none : goal.returns-in_err-path-2-clause-none

@@ -4,7 +4,7 @@ use Rattle.disk_journal.specs.Format.{HasPayloads}
 use Rattle.disk_journal.specs.FormatLaws.{read_or_refused_any}
 use Rattle.disk_journal.specs.Refusals.{ExplainsAny}
 use Rattle.disk_journal.proofs.ExactLemmas.{for_result_any}
-use Rattle.disk_journal.proofs.LooksLemmas.{looks_then}
+use Rattle.bench_disk.specs.Runs.{looks_then}
 use Rattle.disk_journal.proofs.load.read_journal.Goals as goal
 
 pub returns-in_err-pieces-clause-exactly : goal.returns-in_err-pieces-clause-exactly

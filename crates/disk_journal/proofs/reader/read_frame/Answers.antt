@@ -4,7 +4,7 @@ use Rattle.std.proofs.lemmas.List.{length-map, take_at}
 use Rattle.disk_journal.specs.Refusals.{IsNoBody}
 use Rattle.disk_journal.specs.Rest.{IsOpen}
 use Rattle.disk_journal.proofs.FrameLemmas.{length_body}
-use Rattle.disk_journal.proofs.LooksLemmas.{looks_then}
+use Rattle.bench_disk.specs.Runs.{looks_then}
 use Rattle.disk_journal.proofs.ReadLemmas.{bad_body, good_body}
 use Rattle.disk_journal.proofs.reader.read_frame.Goals as goal
 

@@ -1,7 +1,7 @@
 use Rattle.std.specs.Prelude.{◌+◌, ◌<◌, ◌≤◌, length}
 use Rattle.std.proofs.Common.{arith, subst}
 use Rattle.disk_journal.specs.Rest.{AddsFrame}
-use Rattle.disk_journal.proofs.LooksLemmas.{looks_then}
+use Rattle.bench_disk.specs.Runs.{looks_then}
 use Rattle.disk_journal.proofs.ReadLemmas.{read_more}
 use Rattle.disk_journal.proofs.reader.read_frames.Goals as goal
 
@@ -19,5 +19,6 @@ loop-payloads-preserved g c =
       looks = λ tells.
           looks_then g.D.Disk.reads g.D.Disk.images g.D.Disk.images_since g.D.Disk.moment (λ disk t image. g.met.D.Disk.now_counts disk t image tells) (λ disk s t image. g.met.D.Disk.earlier_counts disk s t image tells)
           _ _ _ (c.loop-payloads.invariant.looks tells) (c.in_ok-next.ensures.looks tells);
+      later = omega (arith, c.loop-payloads.invariant.later, c.in_ok-next.ensures.later);
       faults = omega (arith, c.loop-payloads.invariant.faults, c.in_ok-next.ensures.faults);
     }

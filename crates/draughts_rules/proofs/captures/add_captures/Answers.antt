@@ -5,7 +5,7 @@ use Rattle.draughts_board.specs.Geometry.{squares}
 use Rattle.draughts_board.specs.Board.{Board}
 use Rattle.draughts_board.specs.Rules.{is_jump}
 use Rattle.draughts_board.specs.Play.{is_done, grown, starts}
-use Rattle.draughts_rules.proofs.NoCapture.{done-at_start, starts-by_jump}
+use Rattle.draughts_board.proofs.NoCapture.{done-at_start, starts-by_jump}
 use Rattle.draughts_rules.proofs.captures.add_captures.Goals as goal
 
 pub grow-requires-clause-begun : goal.grow-requires-clause-begun

@@ -5,8 +5,8 @@ use Rattle.std.proofs.lemmas.List.Elements.{All-contains, filter_passes}
 use Rattle.draughts_board.specs.Geometry.{squares}
 use Rattle.draughts_board.specs.Rules.{is_own}
 use Rattle.draughts_board.specs.Play.{grown, starts, captures}
-use Rattle.draughts_rules.proofs.Turns.{filter_turn}
-use Rattle.draughts_rules.proofs.NoCapture.{filter-starts}
+use Rattle.draughts_board.proofs.Turns.{filter_turn}
+use Rattle.draughts_board.proofs.NoCapture.{filter-starts}
 use Rattle.draughts_rules.proofs.captures.captures.Goals as goal
 
 pub add_captures-requires-clause-own : goal.add_captures-requires-clause-own

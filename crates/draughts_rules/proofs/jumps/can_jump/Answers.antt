@@ -1,7 +1,7 @@
 use Rattle.std.proofs.Common.{◌∙◌, ap}
 use Rattle.std.specs.List.{list_any}
 use Rattle.draughts_rules.specs.Conditions.{is_open_jump}
-use Rattle.draughts_rules.proofs.TableRules.{open_jumps}
+use Rattle.draughts_rules.proofs.NearSquareRules.{open_jumps}
 use Rattle.draughts_rules.proofs.jumps.can_jump.Goals as goal
 
 pub returns : goal.returns

@@ -2,10 +2,10 @@ use Rattle.std.proofs.Common.{◌<◌, ◌∙◌, length, sym, ap, subst, List, 
 use Rattle.std.specs.Prelude.{filter}
 use Rattle.std.proofs.lemmas.List.{take_all}
 use Rattle.draughts_board.specs.Geometry.{IsSquare}
-use Rattle.draughts_rules.specs.Tables.{jump_row}
+use Rattle.draughts_rules.specs.NearSquares.{jump_row}
 use Rattle.draughts_rules.specs.Conditions.{is_open_further}
-use Rattle.draughts_rules.proofs.Filters.{filter-few}
-use Rattle.draughts_rules.proofs.TableRules.{open_further}
+use Rattle.draughts_board.proofs.Filters.{filter-few}
+use Rattle.draughts_rules.proofs.NearSquareRules.{open_further}
 use Rattle.draughts_rules.proofs.jumps.further_jumps.Goals as goal
 
 pub add_further-requires-clause-room : goal.add_further-requires-clause-room

@@ -12,4 +12,4 @@ nothing_jumped (x ∷ []) cells h = refl
 nothing_jumped (x ∷ z ∷ rest) cells h = absurd (omega arith)
 
 pub returns-in_default : goal.returns-in_default
-returns-in_default t c = nothing_jumped c.args.path.now c.args.cells.now c.in_default.len_below
+returns-in_default t c = λ i. record { cells = nothing_jumped c.args.path.now c.args.p.now.cells c.in_default.len_below i; to_move = c.args.p.now.to_move }

@@ -5,7 +5,7 @@ use Rattle.std.proofs.lemmas.List.{take_all, append-nil}
 use Rattle.draughts_board.specs.Board.{Board, same_board}
 use Rattle.draughts_board.specs.Rules.{after, first_places}
 use Rattle.draughts_board.specs.Play.{successors_of}
-use Rattle.draughts_rules.proofs.FirstPlaces.{first_places-turn}
+use Rattle.draughts_board.proofs.FirstPlaces.{first_places-turn}
 use Rattle.draughts_rules.proofs.next.successors.Goals as goal
 use Rattle.draughts_rules.proofs.next.successors.Goals.{then-not-contains+in_ok-push, else-not-contains}
 

@@ -2,7 +2,7 @@ use Rattle.std.proofs.Common.{◌≡◌, ◌∙◌, Bool, true, not, sym, ap, Li
 use Rattle.std.specs.Prelude.{Some}
 use Rattle.draughts_board.specs.Board.{Board, same_board}
 use Rattle.draughts_board.specs.Rules.{after}
-use Rattle.draughts_rules.proofs.Written.{first-found}
+use Rattle.draughts_board.proofs.Written.{first-found}
 use Rattle.draughts_rules.proofs.resolution.first_elsewhere.Goals as goal
 
 pub returns-then-ne : goal.returns-then-ne

@@ -1,5 +1,5 @@
 use Rattle.std.proofs.Common.{◌≡◌, [], take}
-use Rattle.draughts_rules.specs.Resolution.{elsewhere}
+use Rattle.draughts_board.specs.Resolution.{elsewhere}
 use Rattle.draughts_rules.proofs.resolution.first_elsewhere.Given as goal
 
 abbrev pub invariant-loop-m : goal.invariant-loop-m

@@ -1,7 +1,7 @@
 use Rattle.std.proofs.Common.{◌∙◌, sym, ap, List, ℕ}
 use Rattle.draughts_board.specs.Board.{Board}
-use Rattle.draughts_rules.specs.Resolution.{first_of, elsewhere, meaning_beside}
-use Rattle.draughts_rules.proofs.Written.{behind_first, meaning-apart, Contains-behind}
+use Rattle.draughts_board.specs.Resolution.{first_of, elsewhere, meaning_beside}
+use Rattle.draughts_board.proofs.Written.{behind_first, meaning-apart, Contains-behind}
 use Rattle.draughts_rules.proofs.resolution.meaning.Goals as goal
 
 pub first_elsewhere-requires : goal.first_elsewhere-requires

@@ -5,9 +5,9 @@ use Rattle.draughts_board.specs.Board.{Board}
 use Rattle.draughts_board.specs.Rules.{AreLegalPaths, IsLegal}
 use Rattle.draughts_board.specs.Play.{legal_paths}
 use Rattle.draughts_board.proofs.Members.{Contains-from_filter}
-use Rattle.draughts_rules.specs.declared.resolution.ResolveRefusal.{ResolveRefusal}
-use Rattle.draughts_rules.specs.Resolution.{is_written, matches, meaning}
-use Rattle.draughts_rules.proofs.Written.{meaning-among, unless-memory, behind-map_err}
+use Rattle.draughts_board.specs.declared.resolution.ResolveRefusal.{ResolveRefusal}
+use Rattle.draughts_board.specs.Resolution.{is_written, matches, meaning}
+use Rattle.draughts_board.proofs.Written.{meaning-among, unless-memory, behind-map_err}
 use Rattle.draughts_rules.proofs.resolution.resolve.Goals as goal
 
 pub meaning-requires : goal.meaning-requires

@@ -2,8 +2,8 @@ use Rattle.std.proofs.Common.{◌∙◌, ◌++◌, ◌∷◌, [], ℕ, ap, arith
 use Rattle.std.specs.Prelude.{filter, flat_map}
 use Rattle.std.proofs.lemmas.List.{take_all}
 use Rattle.draughts_rules.specs.Conditions.{is_open_step}
-use Rattle.draughts_rules.proofs.Turns.{filter_turn}
-use Rattle.draughts_rules.proofs.TableRules.{open_steps}
+use Rattle.draughts_board.proofs.Turns.{filter_turn}
+use Rattle.draughts_rules.proofs.NearSquareRules.{open_steps}
 use Rattle.draughts_rules.proofs.steps.add_steps.Goals as goal
 
 pub loop-number-preserved : goal.loop-number-preserved

@@ -1,22 +1,32 @@
-use Rattle.std.proofs.Common.{◌≡◌, ◌<◌, sym, subst}
-use Rattle.std.specs.Prelude.{MatchBool, slice_index}
-use Rattle.endgame_table.specs.Rounds.{undecided, IsAfterLosses}
-use Rattle.endgame_table.proofs.Counting.{found-more, found-same, searched-more}
+use Rattle.std.proofs.Common.{◌≡◌, ◌+◌, ◌<◌, length, drop, refl, ◌∙◌, subst, arith}
+use Rattle.std.specs.Prelude.{flat_map, slice_index}
+use Rattle.std.proofs.lemmas.List.{get_or_default}
+use Rattle.endgame_table.specs.Marking.{MarksLast}
+use Rattle.endgame_table.specs.Rounds.{loss}
+use Rattle.endgame_table.specs.Origins.{origins_from, origins_at}
+use Rattle.endgame_table.proofs.LeftTargets.{left_from, none_left}
+use Rattle.endgame_table.proofs.MarkLastLemmas.{MarksLastRest, last-turn, last-end}
 use Rattle.endgame_table.proofs.rounds.find_losses.Goals as goal
-use Rattle.endgame_table.proofs.rounds.find_losses.Goals.{then-settle_loss, else-settle_loss}
 
-pub loop-index-preserved : goal.loop-index-preserved
-loop-index-preserved c =
-    let old = c.args.numbers.now in
-    let now = c.loop-index.numbers in
-    let new = c.settle_loss.new.numbers in
-    let finds : MatchBool c.if-settle_loss.found (undecided new < undecided old) (new ≡ old) =
-    elim c.if-settle_loss.branch [
-      | then-settle_loss w ↦ subst (λ b. MatchBool b (undecided new < undecided old) (new ≡ old)) (sym w.found-is)
-          (found-more old now new c.loop-index.found c.loop-index.invariant.finds w.if-settle_loss.ensures.found)
-      | else-settle_loss w ↦ subst (λ b. MatchBool b (undecided new < undecided old) (new ≡ old)) (sym w.found-is)
-          (found-same old now new c.loop-index.found c.loop-index.invariant.finds w.if-settle_loss.ensures.found)
-    ] in
-    searched-more c.args.rank c.args.rows.now old now new c.loop-index.index c.loop-index.found c.if-settle_loss.found c.loop-index.invariant
-    (subst (λ row. IsAfterLosses c.args.rank now row (slice_index now c.loop-index.index) (slice_index new c.loop-index.index)) c.row.ensures c.settle_loss.ensures.after)
-    c.settle_loss.ensures.others finds
+pub loop-target-preserved : goal.loop-target-preserved
+loop-target-preserved c =
+    let o = c.args.origins.now in
+    let targets = c.args.won.now in
+    let k = c.loop-target.target-index in
+    let t = slice_index targets k in
+    let all = flat_map (origins_at o) targets in
+    let below : t < length o.heads.items = (let inside = c.requires.won k 0 c.loop-target-test.true in let heads = c.requires.origins.heads in omega (arith, inside, heads)) in
+    let head : c.index-first.result.now ≡ slice_index o.heads.items t = c.index-first.ensures ∙ get_or_default o.heads.items t c.index-first.result.now 0 below in
+    let marks : MarksLast (loss c.args.rank) (origins_at o t) c.loop-target.waiting c.mark_last_origins.new.waiting c.loop-target.numbers c.mark_last_origins.new.numbers c.loop-target.lost.items c.mark_last_origins.new.found.items
+    = subst (λ l. MarksLast (loss c.args.rank) l c.loop-target.waiting c.mark_last_origins.new.waiting c.loop-target.numbers c.mark_last_origins.new.numbers c.loop-target.lost.items c.mark_last_origins.new.found.items) (λ i. origins_from (c.deref.ensures.value i) (head i)) c.in_ok-mark_last_origins.ensures in
+    last-turn (loss c.args.rank) all (origins_at o t) (flat_map (origins_at o) (drop (k + 1) targets)) c.args.waiting.now c.loop-target.waiting c.mark_last_origins.new.waiting c.args.numbers.now c.loop-target.numbers c.mark_last_origins.new.numbers c.args.lost.now.items c.loop-target.lost.items c.mark_last_origins.new.found.items
+    (subst (λ l. MarksLastRest (loss c.args.rank) all l c.args.waiting.now c.loop-target.waiting c.args.numbers.now c.loop-target.numbers c.args.lost.now.items c.loop-target.lost.items) (left_from o targets k t c.loop-target-test.true refl) c.loop-target.invariant)
+    marks c.mark_last_origins.auto.numbers
+
+pub returns : goal.returns
+returns c =
+    let o = c.args.origins.now in
+    let targets = c.args.won.now in
+    let none = none_left o targets c.loop-target.target-index (omega arith) in
+    last-end (loss c.args.rank) (flat_map (origins_at o) targets) c.args.waiting.now c.loop-target.waiting c.args.numbers.now c.loop-target.numbers c.args.lost.now.items c.loop-target.lost.items
+    (subst (λ l. MarksLastRest (loss c.args.rank) (flat_map (origins_at o) targets) l c.args.waiting.now c.loop-target.waiting c.args.numbers.now c.loop-target.numbers c.args.lost.now.items c.loop-target.lost.items) none c.loop-target.invariant)

@@ -1,5 +1,5 @@
 use Rattle.std.proofs.Common.{◌∙◌}
-use Rattle.opening_bench.proofs.RefusalLemmas.{line_taken}
+use Rattle.opening_bench.proofs.WritingLemmas.{line_taken}
 use Rattle.opening_bench.proofs.bench.refuse.Goals as goal
 
 pub returns-clause-line : goal.returns-clause-line

@@ -32,4 +32,5 @@ loop-at-preserved c =
     reached_skip c.args.text.now c.loop-at.at (progress c.loop-at.gathered) c.begins_line.result c.in_ok-end.field-0 c.loop-at.invariant c.begins_line.ensures c.in_ok-end.ensures.gives c.in-None.is c.in_ok-end.ensures.inside
 
 pub returns-clause-games : goal.returns-clause-games
-returns-clause-games c = reads_all c.args.text.now c.loop-at.at (progress c.loop-at.gathered) c.finish.result c.loop-at.invariant (omega arith) c.finish.ensures.ok
+returns-clause-games c =
+    reads_all c.args.text.now c.loop-at.at (progress c.loop-at.gathered) c.in_ok-finish.field-0.items c.loop-at.invariant (omega arith) c.in_ok-finish.ensures

@@ -1,6 +1,6 @@
-use Rattle.std.proofs.Common.{sym, ap, ap₂, ◌∙◌, ◌*◌, ◌/◌, ◌≡◌, arith}
+use Rattle.std.proofs.Common.{sym, ap, ◌∙◌, ◌≡◌, arith}
 use Rattle.table_index.specs.Counting.{choose}
-use Rattle.table_index.proofs.Choosing.{choose-none, choose-one, choose-two, choose-three}
+use Rattle.table_index.proofs.Choosing.{choose-none, choose-one}
 use Rattle.table_index.proofs.counts.choices_of.Goals as goal
 
 pub returns-in-0 : goal.returns-in-0
@@ -10,12 +10,9 @@ pub returns-in-1 : goal.returns-in-1
 returns-in-1 c = sym (ap (λ n. choose n c.args.squares) c.in-1.is ∙ choose-one c.args.squares c.requires.squares)
 
 pub returns-in-2 : goal.returns-in-2
-returns-in-2 c =
-    ap (λ m. c.args.squares * m / 2) c.saturating_sub.ensures
-    ∙ sym (ap (λ n. choose n c.args.squares) c.in-2.is ∙ choose-two c.args.squares c.requires.squares)
+returns-in-2 c = c.pairs_of.ensures ∙ sym (ap (λ n. choose n c.args.squares) c.in-2.is)
 
 pub returns-in_default : goal.returns-in_default
 returns-in_default c =
     let three : c.args.pieces ≡ 3 = omega arith in
-    ap₂ (λ m k. c.args.squares * m * k / 6) c.saturating_sub-in_default.ensures c.saturating_sub-in_default-2.ensures
-    ∙ sym (ap (λ n. choose n c.args.squares) three ∙ choose-three c.args.squares c.requires.squares)
+    c.triples_of.ensures ∙ sym (ap (λ n. choose n c.args.squares) three)

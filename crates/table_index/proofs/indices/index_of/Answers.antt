@@ -1,100 +1,77 @@
-use Rattle.std.proofs.Common.{◌≡◌, false, get_or, sym, ap, ap₂, subst, ◌∙◌, ◌+◌, ◌-◌, ◌*◌, ◌^◌, ◌<◌, suc, drop, subst₂, arith}
-use Rattle.draughts_board.specs.declared.pieces.Cell.TheVariants.{Empty}
-use Rattle.draughts_board.specs.Board.{is_empty, piece_count}
-use Rattle.table_index.specs.Order.{first_index, side_number}
-use Rattle.table_index.proofs.Steps.{IsTally, lawful-few, step-piece, tally-start, tally-end}
+use Rattle.std.proofs.Common.{◌≡◌, sym, ap, ap₂, subst₂, ◌∙◌, ◌+◌, ◌-◌, ◌*◌, ◌^◌, arith}
+use Rattle.std.specs.Int.Bits.{bit_and}
+use Rattle.draughts_board.specs.Board.{Board, piece_count, cell_at}
+use Rattle.table_index.specs.Counting.{choose}
+use Rattle.table_index.specs.Order.{kind, first_index, side_number}
+use Rattle.table_index.proofs.SquaresLeft.{IsLeft, left-start, left-turn, left-end, kind_by-masks}
 use Rattle.table_index.proofs.indices.index_of.Goals as goal
 
-pub loop-i-init : goal.loop-i-init
-loop-i-init c = tally-start _ (lawful-few c.args.p.now c.cells-cells.result c.cells-cells.ensures.value c.cells-cells.ensures.lawful c.requires)
-
-pub overflow_add-pieces : goal.overflow_add-pieces
-overflow_add-pieces c =
-    let fits = lawful-few c.args.p.now c.cells-cells.result c.cells-cells.ensures.value c.cells-cells.ensures.lawful c.requires in
-    let some : is_empty (get_or c.cells-cells.result (c.loop-i.i - 1) Empty) ≡ false = sym c.is_empty.ensures ∙ c.if-not-is_empty.true in
-    let step = step-piece _ c.loop-i.i _ _ _ _ fits c.loop-i-test.true c.loop-i.auto.i some c.loop-i.invariant in
-    omega (arith, step.room)
+pub loop-left-init : goal.loop-left-init
+loop-left-init c =
+    let count : c.from-pieces.result ≡ piece_count c.args.p.now = omega (arith, c.from-pieces.ensures, c.count.ensures.value, c.count-2.ensures.value) in
+    left-start c.args.p.now c.occupied-left.result c.from-pieces.result c.occupied-left.ensures.lawful c.requires count c.occupied-left.ensures.squares
 
 pub choices_of-later-requires-clause-pieces : goal.choices_of-later-requires-clause-pieces
-choices_of-later-requires-clause-pieces c =
-    let fits = lawful-few c.args.p.now c.cells-cells.result c.cells-cells.ensures.value c.cells-cells.ensures.lawful c.requires in
-    let some : is_empty (get_or c.cells-cells.result (c.loop-i.i - 1) Empty) ≡ false = sym c.is_empty.ensures ∙ c.if-not-is_empty.true in
-    (step-piece _ c.loop-i.i _ _ _ _ fits c.loop-i-test.true c.loop-i.auto.i some c.loop-i.invariant).room
+choices_of-later-requires-clause-pieces c = c.loop-left.invariant.few
 
 pub overflow_add-later : goal.overflow_add-later
 overflow_add-later c =
-    let fits = lawful-few c.args.p.now c.cells-cells.result c.cells-cells.ensures.value c.cells-cells.ensures.lawful c.requires in
-    let some : is_empty (get_or c.cells-cells.result (c.loop-i.i - 1) Empty) ≡ false = sym c.is_empty.ensures ∙ c.if-not-is_empty.true in
-    let step = step-piece _ c.loop-i.i _ _ _ _ fits c.loop-i-test.true c.loop-i.auto.i some c.loop-i.invariant in
-    omega (arith, step.behind, c.choices_of-later.ensures)
+    let turn = left-turn c.args.p.now _ _ _ _ _ _ c.occupied-left.ensures.lawful c.requires c.lowest-square.ensures.first c.loop-left.invariant in
+    let later = c.choices_of-later.ensures ∙ ap (λ n. choose c.loop-left.behind (32 - n)) (c.from.ensures ∙ c.number.ensures.value) in
+    omega (arith, turn.past_fits, later)
 
 pub overflow_mul-kinds : goal.overflow_mul-kinds
 overflow_mul-kinds c =
-    let fits = lawful-few c.args.p.now c.cells-cells.result c.cells-cells.ensures.value c.cells-cells.ensures.lawful c.requires in
-    let some : is_empty (get_or c.cells-cells.result (c.loop-i.i - 1) Empty) ≡ false = sym c.is_empty.ensures ∙ c.if-not-is_empty.true in
-    let step = step-piece _ c.loop-i.i _ _ _ _ fits c.loop-i-test.true c.loop-i.auto.i some c.loop-i.invariant in
-    omega (arith, step.kinds, ap (λ d. d * c.loop-i.weight) c.kind.ensures.value)
+    let turn = left-turn c.args.p.now _ _ _ _ _ _ c.occupied-left.ensures.lawful c.requires c.lowest-square.ensures.first c.loop-left.invariant in
+    omega (arith, turn.kinds_fit)
 
 pub overflow_add-kinds : goal.overflow_add-kinds
 overflow_add-kinds c =
-    let fits = lawful-few c.args.p.now c.cells-cells.result c.cells-cells.ensures.value c.cells-cells.ensures.lawful c.requires in
-    let some : is_empty (get_or c.cells-cells.result (c.loop-i.i - 1) Empty) ≡ false = sym c.is_empty.ensures ∙ c.if-not-is_empty.true in
-    let step = step-piece _ c.loop-i.i _ _ _ _ fits c.loop-i-test.true c.loop-i.auto.i some c.loop-i.invariant in
-    omega (arith, step.kinds, ap (λ d. d * c.loop-i.weight) c.kind.ensures.value)
+    let turn = left-turn c.args.p.now _ _ _ _ _ _ c.occupied-left.ensures.lawful c.requires c.lowest-square.ensures.first c.loop-left.invariant in
+    let digit = c.kind_in.ensures.value ∙ kind_by-masks c.args.p.now c.masks.result c.lowest-square.result c.masks.ensures.squares c.kind_in.ensures.square in
+    omega (arith, turn.kinds_fit, digit)
 
-pub overflow_mul-weight : goal.overflow_mul-weight
-overflow_mul-weight c =
-    let fits = lawful-few c.args.p.now c.cells-cells.result c.cells-cells.ensures.value c.cells-cells.ensures.lawful c.requires in
-    let some : is_empty (get_or c.cells-cells.result (c.loop-i.i - 1) Empty) ≡ false = sym c.is_empty.ensures ∙ c.if-not-is_empty.true in
-    let step = step-piece _ c.loop-i.i _ _ _ _ fits c.loop-i-test.true c.loop-i.auto.i some c.loop-i.invariant in
-    omega (arith, step.weight)
+pub overflow_sub-behind : goal.overflow_sub-behind
+overflow_sub-behind c =
+    let turn = left-turn c.args.p.now _ _ _ _ _ _ c.occupied-left.ensures.lawful c.requires c.lowest-square.ensures.first c.loop-left.invariant in
+    turn.some
 
-pub loop-i-preserved-then-not-is_empty : goal.loop-i-preserved-then-not-is_empty
-loop-i-preserved-then-not-is_empty c =
-    let cells = c.cells-cells.result in
-    let i = c.loop-i.i in
-    let fits = lawful-few c.args.p.now cells c.cells-cells.ensures.value c.cells-cells.ensures.lawful c.requires in
-    let some : is_empty (get_or cells (i - 1) Empty) ≡ false = sym c.is_empty.ensures ∙ c.if-not-is_empty.true in
-    let step = step-piece cells i _ _ _ _ fits c.loop-i-test.true c.loop-i.auto.i some c.loop-i.invariant in
-    subst₂ (λ x y. IsTally (drop (i - 1) cells) (c.loop-i.pieces + 1) (c.loop-i.later + x) (c.loop-i.kinds + y * c.loop-i.weight) (c.loop-i.weight * 4))
-    (sym c.choices_of-later.ensures) (sym c.kind.ensures.value) step.tally
-
-pub choices_of-requires-clause-pieces : goal.choices_of-requires-clause-pieces
-choices_of-requires-clause-pieces c =
-    (tally-end c.args.p.now _ c.loop-i.i _ _ _ _ c.cells-cells.ensures.value c.cells-cells.ensures.lawful c.requires c.loop-i-test.false c.loop-i.invariant).few
+pub loop-left-preserved : goal.loop-left-preserved
+loop-left-preserved c =
+    let p : Board = c.args.p.now in
+    let turn = left-turn p _ _ _ _ _ _ c.occupied-left.ensures.lawful c.requires c.lowest-square.ensures.first c.loop-left.invariant in
+    let later = c.choices_of-later.ensures ∙ ap (λ n. choose c.loop-left.behind (32 - n)) (c.from.ensures ∙ c.number.ensures.value) in
+    let digit : c.kind_in.result ≡ kind (cell_at p c.lowest-square.result) = c.kind_in.ensures.value ∙ kind_by-masks p c.masks.result c.lowest-square.result c.masks.ensures.squares c.kind_in.ensures.square in
+    subst₂ (λ x k. IsLeft p (bit_and c.loop-left.left (c.loop-left.left - 1)) (c.loop-left.behind - 1) (c.loop-left.later + x) (c.loop-left.kinds * 4 + k)) (sym later) (sym digit) turn.left
 
 pub overflow_sub-choice : goal.overflow_sub-choice
 overflow_sub-choice c =
-    let whole = tally-end c.args.p.now _ c.loop-i.i _ _ _ _ c.cells-cells.ensures.value c.cells-cells.ensures.lawful c.requires c.loop-i-test.false c.loop-i.invariant in
-    omega (arith, whole.choice, c.choices_of.ensures)
+    let count : c.from-pieces.result ≡ piece_count c.args.p.now = omega (arith, c.from-pieces.ensures, c.count.ensures.value, c.count-2.ensures.value) in
+    let w = left-end c.args.p.now c.loop-left.left c.loop-left.behind c.loop-left.later c.loop-left.kinds c.from-pieces.result c.occupied-left.ensures.lawful c.requires count c.loop-left-test.false c.loop-left.invariant in
+    omega (arith, w.choice, c.choices_of.ensures)
 
 pub overflow_sub-choice-2 : goal.overflow_sub-choice-2
 overflow_sub-choice-2 c =
-    let whole = tally-end c.args.p.now _ c.loop-i.i _ _ _ _ c.cells-cells.ensures.value c.cells-cells.ensures.lawful c.requires c.loop-i-test.false c.loop-i.invariant in
-    omega (arith, whole.choice, c.choices_of.ensures)
-
-pub index_at-requires-clause-pieces : goal.index_at-requires-clause-pieces
-index_at-requires-clause-pieces c =
-    (tally-end c.args.p.now _ c.loop-i.i _ _ _ _ c.cells-cells.ensures.value c.cells-cells.ensures.lawful c.requires c.loop-i-test.false c.loop-i.invariant).few
+    let count : c.from-pieces.result ≡ piece_count c.args.p.now = omega (arith, c.from-pieces.ensures, c.count.ensures.value, c.count-2.ensures.value) in
+    let w = left-end c.args.p.now c.loop-left.left c.loop-left.behind c.loop-left.later c.loop-left.kinds c.from-pieces.result c.occupied-left.ensures.lawful c.requires count c.loop-left-test.false c.loop-left.invariant in
+    omega (arith, w.choice, c.choices_of.ensures)
 
 pub index_at-requires-clause-choice : goal.index_at-requires-clause-choice
 index_at-requires-clause-choice c =
-    let whole = tally-end c.args.p.now _ c.loop-i.i _ _ _ _ c.cells-cells.ensures.value c.cells-cells.ensures.lawful c.requires c.loop-i-test.false c.loop-i.invariant in
-    omega (arith, whole.choice, c.choices_of.ensures)
+    let count : c.from-pieces.result ≡ piece_count c.args.p.now = omega (arith, c.from-pieces.ensures, c.count.ensures.value, c.count-2.ensures.value) in
+    let w = left-end c.args.p.now c.loop-left.left c.loop-left.behind c.loop-left.later c.loop-left.kinds c.from-pieces.result c.occupied-left.ensures.lawful c.requires count c.loop-left-test.false c.loop-left.invariant in
+    omega (arith, w.choice, c.choices_of.ensures)
 
 pub index_at-requires-clause-kinds : goal.index_at-requires-clause-kinds
 index_at-requires-clause-kinds c =
-    (tally-end c.args.p.now _ c.loop-i.i _ _ _ _ c.cells-cells.ensures.value c.cells-cells.ensures.lawful c.requires c.loop-i-test.false c.loop-i.invariant).kinds
+    let count : c.from-pieces.result ≡ piece_count c.args.p.now = omega (arith, c.from-pieces.ensures, c.count.ensures.value, c.count-2.ensures.value) in
+    let w = left-end c.args.p.now c.loop-left.left c.loop-left.behind c.loop-left.later c.loop-left.kinds c.from-pieces.result c.occupied-left.ensures.lawful c.requires count c.loop-left-test.false c.loop-left.invariant in
+    w.kinds
 
 pub returns-clause-value : goal.returns-clause-value
 returns-clause-value c =
-    let whole = tally-end c.args.p.now _ c.loop-i.i _ _ _ _ c.cells-cells.ensures.value c.cells-cells.ensures.lawful c.requires c.loop-i-test.false c.loop-i.invariant in
+    let count : c.from-pieces.result ≡ piece_count c.args.p.now = omega (arith, c.from-pieces.ensures, c.count.ensures.value, c.count-2.ensures.value) in
+    let w = left-end c.args.p.now c.loop-left.left c.loop-left.behind c.loop-left.later c.loop-left.kinds c.from-pieces.result c.occupied-left.ensures.lawful c.requires count c.loop-left-test.false c.loop-left.invariant in
     c.index_at.ensures.value
-    ∙ ap₂ (λ x s. first_index c.loop-i.pieces + ((x - 1 - c.loop-i.later) * 4 ^ c.loop-i.pieces + c.loop-i.kinds) * 2 + side_number s) c.choices_of.ensures c.to_move.ensures.value
-    ∙ whole.index
-
-pub returns-clause-range : goal.returns-clause-range
-returns-clause-range c =
-    let whole = tally-end c.args.p.now _ c.loop-i.i _ _ _ _ c.cells-cells.ensures.value c.cells-cells.ensures.lawful c.requires c.loop-i-test.false c.loop-i.invariant in
-    let next : c.loop-i.pieces + 1 ≡ suc (piece_count c.args.p.now) = omega (arith, whole.count) in
-    subst (λ n. c.index_at.result < first_index n) next c.index_at.ensures.range
+    ∙ ap₂ (λ x s. first_index c.from-pieces.result + ((x - 1 - c.loop-left.later) * 4 ^ c.from-pieces.result + c.loop-left.kinds) * 2 + side_number s) c.choices_of.ensures c.to_move.ensures.value
+    ∙ w.index

@@ -1,25 +1,10 @@
-use Rattle.std.proofs.Common.{◌≡◌, ◌∷◌, ◌++◌, List, [], ◌∙◌, ap, sym, subst}
-use Rattle.std.specs.Prelude.{All, Contains}
-use Rattle.indexmap.proofs.CallerLemmas.{insert_entry-new}
-use Rattle.draughts_board.specs.Board.{Board, same_board}
+use Rattle.std.proofs.Common.{◌≡◌, ◌∷◌, ◌++◌, List, [], cond, ◌∙◌}
+use Rattle.draughts_board.specs.Board.{Board}
 use Rattle.draughts_board.specs.declared.pieces.Side.{Side}
 use Rattle.strategy_certificate.specs.declared.entries.WinEntry.{WinEntry}
-use Rattle.strategy_certificate.specs.Parts.{WinList, IsWinRow}
-use Rattle.strategy_certificate.proofs.RowLemmas.{none-from_absent, All-push}
+use Rattle.strategy_certificate.specs.Parts.{WinList}
+use Rattle.strategy_certificate.proofs.RowLemmas.{told_new}
 use Rattle.strategy_certificate.proofs.win_parts.WinPart.add.Goals as goal
-
--- the entries with the new one at their end
-added : (c : goal.In_ok-insert) → c.insert.new.self.entries ≡ c.self.inside.entries.entries ++ (c.args.p, c.args.e) ∷ []
-added c =
-    let same = ap (λ (w : WinList). w.entries) c.self.view_is in
-    let absent = none-from_absent c.self.inside.entries.entries c.args.p (λ h. c.requires.absent (h.0, subst (λ es. Contains es (c.args.p, h.0)) same h.1)) in
-    c.in_ok-insert.ensures.entries ∙ insert_entry-new same_board c.self.inside.entries c.args.p c.args.e absent
-
-pub invariant_of-self-2 : goal.invariant_of-self-2
-invariant_of-self-2 c = record {
-  distinct = c.in_ok-insert.ensures.unique;
-  rows = subst (All IsWinRow) (sym (added c)) (All-push IsWinRow c.self.inside.entries.entries (c.args.p, c.args.e) c.self.invariant.rows (c.note_rules.ensures.position, (c.requires.rank, c.note_rules.ensures.path)));
-}
 
 with_entries : Side → List (Board × WinEntry) → WinList
 with_entries s es = record { side = s; entries = es }
@@ -27,7 +12,6 @@ with_entries s es = record { side = s; entries = es }
 pub returns-clause-ok : goal.returns-clause-ok
 unfolding with_entries
 returns-clause-ok c =
-    let same = ap (λ (w : WinList). w.entries) c.self.view_is in
-    let side = ap (λ (w : WinList). w.side) c.self.view_is in
-    let entries = added c ∙ ap (λ es. es ++ (c.args.p, c.args.e) ∷ []) same in
-    λ i. with_entries (side i) (entries i)
+    let old = c.args.self.now in
+    let is_new = told_new c.in_ok-add_new.field-0 c.in_ok-add_new.ensures.tells c.requires.absent in
+    c.in_ok-add_new.ensures.entries ∙ (λ i. with_entries old.side (cond (is_new i) (old.entries ++ (c.args.p, c.args.e) ∷ []) old.entries))

@@ -1,0 +1,9 @@
+pub mod Numbers
+pub mod Masks
+pub mod Fields
+pub mod Formats
+pub mod Spots
+pub mod Rows
+pub mod Texts
+pub mod Exact
+pub mod Written

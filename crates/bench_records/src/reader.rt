@@ -1,0 +1,217 @@
+//! Reading fields from the front of bytes.
+ghost use Rattle.std.specs.Prelude.{◌≡◌, ◌≢◌, ◌+◌, ◌<◌, ◌≤◌, ◌^◌, IfSome, IfNone, ◌++◌, length};
+ghost use Rattle.bench_records.specs.Positions.{short_text, long_text, side_byte, position_text};
+ghost use Rattle.bench_records.specs.Reading.{NoPosition};
+ghost use Rattle.draughts_board.specs.Board.{IsLawful};
+
+use crate::refusal::RecordRefusal;
+use draughts_board::{Move, Position, Side, Square};
+use std::marker::Model;
+
+/// The number of the first 4 bytes, the most significant first, and the bytes behind them.
+fn split_short(bytes: &[u8]) -> Option<(u32, &[u8])>
+    ensures some { IfSome result (λ cut.
+        (cut.0 < 2 ^ 32) × (bytes.now ≡ short_text cut.0 ++ cut.1.now)) }
+    ensures none { IfNone result (length bytes.now < 4) }
+{
+    if bytes.len() < 4 {
+        return None;
+    }
+    let (front, rest) = bytes.split_at(4);
+    let number = u32::from_be_bytes([front[0], front[1], front[2], front[3]]);
+    Some((number, rest))
+}
+
+/// The number of the first 8 bytes, the most significant first, and the bytes behind them.
+fn split_long(bytes: &[u8]) -> Option<(u64, &[u8])>
+    ensures some { IfSome result (λ cut.
+        (cut.0 < 2 ^ 64) × (bytes.now ≡ long_text cut.0 ++ cut.1.now)) }
+    ensures none { IfNone result (length bytes.now < 8) }
+{
+    if bytes.len() < 8 {
+        return None;
+    }
+    let (front, rest) = bytes.split_at(8);
+    let number = u64::from_be_bytes([
+        front[0], front[1], front[2], front[3], front[4], front[5], front[6], front[7],
+    ]);
+    Some((number, rest))
+}
+
+/// The side that this byte stands for.
+fn side_of(byte: u8) -> Option<Side>
+    ensures some { IfSome result (λ side. byte ≡ side_byte side) }
+    ensures none { IfNone result ((byte ≢ 0) × (byte ≢ 1)) }
+{
+    match byte {
+        0 => Some(Side::Black),
+        1 => Some(Side::White),
+        _ => None,
+    }
+}
+
+/// The position of the first 17 bytes, and the bytes behind them; none exactly where no position begins the bytes.
+fn split_position(bytes: &[u8]) -> Option<(Position, &[u8])>
+    ensures some { IfSome result (λ cut.
+        IsLawful cut.0 × (bytes.now ≡ position_text cut.0 ++ cut.1.now)) }
+    ensures none { IfNone result (NoPosition bytes.now) }
+{
+    let (side, rest) = bytes.split_first()?;
+    let to_move = side_of(*side)?;
+    let (black_men, rest) = split_short(rest)?;
+    let (black_kings, rest) = split_short(rest)?;
+    let (white_men, rest) = split_short(rest)?;
+    let (white_kings, rest) = split_short(rest)?;
+    let p = Position::of_masks([black_men, black_kings, white_men, white_kings], to_move)?;
+    Some((p, rest))
+}
+
+/// The bytes that are left, and the place of the first of them, counted from 0.
+#[derive(Drop)]
+pub(crate) struct Reader<'a> {
+    left: &'a [u8],
+    at: usize,
+}
+
+impl<'a> Model for Reader<'a> {
+    ghost use Rattle.std.specs.Prelude.{◌+◌, ◌<◌, ◌^◌, length};
+    ghost use Rattle.bench_records.specs.Reading.{Spot};
+
+    ghost Value = { Spot };
+
+    ghost view = { λ r. record { left = r.left.now; at = r.at } };
+
+    ghost invariant = { λ r. r.at + length r.left.now < 2 ^ 64 };
+}
+
+impl<'a> Reader<'a> {
+    ghost use Rattle.std.specs.Prelude.{IfOk, IfErr, [], ◌==◌};
+    ghost use Rattle.bench_records.specs.Formats.{one, byte, short, long, position};
+    ghost use Rattle.bench_records.specs.Orders.{is_between, choice_order, many, square_order};
+    ghost use Rattle.bench_records.specs.Reading.{Reads, Refuses};
+
+    /// A reader of these bytes from their first on.
+    pub(crate) fn new(bytes: &'a [u8]) -> Reader<'a>
+        ensures { result ≡ record { left = bytes.now; at = 0 } }
+    {
+        Reader { left: bytes, at: 0 }
+    }
+
+    /// The place of the next byte.
+    pub(crate) fn place(&self) -> usize
+        ensures { result ≡ self.now.at }
+    {
+        self.at
+    }
+
+    /// No byte is left.
+    pub(crate) fn is_at_end(&self) -> bool
+        ensures { result ≡ (length self.now.left == 0) }
+    {
+        self.left.is_empty()
+    }
+
+    /// A byte from the one number to the other.
+    pub(crate) fn byte(&mut self, least: u8, most: u8) -> Result<u8, RecordRefusal>
+        ensures ok { IfOk result (λ n.
+            Reads (one (byte (is_between least most))) self.old n self.new) }
+        ensures range { IfOk result (λ n. (least ≤ n) × (n ≤ most)) }
+        ensures err { IfErr result (Refuses (one (byte (is_between least most))) self.old) }
+        ensures place { IfErr result (λ refusal. refusal ≡ RecordRefusal.BadField self.old.at) }
+    {
+        let Some((n, rest)) = self.left.split_first() else {
+            return Err(RecordRefusal::BadField(self.at));
+        };
+        if *n < least || *n > most {
+            return Err(RecordRefusal::BadField(self.at));
+        }
+        self.left = rest;
+        self.at += 1;
+        Ok(*n)
+    }
+
+    /// A number of 4 bytes.
+    pub(crate) fn short(&mut self) -> Result<u32, RecordRefusal>
+        ensures ok { IfOk result (λ n. Reads (one short) self.old n self.new) }
+        ensures err { IfErr result (Refuses (one short) self.old) }
+    {
+        let Some((n, rest)) = split_short(self.left) else {
+            return Err(RecordRefusal::BadField(self.at));
+        };
+        self.left = rest;
+        self.at += 4;
+        Ok(n)
+    }
+
+    /// A number of 8 bytes, which is at most this.
+    pub(crate) fn long(&mut self, most: u64) -> Result<u64, RecordRefusal>
+        ensures ok { IfOk result (λ n. Reads (one (long most)) self.old n self.new) }
+        ensures most { IfOk result (λ n. n ≤ most) }
+        ensures err { IfErr result (Refuses (one (long most)) self.old) }
+    {
+        let Some((n, rest)) = split_long(self.left) else {
+            return Err(RecordRefusal::BadField(self.at));
+        };
+        if n > most {
+            return Err(RecordRefusal::BadField(self.at));
+        }
+        self.left = rest;
+        self.at += 8;
+        Ok(n)
+    }
+
+    /// A square.
+    fn square(&mut self) -> Result<Square, RecordRefusal>
+        ensures ok { IfOk result (λ s. Reads (square_order []) self.old s self.new) }
+        ensures err { IfErr result (Refuses (square_order []) self.old) }
+    {
+        let n = self.byte(1, 32)?;
+        Ok(Square::new(n).unwrap())
+    }
+
+    /// A path of so many squares.
+    fn path(&mut self, count: u8) -> Result<Move, RecordRefusal>
+        requires least { 2 ≤ count }
+        requires most { count ≤ 13 }
+        ensures ok { IfOk result (λ path.
+            Reads (many count square_order []) self.old path self.new) }
+        ensures err { IfErr result (Refuses (many count square_order []) self.old) }
+    {
+        let mut path = [Square::new(1).unwrap(); 13];
+        for i in 0..count as usize {
+            path[i] = self.square()?;
+        }
+        Ok(Move::of(&path[..count as usize]).unwrap())
+    }
+
+    /// The move that is chosen, if one is.
+    pub(crate) fn choice(&mut self) -> Result<Option<Move>, RecordRefusal>
+        ensures ok { IfOk result (λ chosen. Reads choice_order self.old chosen self.new) }
+        ensures err { IfErr result (Refuses choice_order self.old) }
+    {
+        let at = self.at;
+        let count = self.byte(0, 13)?;
+        if count == 1 {
+            return Err(RecordRefusal::BadField(at));
+        }
+        if count == 0 {
+            return Ok(None);
+        }
+        Ok(Some(self.path(count)?))
+    }
+
+    /// A position.
+    pub(crate) fn position(&mut self) -> Result<Position, RecordRefusal>
+        ensures ok { IfOk result (λ p. Reads (one (position [])) self.old p self.new) }
+        ensures err { IfErr result (Refuses (one (position [])) self.old) }
+    {
+        match split_position(self.left) {
+            Some(cut) => {
+                self.left = cut.1;
+                self.at += 17;
+                Ok(cut.0)
+            }
+            None => Err(RecordRefusal::BadField(self.at)),
+        }
+    }
+}

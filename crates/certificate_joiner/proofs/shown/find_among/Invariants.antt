@@ -1,0 +1,7 @@
+use Rattle.std.proofs.Common.{take}
+use Rattle.std.specs.Prelude.{All}
+use Rattle.certificate_joiner.specs.Strategy.{ShowsNone}
+use Rattle.certificate_joiner.proofs.shown.find_among.Given as goal
+
+abbrev pub invariant-loop-i : goal.invariant-loop-i
+invariant-loop-i l = All (ShowsNone l.quest.aim l.quest.side) (take l.i l.shown)

@@ -1,6 +1,0 @@
-use Rattle.std.proofs.Common.{◌≡◌, take}
-use Rattle.opening_bench.specs.Solving.{root_positions}
-use Rattle.opening_bench.proofs.solve.distinct_positions.Given as goal
-
-abbrev pub invariant-loop-opening : goal.invariant-loop-opening
-invariant-loop-opening l = l.positions.items ≡ root_positions (take l.opening-index l.openings)

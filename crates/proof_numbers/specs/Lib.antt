@@ -1,0 +1,5 @@
+pub mod Known
+pub mod Facts
+pub mod Sight
+pub mod Numbers
+pub mod Examples

@@ -1,0 +1,42 @@
+use Rattle.std.proofs.Common.{◌≡◌, ◌<◌, ℕ, None, List, length, map, get_or, arith, sym, ap, subst, ◌∙◌}
+use Rattle.std.specs.Map.{values_of}
+use Rattle.proof_tree.specs.declared.rows.Row.{Row}
+use Rattle.proof_tree.specs.Picking.{pick, pick_from}
+use Rattle.proof_tree.specs.Rows.{row_at, node_in, nodes_from}
+use Rattle.proof_tree.specs.Sound.{TreeState}
+use Rattle.proof_tree.proofs.Choosing.{nodes-forest}
+use Rattle.proof_tree.proofs.Picked.{picked-clause}
+use Rattle.proof_tree.proofs.Trees.{tops-are, valid}
+use Rattle.proof_tree.proofs.tree.Tree.pick.Goals as goal
+
+pub pick_from-requires-clause-inside : goal.pick_from-requires-clause-inside
+pick_from-requires-clause-inside g c i l =
+    let R = c.as_slice.ensures ∙ c.values.ensures.rest in
+    let D = c.deref.ensures.value in
+    let l' : i < length (values_of c.self.inside.roots.entries) = subst (λ (ts : List ℕ). i < length ts) R l in
+    let t = tops-are c.self.inside.rows.items (values_of c.self.inside.roots.entries) c.self.invariant.roots i l' in
+    subst (λ (ts : List ℕ). get_or ts i 0 < length c.deref.result.now) (sym R)
+    (subst (λ (rs : List Row). get_or (values_of c.self.inside.roots.entries) i 0 < length rs) (sym D) t.0)
+
+pub pick_from-requires-clause-tops : goal.pick_from-requires-clause-tops
+pick_from-requires-clause-tops g c i l =
+    let R = c.as_slice.ensures ∙ c.values.ensures.rest in
+    let D = c.deref.ensures.value in
+    let l' : i < length (values_of c.self.inside.roots.entries) = subst (λ (ts : List ℕ). i < length ts) R l in
+    let t = tops-are c.self.inside.rows.items (values_of c.self.inside.roots.entries) c.self.invariant.roots i l' in
+    subst (λ (ts : List ℕ). (row_at c.deref.result.now (get_or ts i 0)).parent ≡ None) (sym R)
+    (subst (λ (rs : List Row). (row_at rs (get_or (values_of c.self.inside.roots.entries) i 0)).parent ≡ None) (sym D) t.1)
+
+pub returns-clause-value : goal.returns-clause-value
+returns-clause-value g c =
+    let R = c.as_slice.ensures ∙ c.values.ensures.rest in
+    let D = c.deref.ensures.value in
+    c.pick_from.ensures
+    ∙ (λ i. pick_from (g.T.Taken.taken c.args.taken.now) (map (node_in (nodes_from 0 (D i))) (R i)))
+    ∙ ap (pick_from (g.T.Taken.taken c.args.taken.now)) (sym (nodes-forest (map (node_in (nodes_from 0 c.self.inside.rows.items)) (values_of c.self.inside.roots.entries))))
+    ∙ ap (λ (h : TreeState). pick (g.T.Taken.taken c.args.taken.now) h.forest) c.self.view_is
+
+pub returns-clause-leaf : goal.returns-clause-leaf
+returns-clause-leaf g c =
+    let v = valid c.self.inside.rows.items c.self.inside.roots.entries _ _ c.self.inside.spare c.self.invariant c.args.self.now c.self.view_is in
+    picked-clause (g.T.Taken.taken c.args.taken.now) c.args.self.now.forest c.pick_from.result (returns-clause-value g c) v.sound

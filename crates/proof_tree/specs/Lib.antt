@@ -1,0 +1,11 @@
+pub mod Forest
+pub mod Changes
+pub mod Picking
+pub mod Sound
+pub mod Laws
+pub mod Examples
+pub mod Kept
+pub mod Sums
+pub mod Rows
+pub mod Walking
+pub mod Code

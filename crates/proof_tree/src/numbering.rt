@@ -1,0 +1,127 @@
+//! The numbers of nodes, by those of their children.
+ghost use Rattle.std.specs.Prelude.{◌≡◌, ◌≢◌, ℕ, true, false, ◌<◌, ◌≤◌, ◌+◌, ◌^◌, length, map, Some};
+ghost use Rattle.proof_numbers.specs.Facts.{known};
+ghost use Rattle.proof_numbers.specs.Known.{joined, IsConsistent};
+ghost use Rattle.proof_numbers.specs.Numbers.{least_of, total_of};
+ghost use Rattle.proof_tree.specs.Changes.{learn};
+ghost use Rattle.proof_tree.specs.Forest.{folded, numbers_at};
+ghost use Rattle.proof_tree.specs.Picking.{left_to_show};
+ghost use Rattle.proof_tree.specs.Rows.{kept, row_at, own_of, slice_of, AreLinked, AreRekept, HaveSameLinks, Fits, AreCounted, IsCounted};
+ghost use Rattle.proof_tree.specs.Sums.{finite_sum, IsKeepable};
+
+use crate::rows::{KeptNumbers, Mark, Row};
+use draughts_board::Side;
+use proof_numbers::{Facts, Number, Numbers, leaf, least, total};
+
+/// The proof number, or the disproof number.
+pub(crate) fn left_to_show(by_proof: bool, numbers: Numbers) -> Number
+    ensures { result ≡ left_to_show by_proof numbers }
+{
+    if by_proof {
+        numbers.proof
+    } else {
+        numbers.disproof
+    }
+}
+
+/// The least of the children's proof numbers, or of their disproof numbers.
+fn least_among(children: &[Row], goal: Side, by_proof: bool) -> Number
+    ensures { result ≡ least_of (map (λ r. left_to_show by_proof (kept goal r)) children.now) }
+{
+    let mut best = Number::Infinite;
+    for child in children {
+        best = least(best, left_to_show(by_proof, child.kept(goal)));
+    }
+    best
+}
+
+/// The sum of the children's proof numbers, or of their disproof numbers.
+fn total_among(children: &[Row], goal: Side, by_proof: bool) -> Number
+    requires { finite_sum (map (λ r. left_to_show by_proof (kept goal r)) children.now) < 2 ^ 128 }
+    ensures { result ≡ total_of (map (λ r. left_to_show by_proof (kept goal r)) children.now) }
+{
+    let mut sum = Number::Finite(0);
+    for child in children {
+        sum = total(sum, left_to_show(by_proof, child.kept(goal)));
+    }
+    sum
+}
+
+/// The numbers of an expanded node that its facts do not decide, by those that its children keep.
+fn folded(children: &[Row], goal: Side, goal_moves: bool) -> Numbers
+    requires proof { finite_sum (map (λ r. left_to_show true (kept goal r)) children.now) < 2 ^ 63 }
+    requires disproof { finite_sum (map (λ r. left_to_show false (kept goal r)) children.now)
+        < 2 ^ 63 }
+    ensures { result ≡ folded goal_moves (map (kept goal) children.now) }
+{
+    if goal_moves {
+        Numbers {
+            proof: least_among(children, goal, true),
+            disproof: total_among(children, goal, false),
+        }
+    } else {
+        Numbers {
+            proof: total_among(children, goal, true),
+            disproof: least_among(children, goal, false),
+        }
+    }
+}
+
+/// The numbers of a row's node, by those that its children keep, where each row behind it keeps right ones.
+fn numbers_of(rows: &[Row], at: usize, goal: Side) -> Numbers
+    requires inside { at < length rows.now }
+    requires linked { AreLinked rows.now }
+    requires few { length rows.now < 2 ^ 57 }
+    requires counted { IsCounted rows.now at }
+    requires fits { (k : ℕ) → at < k → k < length rows.now → Fits rows.now k }
+    ensures value { result ≡ numbers_at goal (own_of at (row_at rows.now at))
+        (map (kept goal) (slice_of (row_at rows.now at) rows.now)) }
+    ensures keepable { IsKeepable result }
+{
+    let row = &rows[at];
+    let repeats = row.mark == Mark::Repeats;
+    if row.mark != Mark::Expanded || row.facts.decide(goal) {
+        return leaf(row.facts, repeats, goal, row.position.to_move(), row.moves);
+    }
+    let children = &rows[row.first..row.first + row.count];
+    folded(children, goal, goal == row.position.to_move())
+}
+
+/// Mends the numbers that a row and the rows above it keep, where each other row keeps right ones.
+pub(crate) fn mend(rows: &mut [Row], from: usize)
+    requires inside { from < length rows.old }
+    requires linked { AreLinked rows.old }
+    requires few { length rows.old < 2 ^ 57 }
+    requires counted { AreCounted rows.old }
+    requires fits { (k : ℕ) → k < length rows.old → k ≢ from → Fits rows.old k }
+    ensures fits { (k : ℕ) → k < length rows.new → Fits rows.new k }
+    ensures same { AreRekept rows.old rows.new }
+{
+    let mut at = Some(from);
+    while let Some(k) = at {
+        let black = numbers_of(rows, k, Side::Black);
+        let white = numbers_of(rows, k, Side::White);
+        let row = &mut rows[k];
+        row.black = KeptNumbers::of(black);
+        row.white = KeptNumbers::of(white);
+        at = row.parent.get();
+    }
+}
+
+/// Adds these facts to those of a row, and mends what is kept.
+pub(crate) fn learn(rows: &mut [Row], at: usize, facts: &Facts)
+    requires inside { at < length rows.old }
+    requires linked { AreLinked rows.old }
+    requires few { length rows.old < 2 ^ 57 }
+    requires counted { AreCounted rows.old }
+    requires fits { (k : ℕ) → k < length rows.old → Fits rows.old k }
+    requires agree { IsConsistent (joined (known (row_at rows.old at).facts) (known facts.now)) }
+    ensures fits { (k : ℕ) → k < length rows.new → Fits rows.new k }
+    ensures links { HaveSameLinks rows.old rows.new }
+    ensures own { (k : ℕ)
+        → own_of k (row_at rows.new k) ≡ learn at (known facts.now) (own_of k (row_at rows.old k)) }
+{
+    let row = &mut rows[at];
+    row.facts = row.facts.joined(facts);
+    mend(rows, at);
+}

@@ -1,0 +1,276 @@
+//! The walk down to the leaf to work on next.
+//!
+//! It tries the children of a node in rising order of what is left to show, and of place, goes down where a child is
+//! expanded, and back where all below it is taken. It keeps nothing but the row where it stands and the child that was
+//! tried last.
+ghost use Rattle.std.specs.Prelude.{◌≡◌, ℕ, ◌<◌, ◌≤◌, ◌+◌, ◌^◌, true, false, length, Some, None};
+ghost use Rattle.draughts_board.specs.Board.{same_side};
+ghost use Rattle.proof_tree.specs.Picking.{is_below, left_to_show};
+ghost use Rattle.proof_tree.specs.Rows.{row_at, kept, AreLinked};
+ghost use Rattle.proof_tree.specs.Walking.{is_before, key, comes, is_behind, is_candidate, first_of, IsFirst};
+
+use crate::numbering::left_to_show;
+use crate::rows::{Mark, NodeId, Row};
+use draughts_board::{Side, Value};
+use proof_numbers::{Number, Numbers};
+
+/// Less left to show.
+fn is_below(x: Number, y: Number) -> bool
+    ensures { result ≡ is_below x y }
+{
+    match (x, y) {
+        (Number::Finite(m), Number::Finite(n)) => m < n,
+        (Number::Finite(_), Number::Infinite) => true,
+        (Number::Infinite, _) => false,
+    }
+}
+
+/// Less left to show, or the same and an earlier place.
+fn is_before(x: Number, a: usize, y: Number, b: usize) -> bool
+    ensures { result ≡ is_before x a y b }
+{
+    if is_below(x, y) {
+        return true;
+    }
+    if is_below(y, x) {
+        return false;
+    }
+    a < b
+}
+
+/// The one row comes before the other in the order of trying.
+fn comes(rows: &[Row], goal: Side, by_proof: bool, a: usize, b: usize) -> bool
+    requires one { a < length rows.now }
+    requires other { b < length rows.now }
+    ensures { result ≡ comes rows.now goal by_proof a b }
+{
+    let x = left_to_show(by_proof, rows[a].kept(goal));
+    let y = left_to_show(by_proof, rows[b].kept(goal));
+    is_before(x, a, y, b)
+}
+
+/// The row is still to be tried.
+fn is_candidate(rows: &[Row], goal: Side, by_proof: bool, last: Option<usize>, k: usize) -> bool
+    requires inside { k < length rows.now }
+    requires last { (a : ℕ) → last ≡ Some a → a < length rows.now }
+    ensures { result ≡ is_candidate rows.now goal by_proof last k }
+{
+    if rows[k].kept(goal).is_resolved() {
+        return false;
+    }
+    match last {
+        None => true,
+        Some(a) => comes(rows, goal, by_proof, a, k),
+    }
+}
+
+/// The child that is tried next, where `last` was tried last.
+fn next_child(
+    rows: &[Row],
+    at: usize,
+    goal: Side,
+    by_proof: bool,
+    last: Option<usize>,
+) -> Option<usize>
+    requires inside { at < length rows.now }
+    requires linked { AreLinked rows.now }
+    requires last { (a : ℕ) → last ≡ Some a → a < length rows.now }
+    ensures { IsFirst rows.now goal by_proof last (row_at rows.now at).first
+        ((row_at rows.now at).first + (row_at rows.now at).count) result }
+{
+    let first = rows[at].first;
+    let end = first + rows[at].count;
+    let mut best = None;
+    for k in first..end {
+        if is_candidate(rows, goal, by_proof, last, k) {
+            best = first_of(rows, goal, by_proof, best, k);
+        }
+    }
+    best
+}
+
+/// Of the two rows, the one that is tried first.
+fn first_of(
+    rows: &[Row],
+    goal: Side,
+    by_proof: bool,
+    best: Option<usize>,
+    k: usize,
+) -> Option<usize>
+    requires inside { k < length rows.now }
+    requires best { (a : ℕ) → best ≡ Some a → a < length rows.now }
+    ensures { result ≡ first_of rows.now goal by_proof best k }
+{
+    match best {
+        None => Some(k),
+        Some(b) => {
+            if comes(rows, goal, by_proof, k, b) {
+                Some(k)
+            } else {
+                Some(b)
+            }
+        }
+    }
+}
+
+/// Which leaves are taken.
+pub trait Taken {
+    ghost use Rattle.std.specs.Prelude.{◌≡◌, ℕ, Bool};
+
+    ghost taken: { Self → ℕ → Bool };
+
+    /// The node is taken.
+    fn is_taken(&self, n: NodeId) -> bool
+        ensures { result ≡ taken self.now n };
+}
+
+ghost use Rattle.proof_numbers.specs.Numbers.{is_resolved};
+ghost use Rattle.proof_tree.specs.Picking.{leaf_below};
+ghost use Rattle.proof_tree.specs.Rows.{nodes_from, node_in, FitsAt};
+
+/// The goal's side is to move at the row.
+fn goal_moves(rows: &[Row], at: usize, goal: Side) -> bool
+    requires { at < length rows.now }
+    ensures { result ≡ same_side goal (row_at rows.now at).position.to_move }
+{
+    goal == rows[at].position.to_move()
+}
+
+/// The leaf at which the walk from an expanded and unresolved row ends, with its ways back.
+fn search<T: Taken>(rows: &[Row], root: usize, goal: Side, taken: &T) -> Option<usize>
+    requires inside { root < length rows.now }
+    requires linked { AreLinked rows.now }
+    requires fits { (k : ℕ) → k < length rows.now → FitsAt rows.now goal k }
+    requires top { (row_at rows.now root).parent ≡ None }
+    requires open { is_resolved (kept goal (row_at rows.now root)) ≡ false }
+    requires inner { (row_at rows.now root).mark ≡ Mark.Expanded }
+    ensures { result ≡ leaf_below goal (T.taken taken.now) (node_in (nodes_from 0 rows.now) root) }
+{
+    let mut at = root;
+    let mut last = None;
+    'walk: loop {
+        let by_proof = goal_moves(rows, at, goal);
+        match next_child(rows, at, goal, by_proof, last) {
+            Some(c) => match rows[c].mark {
+                Mark::Unexpanded => {
+                    if !taken.is_taken(NodeId(c as u64)) {
+                        return Some(c);
+                    }
+                    last = Some(c);
+                }
+                Mark::Expanded => {
+                    at = c;
+                    last = None;
+                }
+                Mark::Repeats => last = Some(c),
+            },
+            None => {
+                if at == root {
+                    return None;
+                }
+                last = Some(at);
+                match rows[at].parent.get() {
+                    Some(p) => at = p,
+                    None => return None,
+                }
+            }
+        }
+    }
+}
+
+/// The leaf at which the walk from a root ends; none where the root is not open for the goal.
+fn leaf_from<T: Taken>(rows: &[Row], root: usize, goal: Side, taken: &T) -> Option<usize>
+    requires inside { root < length rows.now }
+    requires linked { AreLinked rows.now }
+    requires fits { (k : ℕ) → k < length rows.now → FitsAt rows.now goal k }
+    requires top { (row_at rows.now root).parent ≡ None }
+    ensures { result ≡ leaf_below goal (T.taken taken.now) (node_in (nodes_from 0 rows.now) root) }
+{
+    let row = &rows[root];
+    if row.kept(goal).is_resolved() {
+        return None;
+    }
+    match row.mark {
+        Mark::Unexpanded => {
+            if taken.is_taken(NodeId(root as u64)) {
+                None
+            } else {
+                Some(root)
+            }
+        }
+        Mark::Expanded => search(rows, root, goal, taken),
+        Mark::Repeats => None,
+    }
+}
+
+ghost use Rattle.std.specs.Prelude.{map, All, slice_index};
+ghost use Rattle.proof_tree.specs.Forest.{goal_by, value_by};
+ghost use Rattle.proof_tree.specs.Picking.{pick_at, pick_from};
+ghost use Rattle.proof_tree.specs.Rows.{Fits};
+
+/// The side whose win is sought at a root with these numbers for Black.
+fn goal_by(black: Numbers) -> Side
+    ensures { result ≡ goal_by black }
+{
+    if black.is_resolved() {
+        Side::White
+    } else {
+        Side::Black
+    }
+}
+
+/// The value of a root with these numbers for Black and for White.
+pub(crate) fn value_by(black: Numbers, white: Numbers) -> Option<Value>
+    ensures { result ≡ value_by black white }
+{
+    if black.proof.is_zero() {
+        return Some(Value::BlackWins);
+    }
+    if white.proof.is_zero() {
+        return Some(Value::WhiteWins);
+    }
+    if black.disproof.is_zero() && white.disproof.is_zero() {
+        return Some(Value::Draw);
+    }
+    None
+}
+
+/// What a root gives to work on: nothing where it is settled or not open for its goal.
+fn pick_at<T: Taken>(rows: &[Row], root: usize, taken: &T) -> Option<(NodeId, Side)>
+    requires inside { root < length rows.now }
+    requires linked { AreLinked rows.now }
+    requires fits { (k : ℕ) → k < length rows.now → Fits rows.now k }
+    requires top { (row_at rows.now root).parent ≡ None }
+    ensures { result ≡ pick_at (T.taken taken.now) (node_in (nodes_from 0 rows.now) root) }
+{
+    let black = rows[root].kept(Side::Black);
+    let white = rows[root].kept(Side::White);
+    if value_by(black, white).is_some() {
+        return None;
+    }
+    let goal = goal_by(black);
+    match leaf_from(rows, root, goal, taken) {
+        Some(leaf) => Some((NodeId(leaf as u64), goal)),
+        None => None,
+    }
+}
+
+/// The leaf to work on next.
+pub(crate) fn pick_from<T: Taken>(
+    rows: &[Row],
+    roots: &[usize],
+    taken: &T,
+) -> Option<(NodeId, Side)>
+    requires linked { AreLinked rows.now }
+    requires fits { (k : ℕ) → k < length rows.now → Fits rows.now k }
+    requires inside { (i : ℕ) → i < length roots.now → slice_index roots.now i < length rows.now }
+    requires tops { (i : ℕ) → i < length roots.now → (row_at rows.now (slice_index roots.now i)).parent ≡ None }
+    ensures { result ≡ pick_from (T.taken taken.now) (map (node_in (nodes_from 0 rows.now)) roots.now) }
+{
+    for root in roots {
+        if let Some(found) = pick_at(rows, *root, taken) {
+            return Some(found);
+        }
+    }
+    None
+}

@@ -1,0 +1,192 @@
+//! The nodes as rows of one table.
+use draughts_board::{Position, Side};
+use proof_numbers::{Facts, Number, Numbers};
+use std::marker::Model;
+
+/// Names a node. Nodes are numbered from 0 in the order in which they were made, and a contract sees the number.
+#[derive(Clone, Copy, PartialEq, Eq, Debug)]
+pub struct NodeId(pub(crate) u64);
+
+impl Model for NodeId {
+    ghost use Rattle.std.specs.Prelude.{ℕ};
+
+    ghost Value = { ℕ };
+
+    ghost view = { λ id. id.0 };
+
+    ghost inverse = { λ n. record { 0 = n } };
+}
+
+impl NodeId {
+    /// The node's number.
+    pub fn number(self) -> u64
+        ensures { result ≡ self }
+    {
+        self.0
+    }
+}
+
+/// How far a node is.
+#[derive(Clone, Copy, PartialEq, Eq, Debug)]
+pub enum Mark {
+    /// It has no children yet.
+    Unexpanded,
+    /// It has a child for each successor of its position.
+    Expanded,
+    /// Its position stands on the path from its root above it, and it never gets children.
+    Repeats,
+}
+
+/// The word that stands for infinity.
+const INFINITE: u64 = u64::MAX;
+
+/// The word of a number, which is below 2^64 - 1 where it is finite.
+fn word_of(number: Number) -> u64
+    requires { IsFinitely (2 ^ 64 - 1) number }
+    ensures { result ≡ word_of number }
+{
+    match number {
+        Number::Finite(n) => n as u64,
+        Number::Infinite => INFINITE,
+    }
+}
+
+/// The number of a word.
+fn number_of(word: u64) -> Number
+    ensures { result ≡ number_of word }
+{
+    if word == INFINITE {
+        Number::Infinite
+    } else {
+        Number::Finite(word as u128)
+    }
+}
+
+ghost use Rattle.std.specs.Prelude.{◌≡◌, ◌-◌, ◌<◌, ◌^◌};
+ghost use Rattle.proof_numbers.specs.Numbers.{IsFinitely};
+ghost use Rattle.proof_tree.specs.Kept.{number_of, word_of};
+ghost use Rattle.proof_tree.specs.Sums.{IsKeepable};
+
+/// A proof and a disproof number as a row keeps them, in eight bytes each. A contract sees the numbers.
+#[derive(Clone, Copy)]
+pub(crate) struct KeptNumbers {
+    proof: u64,
+    disproof: u64,
+}
+
+impl Model for KeptNumbers {
+    ghost use Rattle.proof_numbers.specs.declared.numbers.Numbers.{Numbers};
+    ghost use Rattle.proof_tree.specs.Kept.{number_of, word_of, word_back};
+
+    ghost Value = { Numbers };
+
+    ghost view = { λ k. record { proof = number_of k.proof; disproof = number_of k.disproof } };
+
+    ghost inverse = { λ n. record { proof = word_of n.proof; disproof = word_of n.disproof } };
+
+    ghost inverse_ok = { λ k h i. record { proof = word_back k.proof i; disproof = word_back k.disproof i } };
+}
+
+impl KeptNumbers {
+    /// These numbers, each below 2^64 - 1 where it is finite.
+    pub(crate) fn of(numbers: Numbers) -> KeptNumbers
+        requires { IsKeepable numbers }
+        ensures { result ≡ numbers }
+    {
+        KeptNumbers {
+            proof: word_of(numbers.proof),
+            disproof: word_of(numbers.disproof),
+        }
+    }
+
+    /// The numbers.
+    pub(crate) fn numbers(&self) -> Numbers
+        ensures { result ≡ self.now }
+    {
+        Numbers {
+            proof: number_of(self.proof),
+            disproof: number_of(self.disproof),
+        }
+    }
+}
+
+/// The number of a row's parent, or none, in eight bytes. A contract sees an option.
+#[derive(Clone, Copy)]
+pub(crate) struct ParentLink {
+    word: usize,
+}
+
+impl Model for ParentLink {
+    ghost use Rattle.std.specs.Prelude.{ℕ, Option};
+    ghost use Rattle.proof_tree.specs.Kept.{parent_of, parent_word, parent_back};
+
+    ghost Value = { Option ℕ };
+
+    ghost view = { λ link. parent_of link.word };
+
+    ghost inverse = { λ parent. record { word = parent_word parent } };
+
+    ghost inverse_ok = { λ link h i. record { word = parent_back link.word i } };
+}
+
+impl ParentLink {
+    ghost use Rattle.std.specs.Prelude.{None, Some};
+
+    /// No parent: the row of a root.
+    pub(crate) fn none() -> ParentLink
+        ensures { result ≡ None }
+    {
+        ParentLink { word: 0 }
+    }
+
+    /// The row with this number.
+    pub(crate) fn to(parent: usize) -> ParentLink
+        requires { parent < 2 ^ 60 }
+        ensures { result ≡ Some parent }
+    {
+        ParentLink { word: parent + 1 }
+    }
+
+    /// The number of the parent's row.
+    pub(crate) fn get(&self) -> Option<usize>
+        ensures { result ≡ self.now }
+    {
+        self.word.checked_sub(1)
+    }
+}
+
+/// A node.
+#[derive(Clone, Copy)]
+pub(crate) struct Row {
+    /// Where the moves down to it led.
+    pub(crate) position: Position,
+    /// What is known there.
+    pub(crate) facts: Facts,
+    pub(crate) mark: Mark,
+    /// The mobility of its position.
+    pub(crate) moves: u8,
+    /// The number of its parent.
+    pub(crate) parent: ParentLink,
+    /// The number of its first child; the others follow. Without children it is the number of the next row.
+    pub(crate) first: usize,
+    /// How many children it has.
+    pub(crate) count: usize,
+    /// Its numbers for the goal Black.
+    pub(crate) black: KeptNumbers,
+    /// Its numbers for the goal White.
+    pub(crate) white: KeptNumbers,
+}
+
+impl Row {
+    ghost use Rattle.proof_tree.specs.Rows.{kept};
+
+    /// The numbers that it keeps for the goal.
+    pub(crate) fn kept(&self, goal: Side) -> Numbers
+        ensures { result ≡ kept goal self.now }
+    {
+        match goal {
+            Side::Black => self.black.numbers(),
+            Side::White => self.white.numbers(),
+        }
+    }
+}

@@ -1,0 +1,3 @@
+pub mod LackingBytes
+pub mod Numerals
+pub mod Exactness

@@ -1,0 +1,14 @@
+pub mod Shifts
+pub mod WayRules
+pub mod Going
+pub mod Reach
+pub mod Loops
+pub mod CaptureMasks
+pub mod GrowSteps
+pub mod LegalLists
+pub mod CellsAfter
+pub mod MovedMasks
+pub mod StepsApart
+pub mod CapturePrefixes
+pub mod ForcesOf
+pub mod JumpedOver

@@ -1,0 +1,9 @@
+use Rattle.std.proofs.Common.{◌≡◌, ◌∷◌, []}
+use Rattle.swift_moves.proofs.Loops.{with_rest}
+use Rattle.swift_moves.proofs.steps.add_steps_of.Given as goal
+
+abbrev pub invariant-loop-left : goal.invariant-loop-left
+invariant-loop-left l = with_rest (λ z. (l.«from» ∷ z ∷ []) ∷ []) l.found.items l.left ≡ with_rest (λ z. (l.«from» ∷ z ∷ []) ∷ []) l.initial.found.items l.initial.left
+
+abbrev pub decreases-loop-left : goal.decreases-loop-left
+decreases-loop-left l = l.left

@@ -1,0 +1,27 @@
+//! The rules of play of English draughts (WCDF) on masks: the legal moves of a position, and the positions that they
+//! lead to, with the calls and the contracts of `draughts_rules`.
+//!
+//! A mask of 32 bits holds squares: square n is the bit of value 2^(n - 1). Steps and jumps of all pieces together are
+//! shifts of whole boards. What the rules say stands in `specs/Rules.antt` of `draughts_board`; each call here is proved
+//! to give exactly that, and no line of the plain generator is used.
+#![tactic(auto)]
+
+mod captures;
+mod forces;
+mod legal_test;
+mod masks;
+mod masks_moved;
+mod move_lists;
+mod movers;
+mod next;
+mod resolution;
+mod steps;
+#[cfg(test)]
+mod tests;
+mod ways;
+
+pub use draughts_board::ResolveRefusal;
+pub use legal_test::is_legal;
+pub use move_lists::{has_move, legal_moves, legal_moves_into};
+pub use next::{apply, move_to, successors, successors_into};
+pub use resolution::resolve;

@@ -1,0 +1,57 @@
+//! Which legal move a written one means.
+ghost use Rattle.std.specs.Prelude.{◌≡◌, ℕ, List, Contains, IfOk};
+ghost use Rattle.draughts_board.specs.Rules.{IsLegal};
+ghost use Rattle.draughts_board.specs.Resolution.{elsewhere, first_of, matches, meaning, UnlessMemory};
+
+use crate::move_lists::legal_moves;
+use crate::next::apply;
+use draughts_board::{Move, Position, ResolveRefusal, Square, is_written};
+use std::alloc::Global;
+
+/// The first of the moves, which are legal, that leads elsewhere than to `next`.
+fn first_elsewhere(p: &Position, next: &Position, moves: &[Move]) -> Option<Move>
+    requires { (path : List ℕ) → Contains moves.now path → IsLegal p.now path }
+    ensures { result ≡ first_of (elsewhere p.now next.now moves.now) }
+{
+    for m in moves {
+        if apply(p, m) != *next {
+            return Some(*m);
+        }
+    }
+    None
+}
+
+/// What the moves, which are legal, mean together.
+fn meaning(p: &Position, moves: &[Move]) -> Result<Move, ResolveRefusal>
+    requires { (path : List ℕ) → Contains moves.now path → IsLegal p.now path }
+    ensures { result ≡ meaning p.now moves.now }
+{
+    let [chosen, ..] = moves else {
+        return Err(ResolveRefusal::Illegal);
+    };
+    match first_elsewhere(p, &apply(p, chosen), &moves[1..]) {
+        None => Ok(*chosen),
+        Some(other) => Err(ResolveRefusal::Ambiguous(*chosen, other)),
+    }
+}
+
+/// The legal move that is written with these ends and, if any are named, these squares in between.
+///
+/// With an empty `middle` every legal move from `from` that ends on `to` matches, else only the one whose path is
+/// `from`, `middle`, `to`. `Ok` gives the first match in rising order of path, where all matches lead to one position.
+/// Refused as `Illegal` exactly where nothing matches, and as `Ambiguous` exactly where two matches lead to different
+/// positions.
+pub fn resolve(
+    alloc: Global,
+    p: &Position,
+    from: Square,
+    middle: &[Square],
+    to: Square,
+) -> Result<Move, ResolveRefusal>
+    ensures exact { UnlessMemory result (result ≡ meaning p.now (matches p.now from middle.now to)) }
+    ensures legal { IfOk result (IsLegal p.now) }
+{
+    let mut moves = legal_moves(alloc, p).map_err(ResolveRefusal::Memory)?;
+    moves.retain(|m| is_written(m, from, middle, to));
+    meaning(p, &moves)
+}
