@@ -24,8 +24,9 @@ images_since_of disk = IsImageSince disk.start.items (reverse disk.calls.items)
 abbrev pub moment_of : MemoryDisk → ℕ
 moment_of disk = length disk.calls.items
 
--- It holds these bytes and has had no call: nothing is pending, its moment is 0, and it never failed.
-pub record IsNew (disk : MemoryDisk) (bytes : List ℕ) : Type 0 where
+-- It holds these bytes and has had no call: nothing is pending, its moment is 0, and it never
+-- failed.
+pub record IsNewDisk (disk : MemoryDisk) (bytes : List ℕ) : Type 0 where
   pub reads : reads_of disk ≡ bytes
   pub settled : NothingPending (reads_of disk) (images_of disk)
   pub moment : length disk.calls.items ≡ 0

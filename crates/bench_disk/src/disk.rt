@@ -15,8 +15,8 @@ pub struct DiskFault;
 
 /// Bytes that outlast the program, as far as they were synced. Places count from 0.
 ///
-/// Every clause on bytes and images speaks of honest disks alone, those whose type tells its bytes. The clauses on the
-/// moment, on the faults and on counts hold of every disk.
+/// Every clause on bytes and images speaks of honest disks alone, those whose type tells its bytes.
+/// The clauses on the moment, on the faults and on counts hold of every disk.
 pub trait Disk {
     /// Whether this type of disk tells its bytes and keeps the clauses on them.
     const TELLS: bool;
@@ -46,8 +46,9 @@ pub trait Disk {
             self.new }
         ensures call { IsCall moment faults self.old self.new result };
 
-    /// Fills the front of `into` with the bytes from place `at` on, and gives their count. It is less than asked only
-    /// where the bytes end. Behind them `into` stays as it was; after a fault it may hold anything.
+    /// Fills the front of `into` with the bytes from place `at` on, and gives their count. It is
+    /// less than asked only where the bytes end. Behind them `into` stays as it was; after a fault
+    /// it may hold anything.
     fn read_at(&mut self, at: u64, into: &mut [u8]) -> Result<usize, DiskFault>
         ensures bytes { IsHonest TELLS → IfOk result
             (λ n. HasRead at (reads self.old) n into.old into.new) }
@@ -56,8 +57,8 @@ pub trait Disk {
             self.new }
         ensures call { IsCall moment faults self.old self.new result };
 
-    /// Writes these bytes from place `at` on, over what stands there and past the end. A write that would end past
-    /// place 2^62 is refused.
+    /// Writes these bytes from place `at` on, over what stands there and past the end. A write that
+    /// would end past place 2^62 is refused.
     fn write_at(&mut self, at: u64, from: &[u8]) -> Result<(), DiskFault>
         requires { IsHonest TELLS → at ≤ length (reads self.old) }
         ensures written { IsHonest TELLS → OnOk result

@@ -3,11 +3,11 @@ ghost use Rattle.std.specs.Prelude.{◌≡◌, ◌+◌, ◌-◌, ◌≤◌, ◌^
 ghost use Rattle.bench_disk.specs.Disk.{HasRead, IsHonest, NothingPending, written};
 ghost use Rattle.bench_disk.specs.Runs.{IsCall, OnlyLooks, OnlySyncs, OnlyWrites};
 
-use crate::failing_plan::{Fuse, Numbers, Plan};
+use crate::failing_plan::{FailingCalls, Fuse, Plan};
 use crate::{Disk, DiskFault};
 
-/// Fails the calls of the device that a plan says, and passes the others to the disk below, which those that fail do
-/// not reach.
+/// Fails the calls of the device that a plan says, and passes the others to the disk below, which
+/// those that fail do not reach.
 #[derive(Drop)]
 pub struct FailingDisk<D: Disk, P: Plan> {
     disk: D,
@@ -18,9 +18,9 @@ pub struct FailingDisk<D: Disk, P: Plan> {
 /// Passes so many calls to the disk below and fails every later one.
 pub type FuseDisk<D> = FailingDisk<D, Fuse>;
 
-/// Fails the calls of the device whose numbers it was given, and passes the others to the disk below. Calls are
-/// numbered from 0 on, those that fail too.
-pub type FaultDisk<D> = FailingDisk<D, Numbers>;
+/// Fails the calls of the device whose numbers it was given, and passes the others to the disk
+/// below. Calls are numbered from 0 on, those that fail too.
+pub type FaultDisk<D> = FailingDisk<D, FailingCalls>;
 
 impl<D: Disk> FailingDisk<D, Fuse> {
     ghost use Rattle.bench_disk.specs.FailingDisk.{IsFuse};
@@ -37,7 +37,7 @@ impl<D: Disk> FailingDisk<D, Fuse> {
     }
 }
 
-impl<D: Disk> FailingDisk<D, Numbers> {
+impl<D: Disk> FailingDisk<D, FailingCalls> {
     ghost use Rattle.bench_disk.specs.FailingDisk.{IsFaulty};
 
     /// Fails the calls whose numbers are in `fail`. The first call has number 0.
@@ -46,7 +46,7 @@ impl<D: Disk> FailingDisk<D, Numbers> {
     {
         FailingDisk {
             disk,
-            plan: Numbers::new(fail),
+            plan: FailingCalls::new(fail),
             refused: 0,
         }
     }

@@ -44,25 +44,28 @@ impl Plan for Fuse {
 
 /// Fails the calls of these numbers. Calls are numbered from 0 on, those that fail too.
 #[derive(Drop)]
-pub struct Numbers {
+pub struct FailingCalls {
     failing: Vec<u64>,
     calls: u64,
 }
 
-impl Numbers {
+impl FailingCalls {
     /// Fails the calls whose numbers are in `failing`. The first call has number 0.
-    pub fn new(failing: Vec<u64>) -> Numbers
+    pub fn new(failing: Vec<u64>) -> FailingCalls
         ensures failing { result.failing ≡ failing }
         ensures calls { result.calls ≡ 0 }
     {
-        Numbers { failing, calls: 0 }
+        FailingCalls { failing, calls: 0 }
     }
 }
 
-impl Plan for Numbers {
+impl Plan for FailingCalls {
     ghost fails = { λ plan. Contains plan.failing.items plan.calls };
 
-    ghost next = { λ plan. record { failing = plan.failing; calls = min (plan.calls + 1) (2 ^ 64 - 1) } };
+    ghost next = { λ plan. record {
+      failing = plan.failing;
+      calls = min (plan.calls + 1) (2 ^ 64 - 1);
+    } };
 
     fn step(&mut self) -> bool {
         let call = self.calls;

@@ -7,8 +7,8 @@ use std::io;
 use std::os::unix::fs::FileExt;
 use std::path::Path;
 
-/// A file at a path, which is opened, or made where it is missing, at the first call. Where that is refused the call
-/// fails, and a later one tries again.
+/// A file at a path, which is opened, or made where it is missing, at the first call. Where that is
+/// refused the call fails, and a later one tries again.
 #[derive(Drop)]
 pub struct PathFile<R: Files<File = File> + Drop> {
     rt: R,

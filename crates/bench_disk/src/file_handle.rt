@@ -5,13 +5,13 @@ ghost use Rattle.bench_disk.specs.Handle.{HasReadSome, Looks, Pauses, Syncs, Wri
 
 use std::io;
 
-/// A file that a disk stands on, as the operating system gives it: a call may do less than was asked, and says how much
-/// it did. Places count from 0.
+/// A file that a disk stands on, as the operating system gives it: a call may do less than was
+/// asked, and says how much it did. Places count from 0.
 ///
-/// Several calls make one call of the disk, and all of them lie in one moment, which `sync` and `pause` end; these are
-/// not called at the last moment. A file may be new: until the folder that it stands in was synced, a crash may leave
-/// anything of it. The clauses speak of honest files alone, those whose type tells its bytes, but for the bounds on
-/// counts.
+/// Several calls make one call of the disk, and all of them lie in one moment, which `sync` and
+/// `pause` end; these are not called at the last moment. A file may be new: until the folder that
+/// it stands in was synced, a crash may leave anything of it. The clauses speak of honest files
+/// alone, those whose type tells its bytes, but for the bounds on counts.
 pub trait FileHandle {
     /// Whether this type of file tells its bytes and keeps the clauses on them.
     const TELLS: bool;
@@ -39,8 +39,8 @@ pub trait FileHandle {
         ensures looks { IsHonest TELLS → Looks reads images images_since moment is_entered self.old
             self.new };
 
-    /// Fills the front of `into` with bytes from place `at` on, and gives their count, which is 0 only where the bytes
-    /// end there or `into` is empty. Behind them `into` stays as it was.
+    /// Fills the front of `into` with bytes from place `at` on, and gives their count, which is 0
+    /// only where the bytes end there or `into` is empty. Behind them `into` stays as it was.
     fn read_at(&mut self, at: u64, into: &mut [u8]) -> io::Result<usize>
         ensures bytes { IsHonest TELLS → IfOk result
             (λ n. HasReadSome at (reads self.old) n into.old into.new) }
@@ -48,7 +48,8 @@ pub trait FileHandle {
         ensures looks { IsHonest TELLS → Looks reads images images_since moment is_entered self.old
             self.new };
 
-    /// Writes the front of `from` from place `at` on, and gives the count of the bytes that it wrote.
+    /// Writes the front of `from` from place `at` on, and gives the count of the bytes that it
+    /// wrote.
     fn write_at(&mut self, at: u64, from: &[u8]) -> io::Result<usize>
         requires { IsHonest TELLS → at ≤ length (reads self.old) }
         ensures written { IsHonest TELLS → IfOk result
@@ -57,7 +58,8 @@ pub trait FileHandle {
         ensures writes { IsHonest TELLS → Writes images images_since moment is_entered at
             (length from.now) self.old self.new };
 
-    /// Makes the bytes outlast a crash, as far as the file's entry in its folder does. It ends the moment.
+    /// Makes the bytes outlast a crash, as far as the file's entry in its folder does. It ends the
+    /// moment.
     fn sync(&mut self) -> io::Result<()>
         requires { IsHonest TELLS → moment self.old < 2 ^ 64 - 1 }
         ensures durable { IsHonest TELLS → IsTrue (is_entered self.old) →

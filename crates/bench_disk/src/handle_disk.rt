@@ -8,9 +8,9 @@ use crate::{Disk, DiskFault, FileHandle};
 
 /// A disk over a file that does less than was asked when it likes, and that says how much it did.
 ///
-/// A call reads and writes on until all is done, or the file fails, or it writes nothing. A sync covers the bytes and
-/// the length, and the first one also the file's entry in its folder, since the file may be new. It tells its bytes
-/// where the file does.
+/// A call reads and writes on until all is done, or the file fails, or it writes nothing. A sync
+/// covers the bytes and the length, and the first one also the file's entry in its folder, since
+/// the file may be new. It tells its bytes where the file does.
 #[derive(Drop)]
 pub struct HandleDisk<F: FileHandle + Drop> {
     file: F,
@@ -103,7 +103,8 @@ impl<F: FileHandle + Drop> Disk for HandleDisk<F> {
     ghost earlier_counts = { λ disk. F.earlier_counts disk.file };
 
     ghost only_now = { λ disk image tells since. laws.only_now F.images F.images_since F.moment
-        (λ file i. F.only_now file i tells) disk.file disk.moment image (disk.in_step tells) since };
+        (λ file i. F.only_now file i tells) disk.file disk.moment image
+        (disk.in_step tells) since };
 
     fn len(&mut self) -> Result<u64, DiskFault> {
         self.start()?;

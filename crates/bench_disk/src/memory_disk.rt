@@ -23,11 +23,11 @@ pub struct MemoryDisk {
 }
 
 impl MemoryDisk {
-    ghost use Rattle.bench_disk.specs.MemoryDisk.{IsNew, images_of, reads_of, synced_of};
+    ghost use Rattle.bench_disk.specs.MemoryDisk.{IsNewDisk, images_of, reads_of, synced_of};
 
     /// An empty disk.
     pub fn new(alloc: Global) -> MemoryDisk
-        ensures { IsNew result [] }
+        ensures { IsNewDisk result [] }
     {
         MemoryDisk {
             alloc,
@@ -38,10 +38,10 @@ impl MemoryDisk {
         }
     }
 
-    /// A disk that holds these bytes, with nothing pending. It takes them over, and makes one copy for what it held at
-    /// first. More than 2^62 bytes are answered as want of memory.
+    /// A disk that holds these bytes, with nothing pending. It takes them over, and makes one copy
+    /// for what it held at first. More than 2^62 bytes are answered as want of memory.
     pub fn of(alloc: Global, bytes: Vec<u8>) -> Result<MemoryDisk, AllocError>
-        ensures { IfOk result (λ disk. IsNew disk bytes.items) }
+        ensures { IfOk result (λ disk. IsNewDisk disk bytes.items) }
     {
         if bytes.len() as u64 > MAX_LEN {
             return Err(AllocError);
@@ -64,11 +64,12 @@ impl MemoryDisk {
 
     /// A disk that holds one image that a crash now may leave.
     ///
-    /// Choice 0 leaves out the pending writes, choice 1 has all of them. Each other choice tears them: it picks the
-    /// bytes of the ranges written and those past the old end, and where the file ends.
+    /// Choice 0 leaves out the pending writes, choice 1 has all of them. Each other choice tears
+    /// them: it picks the bytes of the ranges written and those past the old end, and where the
+    /// file ends.
     pub fn crash(&self, choice: u64) -> Result<MemoryDisk, AllocError>
         ensures image { IfOk result (λ disk. images_of self.now (reads_of disk)) }
-        ensures fresh { IfOk result (λ disk. IsNew disk (reads_of disk)) }
+        ensures fresh { IfOk result (λ disk. IsNewDisk disk (reads_of disk)) }
         ensures lost { choice ≡ 0 → IfOk result (λ disk. reads_of disk ≡ synced_of self.now) }
         ensures whole { choice ≡ 1 → IfOk result (λ disk. reads_of disk ≡ reads_of self.now) }
     {
@@ -81,7 +82,7 @@ impl MemoryDisk {
 
     /// The bytes of the last sync.
     fn without_pending(&self) -> Result<MemoryDisk, AllocError>
-        ensures fresh { IfOk result (λ disk. IsNew disk (reads_of disk)) }
+        ensures fresh { IfOk result (λ disk. IsNewDisk disk (reads_of disk)) }
         ensures lost { IfOk result (λ disk. reads_of disk ≡ synced_of self.now) }
     {
         let mut synced = self.start.to_vec(self.alloc)?;
@@ -101,7 +102,7 @@ impl MemoryDisk {
     /// The bytes of the last sync, torn by each write since.
     fn with_torn(&self, mut picks: Picks) -> Result<MemoryDisk, AllocError>
         ensures image { IfOk result (λ disk. images_of self.now (reads_of disk)) }
-        ensures fresh { IfOk result (λ disk. IsNew disk (reads_of disk)) }
+        ensures fresh { IfOk result (λ disk. IsNewDisk disk (reads_of disk)) }
     {
         let mut image = self.start.to_vec(self.alloc)?;
         let mut bytes = self.start.to_vec(self.alloc)?;

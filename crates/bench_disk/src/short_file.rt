@@ -5,10 +5,11 @@ use crate::failing_plan::Plan;
 use crate::{Disk, FileHandle, HandleDisk, MemoryDisk};
 use std::io;
 
-/// A file in memory that reads and writes few bytes at a call, fails the calls that a plan says, and counts its syncs.
+/// A file in memory that reads and writes few bytes at a call, fails the calls that a plan says,
+/// and counts its syncs.
 ///
-/// It does not tell its bytes, as a file of the operating system does not: what stands on it has no clause on bytes to
-/// rest on, and is tried by tests alone.
+/// It does not tell its bytes, as a file of the operating system does not: what stands on it has no
+/// clause on bytes to rest on, and is tried by tests alone.
 #[derive(Drop)]
 pub struct ShortFile<P: Plan + Drop> {
     disk: MemoryDisk,
@@ -22,7 +23,8 @@ pub struct ShortFile<P: Plan + Drop> {
 pub type ShortDisk<P> = HandleDisk<ShortFile<P>>;
 
 impl<P: Plan + Drop> HandleDisk<ShortFile<P>> {
-    /// The disk over a file that holds what this disk does, and that reads and writes at most so many bytes at a call.
+    /// The disk over a file that holds what this disk does, and that reads and writes at most so
+    /// many bytes at a call.
     pub fn new(disk: MemoryDisk, plan: P, most: usize) -> ShortDisk<P>
         ensures moment { result.moment ≡ 0 }
         ensures faults { result.faults ≡ 0 }

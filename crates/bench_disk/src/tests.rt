@@ -1,6 +1,6 @@
 //! Each kind of disk, called through the bound, and what a crash leaves.
 use crate::{
-    Disk, DiskFault, FaultDisk, FileDisk, Fuse, FuseDisk, HandleDisk, MemoryDisk, Numbers,
+    Disk, DiskFault, FailingCalls, FaultDisk, FileDisk, Fuse, FuseDisk, HandleDisk, MemoryDisk,
     ShortDisk,
 };
 use std::alloc::Global;
@@ -176,14 +176,18 @@ fn disk_over_a_short_file_does_all_or_faults(rt: HostRuntime) -> Result<(), Fail
 }
 
 /// The disk over a file of two bytes, of whose calls the one of this number fails.
-fn failing_at(alloc: Global, number: u64) -> Result<HandleDisk<crate::ShortFile<Numbers>>, Fail> {
+fn failing_at(
+    alloc: Global,
+    number: u64,
+) -> Result<HandleDisk<crate::ShortFile<FailingCalls>>, Fail> {
     let inner = MemoryDisk::of(alloc, [1, 2].to_vec(alloc)?)?;
-    Ok(ShortDisk::new(inner, Numbers::new([number].to_vec(alloc)?), 3))
+    Ok(ShortDisk::new(inner, FailingCalls::new([number].to_vec(alloc)?), 3))
 }
 
 #[test]
 fn disk_over_a_short_file_counts_each_fault(rt: HostRuntime) -> Result<(), Fail> {
-    // The writes of six bytes; the syncs of the folder and of the file; the reads of three and of two bytes.
+    // The writes of six bytes; the syncs of the folder and of the file; the reads of three and of
+    // two bytes.
     for number in 0..6u64 {
         let mut disk = failing_at(rt.alloc(), number)?;
         let mut into = [0; 5];
@@ -248,7 +252,8 @@ fn file_disk_keeps_a_new_file(rt: HostRuntime) -> Result<(), Fail> {
     Ok(())
 }
 
-/// 200,003 bytes, more than one call of the system need take, of which none stands a block behind its like.
+/// 200,003 bytes, more than one call of the system need take, of which none stands a block behind
+/// its like.
 fn long_bytes(alloc: Global) -> Result<Vec<u8>, Fail> {
     let bytes = (0..200_003u32).map(|i| (i % 251) as u8).collect(alloc)?;
     Ok(bytes)

@@ -60,7 +60,8 @@ impl Fate {
         }
     }
 
-    /// A byte of the range, or one past the old end: there the old one is missing, before the range the new one.
+    /// A byte of the range, or one past the old end: there the old one is missing, before the range
+    /// the new one.
     fn byte(self, old: Option<u8>, new: Option<u8>, picks: &mut Picks) -> u8 {
         let picked = picks.next();
         let any = (picked % 256) as u8;

@@ -36,14 +36,16 @@ pub fn read_whole<F: FileHandle>(file: &mut F, at: u64, into: &mut [u8]) -> Opti
     Some(filled)
 }
 
-/// Writes all of these bytes, where they end at place 2^62 at the latest. A call that writes none of them ends it.
+/// Writes all of these bytes, where they end at place 2^62 at the latest. A call that writes none
+/// of them ends it.
 pub fn write_whole<F: FileHandle>(file: &mut F, at: u64, from: &[u8]) -> Option<()>
     requires { IsHonest F.TELLS → at ≤ length (F.reads file.old) }
     ensures written { IsHonest F.TELLS →
         OnSome result (F.reads file.new ≡ written (F.reads file.old) at from.now) }
     ensures bound { OnSome result (at + length from.now ≤ 2 ^ 62) }
     ensures writes { IsHonest F.TELLS →
-        Writes F.images F.images_since F.moment F.is_entered at (length from.now) file.old file.new }
+        Writes F.images F.images_since F.moment F.is_entered at (length from.now)
+        file.old file.new }
 {
     if at > MAX_LEN || from.len() as u64 > MAX_LEN - at {
         return None;
@@ -59,8 +61,8 @@ pub fn write_whole<F: FileHandle>(file: &mut F, at: u64, from: &[u8]) -> Option<
     Some(())
 }
 
-/// Makes the bytes outlast a crash, and the file's entry in its folder first, where it does not yet. It ends the
-/// moment.
+/// Makes the bytes outlast a crash, and the file's entry in its folder first, where it does not
+/// yet. It ends the moment.
 pub fn sync_whole<F: FileHandle>(file: &mut F, is_entered: bool) -> Option<()>
     requires entered { IsHonest F.TELLS → IsTrue is_entered → IsTrue (F.is_entered file.old) }
     requires left { IsHonest F.TELLS → F.moment file.old < 2 ^ 64 - 1 }

@@ -3,7 +3,7 @@ use Rattle.std.proofs.Common.{◌≡◌, ◌≢◌, ℕ, ◌<◌, List, [], ◌�
 use Rattle.std.proofs.lemmas.Grind.{common_steps}
 use Rattle.bench_edges.specs.declared.words.Command.{Command}
 use Rattle.bench_edges.specs.declared.words.Command.TheVariants.{Solve}
-use Rattle.bench_edges.specs.Words.{SaysSolve, Says, Begins, IsRefusedAt}
+use Rattle.bench_edges.specs.Words.{SaysSolve, Says, BeginsCommand, IsRefusedAt}
 use Rattle.bench_edges.proofs.Settings.{cons_head, cons_tail, not_nil}
 use Rattle.bench_edges.proofs.Grammar.{IsStuck, called, name_of, name_said, refused_in}
 use Rattle.bench_edges.proofs.SolveWords.{options_of, solve_says}
@@ -12,7 +12,7 @@ some_path : ◌≢◌ {A = List ℕ} (45 ∷ []) []
 some_path e = not_nil _ _ (sym e)
 
 -- the words begin with a path and a name
-begins_from_nothing : Begins []
+begins_from_nothing : BeginsCommand []
 begins_from_nothing = ((45 ∷ []) ∷ codes "solve" ∷ [], Solve (options_of []), solve_says (45 ∷ []) some_path)
 
 -- no word at all
@@ -38,7 +38,7 @@ refused_command words within named other = refused_in words 1 (omega arith) good
     one : take 1 words ≡ path ∷ []
     one = grind (arith, common_steps)
 
-    good : Begins (take 1 words)
+    good : BeginsCommand (take 1 words)
     good = (codes "solve" ∷ [], Solve (options_of []), subst (λ (ws : List (List ℕ)). SaysSolve (ws ++ codes "solve" ∷ []) (options_of [])) (sym one) (solve_says path named))
 
     stuck : 1 < length words → IsStuck (take 1 words) (get_or words 1 [])

@@ -1,11 +1,14 @@
 -- Options with their numbers, as words and as what they give.
-use Rattle.std.proofs.Common.{◌≡◌, ◌≢◌, ℕ, ◌<◌, ◌≤◌, ◌==◌, ◌^◌, ◌⊎◌, List, [], ◌∷◌, ◌++◌, length, drop, get_or, Option, Some, None, unwrap_or, inl, inr, codes, decimal, Bool, true, false, cond, Decides, refl, ap, sym, ◌∙◌, subst, arith, rules}
+use Rattle.std.proofs.Common.{if◌then◌else◌, set, ◌≡◌, ◌≢◌, ℕ, ◌<◌, ◌≤◌, ◌==◌, ◌^◌, ◌⊎◌, List, [], ◌∷◌, ◌++◌, length, drop, get_or, Option, Some, None, unwrap_or, inl, inr, codes, decimal, Bool, true, false, cond, Decides, refl, ap, sym, ◌∙◌, subst, arith, rules}
 use Rattle.std.proofs.lemmas.Fmt.{decimal_injective}
-use Rattle.std.proofs.lemmas.Grind.{common_steps}
+use Rattle.std.proofs.lemmas.Grind.{common_steps, get_or-set_at}
+use Rattle.std.proofs.lemmas.List.{get_or-set_other}
 use Rattle.std.proofs.lemmas.Slice.Eq.{bytes_eq-Decides}
 use Rattle.std.specs.List.{flat_map}
 use Rattle.std.specs.Str.{bytes_eq}
-use Rattle.bench_edges.specs.Words.{Setting, setting_words, IsSetting, IsNew, AreSettings, number_for}
+use Rattle.bench_edges.specs.declared.words.SolveOption.{SolveOption}
+use Rattle.bench_edges.specs.declared.words.SolveOption.TheVariants.{Depth, Pieces, Plies, Budget, Lease}
+use Rattle.bench_edges.specs.Words.{Setting, setting_words, IsSetting, IsNew, AreSettings, Takes, option_name, least_of, most_of, default_of, place_of, number_for, number_of}
 use Rattle.strategy_certificate.specs.Tables.{IsTableSize}
 
 -- lists of words
@@ -21,10 +24,15 @@ not_nil x xs e = let long = ap length e in omega arith
 
 -- settings
 
+few : (option : SolveOption) → most_of option < 2 ^ 32
+few Depth = omega arith
+few Pieces = omega arith
+few Plies = omega arith
+few Budget = omega arith
+few Lease = omega arith
+
 small : (s : Setting) → IsSetting s → s.value < 2 ^ 64
-small s (inl one) = omega arith
-small s (inr (inl one)) = omega arith
-small s (inr (inr one)) = omega arith
+small s setting = let most = few setting.0 in let value = setting.1.1.1 in omega arith
 
 same_setting : (s t : Setting) → IsSetting s → IsSetting t → s.name ≡ t.name → decimal s.value ≡ decimal t.value → s ≡ t
 same_setting s t first second name digits =
@@ -32,14 +40,36 @@ same_setting s t first second name digits =
     ap (λ (n : List ℕ). record { name = n; value = s.value }) name ∙ ap (λ (v : ℕ). record { name = t.name; value = v }) value
 
 -- the options' names differ
-pub depth_is_not_pieces : ◌≢◌ {A = List ℕ} (codes "--depth") (codes "--pieces")
-depth_is_not_pieces same = let third : ◌≡◌ {A = ℕ} 100 112 = ap (λ (name : List ℕ). get_or name 2 0) same in omega arith
 
-pub depth_is_not_plies : ◌≢◌ {A = List ℕ} (codes "--depth") (codes "--plies")
-depth_is_not_plies same = let third : ◌≡◌ {A = ℕ} 100 112 = ap (λ (name : List ℕ). get_or name 2 0) same in omega arith
+-- the place of the option with this name
+place_of_name : List ℕ → ℕ
+place_of_name name =
+    if bytes_eq name (codes "--depth") then 0 else if bytes_eq name (codes "--pieces") then 1 else if bytes_eq name (codes "--plies") then 2 else if bytes_eq name (codes "--budget") then 3 else 4
 
-pub pieces_is_not_plies : ◌≢◌ {A = List ℕ} (codes "--pieces") (codes "--plies")
-pieces_is_not_plies same = let fourth : ◌≡◌ {A = ℕ} 105 108 = ap (λ (name : List ℕ). get_or name 3 0) same in omega arith
+option_at : ℕ → SolveOption
+option_at place = if place == 0 then Depth else if place == 1 then Pieces else if place == 2 then Plies else if place == 3 then Budget else Lease
+
+place_by_name : (option : SolveOption) → place_of_name (option_name option) ≡ place_of option
+unfolding place_of_name
+place_by_name Depth = refl
+place_by_name Pieces = refl
+place_by_name Plies = refl
+place_by_name Budget = refl
+place_by_name Lease = refl
+
+option_by_place : (option : SolveOption) → option_at (place_of option) ≡ option
+unfolding option_at
+option_by_place Depth = refl
+option_by_place Pieces = refl
+option_by_place Plies = refl
+option_by_place Budget = refl
+option_by_place Lease = refl
+
+pub same_by_place : (one other : SolveOption) → place_of one ≡ place_of other → one ≡ other
+same_by_place one other same = sym (option_by_place one) ∙ ap option_at same ∙ option_by_place other
+
+pub same_by_name : (one other : SolveOption) → option_name one ≡ option_name other → one ≡ other
+same_by_name one other same = same_by_place one other (sym (place_by_name one) ∙ ap place_of_name same ∙ place_by_name other)
 
 pub is_two_or_three : (pieces : ℕ) → 2 ≤ pieces → pieces ≤ 3 → IsTableSize pieces
 is_two_or_three pieces least most = go (pieces == 2) refl
@@ -48,21 +78,9 @@ is_two_or_three pieces least most = go (pieces == 2) refl
     go true e = inl (grind (arith, common_steps))
     go false e = inr (grind (arith, common_steps))
 
--- the least and the largest number of each
-pub depth_limit : (s : Setting) → IsSetting s → s.name ≡ codes "--depth" → s.value ≤ 12
-depth_limit s (inl one) same = one.1
-depth_limit s (inr (inl one)) same = absurd (depth_is_not_pieces (sym same ∙ one.0))
-depth_limit s (inr (inr one)) same = absurd (depth_is_not_plies (sym same ∙ one.0))
-
-pub pieces_limit : (s : Setting) → IsSetting s → s.name ≡ codes "--pieces" → (2 ≤ s.value) × (s.value ≤ 3)
-pieces_limit s (inl one) same = absurd (depth_is_not_pieces (sym one.0 ∙ same))
-pieces_limit s (inr (inl one)) same = one.1
-pieces_limit s (inr (inr one)) same = absurd (pieces_is_not_plies (sym same ∙ one.0))
-
-pub plies_limit : (s : Setting) → IsSetting s → s.name ≡ codes "--plies" → s.value ≤ 200
-plies_limit s (inl one) same = absurd (depth_is_not_plies (sym one.0 ∙ same))
-plies_limit s (inr (inl one)) same = absurd (pieces_is_not_plies (sym one.0 ∙ same))
-plies_limit s (inr (inr one)) same = one.1
+-- a setting with an option's name has a number that the option takes
+pub takes_value : (option : SolveOption) (s : Setting) → IsSetting s → s.name ≡ option_name option → Takes option s.value
+takes_value option s setting named = subst (λ o. Takes o s.value) (same_by_name setting.0 option (sym setting.1.0 ∙ named)) setting.1.1
 
 -- the settings that stand behind others in the same words
 pub record Splits (given whole : List Setting) (word : List ℕ) (rest : List (List ℕ)) : Type 0 where
@@ -170,3 +188,52 @@ within_limits P name given default all each other = elim (number_from name given
   | inl none ↦ subst (λ o. P (unwrap_or o default)) (sym none) other
   | inr some ↦ subst (λ o. P (unwrap_or o default)) (sym some.1.1.1) (each some.0 some.1.0 some.1.1.0)
 ]
+
+takes_default : (option : SolveOption) → Takes option (default_of option)
+takes_default Depth = (omega arith, omega arith)
+takes_default Pieces = (omega arith, omega arith)
+takes_default Plies = (omega arith, omega arith)
+takes_default Budget = (omega arith, omega arith)
+takes_default Lease = (omega arith, omega arith)
+
+-- the option takes the number that it has
+pub takes_number : (option : SolveOption) (given : List Setting) → AreSettings given → Takes option (number_of option given)
+takes_number option given all = within_limits (Takes option) (option_name option) given (default_of option) all (takes_value option) (takes_default option)
+
+takes_least : (option : SolveOption) → Takes option (least_of option)
+takes_least Depth = (omega arith, omega arith)
+takes_least Pieces = (omega arith, omega arith)
+takes_least Plies = (omega arith, omega arith)
+takes_least Budget = (omega arith, omega arith)
+takes_least Lease = (omega arith, omega arith)
+
+-- a setting of each option
+pub least_setting : (option : SolveOption) → IsSetting (record { name = option_name option; value = least_of option })
+least_setting option = (option, (refl, takes_least option))
+
+-- ---- the numbers that are read
+
+-- each number stands at its option's place
+abbrev pub ArePlaced : List (Option ℕ) → List Setting → Type 0
+ArePlaced numbers given = (option : SolveOption) → get_or numbers (place_of option) None ≡ number_for (option_name option) given
+
+-- one number more
+pub placed_more : (numbers : List (Option ℕ)) (given : List Setting) (option : SolveOption) (place n : ℕ) → place ≡ place_of option → place < length numbers → ArePlaced numbers given → IsNew (option_name option) given
+    → ArePlaced (set numbers place (Some n)) (given ++ record { name = option_name option; value = n } ∷ [])
+placed_more numbers given option place n at within placed new o = by (place_of o == place) refl
+  where
+    next : Setting
+    next = record { name = option_name option; value = n }
+
+    by : (b : Bool) → (place_of o == place) ≡ b → get_or (set numbers place (Some n)) (place_of o) None ≡ number_for (option_name o) (given ++ next ∷ [])
+    by true e =
+        let here : place_of o ≡ place = grind (arith, common_steps) in
+        let same : o ≡ option = same_by_place o option (here ∙ at) in
+        get_or-set_at numbers place (place_of o) (Some n) None here within
+        ∙ sym (number_for-same given next new)
+        ∙ ap (λ q. number_for (option_name q) (given ++ next ∷ [])) (sym same)
+    by false e =
+        let other : place_of o ≢ place = grind (arith, common_steps) in
+        get_or-set_other numbers place (place_of o) (Some n) None other
+        ∙ placed o
+        ∙ sym (number_for-other (option_name o) given next (λ same. other (ap place_of (same_by_name o option (sym same)) ∙ sym at)))

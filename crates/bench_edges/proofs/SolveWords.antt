@@ -5,7 +5,8 @@ use Rattle.std.specs.List.{flat_map}
 use Rattle.bench_edges.specs.declared.words.Command.{Command}
 use Rattle.bench_edges.specs.declared.words.Command.TheVariants.{Solve}
 use Rattle.bench_edges.specs.declared.words.Options.{Options}
-use Rattle.bench_edges.specs.Words.{Setting, setting_words, IsSetting, IsNew, AreSettings, number_for, solve_words, SaysSolve, Says, Begins, IsRefusedAt}
+use Rattle.bench_edges.specs.declared.words.SolveOption.TheVariants.{Depth, Pieces, Plies, Budget, Lease}
+use Rattle.bench_edges.specs.Words.{Setting, setting_words, IsSetting, IsNew, AreSettings, number_of, solve_words, SaysSolve, Says, BeginsCommand, IsRefusedAt}
 use Rattle.bench_edges.proofs.Settings.{cons_head, cons_tail, not_nil, splits, new_before, AreSettings-more}
 use Rattle.bench_edges.proofs.Grammar.{IsStuck, only_solve, name_said, refused_at, refused_in}
 
@@ -20,9 +21,11 @@ pub record IsReadTo (words : List (List ℕ)) (at : ℕ) (given : List Setting) 
 -- the options that settings give
 abbrev pub options_of : List Setting → Options
 options_of given = record {
-  depth = unwrap_or (number_for (codes "--depth") given) 4;
-  pieces = unwrap_or (number_for (codes "--pieces") given) 2;
-  plies = unwrap_or (number_for (codes "--plies") given) 200;
+  depth = number_of Depth given;
+  pieces = number_of Pieces given;
+  plies = number_of Plies given;
+  budget = number_of Budget given;
+  lease = number_of Lease given;
 }
 
 -- settings that are read say a whole `solve`
@@ -36,12 +39,14 @@ said words path given spelling named settings = record {
   depth = refl;
   pieces = refl;
   plies = refl;
+  budget = refl;
+  lease = refl;
 }
 
-begins_with : (front rest : List (List ℕ)) (path : List ℕ) (given : List Setting) → front ++ rest ≡ solve_words path given → path ≢ [] → AreSettings given → Begins front
+begins_with : (front rest : List (List ℕ)) (path : List ℕ) (given : List Setting) → front ++ rest ≡ solve_words path given → path ≢ [] → AreSettings given → BeginsCommand front
 begins_with front rest path given spelling named settings = (rest, Solve (options_of given), said (front ++ rest) path given spelling named settings)
 
-begins_there : (words : List (List ℕ)) (at : ℕ) (given : List Setting) → IsReadTo words at given → Begins (take at words)
+begins_there : (words : List (List ℕ)) (at : ℕ) (given : List Setting) → IsReadTo words at given → BeginsCommand (take at words)
 begins_there words at given r = begins_with (take at words) [] r.path given (append-nil (take at words) ∙ r.front) r.named r.settings
 
 -- a longer `solve` goes on with a setting of a new name
@@ -91,7 +96,7 @@ read_on words at given next r setting new within name digits =
     }
 
 -- what stands in front of an option's number begins a command
-begins_value : (words : List (List ℕ)) (at : ℕ) (given : List Setting) (next : Setting) → IsReadTo words at given → IsSetting next → IsNew next.name given → at < length words → get_or words at [] ≡ next.name → Begins (take (at + 1) words)
+begins_value : (words : List (List ℕ)) (at : ℕ) (given : List Setting) (next : Setting) → IsReadTo words at given → IsSetting next → IsNew next.name given → at < length words → get_or words at [] ≡ next.name → BeginsCommand (take (at + 1) words)
 begins_value words at given next r setting new within name =
     let one : take (at + 1) words ≡ take at words ++ get_or words at [] ∷ [] = grind (arith, common_steps) in
     let front : take (at + 1) words ++ decimal next.value ∷ [] ≡ solve_words r.path (given ++ next ∷ []) =

@@ -4,13 +4,13 @@ use Rattle.bench_edges.specs.declared.status.Status.{Status}
 use Rattle.bench_edges.specs.declared.status.Status.TheVariants.{Done, Unsolved, Words, Input, Disk, Journal, Memory, Read, Write}
 
 -- the exit status of the program
-abbrev pub number_of : Status → ℕ
-number_of Done = 0
-number_of Unsolved = 1
-number_of Words = 2
-number_of Input = 3
-number_of Disk = 4
-number_of Journal = 5
-number_of Memory = 6
-number_of Read = 7
-number_of Write = 8
+abbrev pub status_number : Status → ℕ
+status_number Done = 0
+status_number Unsolved = 1
+status_number Words = 2
+status_number Input = 3
+status_number Disk = 4
+status_number Journal = 5
+status_number Memory = 6
+status_number Read = 7
+status_number Write = 8

@@ -9,8 +9,8 @@ use crate::sink::{Sink, SinkFault};
 use std::alloc::Global;
 use std::marker::Model;
 
-/// A sink in memory: it holds what it took, tells it, and fails the writes that it is told to fail. A
-/// write that finds no memory fails too.
+/// A sink in memory: it holds what it took, tells it, and fails the writes that it is told to fail.
+/// A write that finds no memory fails too.
 #[derive(Drop)]
 pub struct MemorySink {
     bytes: Vec<u8>,
@@ -35,8 +35,8 @@ impl Model for MemorySink {
 }
 
 impl MemorySink {
-    /// A sink that has taken nothing, takes all that it is given, and fails the writes with these numbers. The first
-    /// write has the number 0.
+    /// A sink that has taken nothing, takes all that it is given, and fails the writes with these
+    /// numbers. The first write has the number 0.
     pub fn new(alloc: Global, fail: Vec<u64>) -> MemorySink
         ensures { result ≡ record {
           taken = [];

@@ -34,8 +34,8 @@ impl Model for MemorySource {
 }
 
 impl MemorySource {
-    /// A source of these bytes that gives as many bytes as are asked, and fails the reads with these numbers. The first
-    /// read has the number 0.
+    /// A source of these bytes that gives as many bytes as are asked, and fails the reads with
+    /// these numbers. The first read has the number 0.
     pub fn new(bytes: Vec<u8>, fail: Vec<u64>) -> MemorySource
         ensures { result ≡ record {
           left = bytes.items;

@@ -20,8 +20,8 @@ pub trait Sink {
     /// How often the sink has failed, up to the last value of a `u64`. The count never falls.
     ghost faults: { Self → ℕ };
 
-    /// Takes bytes from the front of `from`, at least one, and answers how many. Answers `SinkFault`
-    /// where the sink failed; then it has taken none of them.
+    /// Takes bytes from the front of `from`, at least one, and answers how many. Answers
+    /// `SinkFault` where the sink failed; then it has taken none of them.
     fn write(&mut self, from: &[u8]) -> Result<usize, SinkFault>
         requires { 0 < length from.now }
         ensures some { IfOk result (λ count. 0 < count) }
@@ -32,8 +32,8 @@ pub trait Sink {
         ensures faults { CountsFaults (faults self.old) (faults self.new) result };
 }
 
-/// Writes all of `bytes`, by one `write` after the other. Answers the first fault; then the sink has
-/// taken the bytes in front of it, and not all.
+/// Writes all of `bytes`, by one `write` after the other. Answers the first fault; then the sink
+/// has taken the bytes in front of it, and not all.
 pub fn write_all<K: Sink>(sink: &mut K, bytes: &[u8]) -> Result<(), SinkFault>
     ensures whole { OnOk result (Appends (K.taken sink.old) (K.taken sink.new) bytes.now) }
     ensures front { OnErr result (AppendsFront (K.taken sink.old) (K.taken sink.new) bytes.now) }

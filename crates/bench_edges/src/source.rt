@@ -22,8 +22,8 @@ pub trait Source {
     ghost faults: { Self → ℕ };
 
     /// Moves the first bytes that are left into the front of `into`, and answers how many: at least
-    /// one, unless none is left. What stands in `into` behind them is not said. Answers `SourceFault`
-    /// where the source failed; then it has what it had.
+    /// one, unless none is left. What stands in `into` behind them is not said. Answers
+    /// `SourceFault` where the source failed; then it has what it had.
     fn read(&mut self, into: &mut [u8]) -> Result<usize, SourceFault>
         requires { 0 < length into.old }
         ensures bound { IfOk result (λ count. count ≤ length into.old) }
@@ -80,9 +80,9 @@ fn read_more<S: Source>(
     Ok(count)
 }
 
-/// Reads all that is left, unless that is more than `limit` bytes. Answers `TooLong` there, with one
-/// byte more than the limit read; `Fault` where the source failed; `Memory` where none was left.
-/// After a refusal the bytes that were read are gone from the source.
+/// Reads all that is left, unless that is more than `limit` bytes. Answers `TooLong` there, with
+/// one byte more than the limit read; `Fault` where the source failed; `Memory` where none was
+/// left. After a refusal the bytes that were read are gone from the source.
 pub fn read_to_limit<S: Source>(
     alloc: Global,
     source: &mut S,
@@ -95,7 +95,8 @@ pub fn read_to_limit<S: Source>(
     ensures fits { IfOk result (λ bytes. length bytes.items ≤ limit) }
     ensures ok { OnOk result (S.faults source.new ≡ S.faults source.old) }
 
-    // What was read: at most one byte past the limit, and just that byte where the source is too long.
+    // What was read: at most one byte past the limit, and just that byte where the source is too
+    // long.
     ensures past { IsErrOf result ReadRefusal.TooLong →
         ConsumesJust (limit + 1) (S.left source.old) (S.left source.new) }
     ensures front { OnErr result

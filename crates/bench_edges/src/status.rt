@@ -1,6 +1,6 @@
 //! How a run ends.
 ghost use Rattle.std.specs.Prelude.{◌≡◌};
-ghost use Rattle.bench_edges.specs.Status.{number_of};
+ghost use Rattle.bench_edges.specs.Status.{status_number};
 
 /// How a run ends.
 #[derive(Clone, Copy, Debug, PartialEq, Eq, PartialOrd, Ord, Hash)]
@@ -28,7 +28,7 @@ pub enum Status {
 impl Status {
     /// The exit status of the program: 0 to 8, in the order of the variants.
     pub fn number(self) -> u8
-        ensures { result ≡ number_of self }
+        ensures { result ≡ status_number self }
     {
         self as u8
     }

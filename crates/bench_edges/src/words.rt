@@ -1,6 +1,7 @@
 //! The words that the program is called with.
-ghost use Rattle.std.specs.Prelude.{◌≡◌, ◌≢◌, ◌<◌, ◌≤◌, ◌+◌, [], ◌∷◌, List, ℕ, IfOk, IfErr, Ok, Err, OnOk, OnErr, length, take, slice_index_or, decimal, codes};
-ghost use Rattle.bench_edges.specs.Words.{IsPlain, IsRefusedAt, IsWithinLimits, Says, texts};
+ghost use Rattle.std.specs.Prelude.{◌≡◌, ◌≢◌, ◌<◌, ◌≤◌, ◌+◌, [], ◌∷◌, List, ℕ, IfOk, IfErr, IfSome, Ok, Err, None, OnOk, OnErr, length, take, slice_index_or, decimal, codes};
+ghost use Rattle.bench_edges.specs.Words.{AreGiven, IsPlain, IsRefusedAt, IsWithinLimits, Says, least_of, most_of, option_name, place_of, texts};
+ghost use Rattle.bench_edges.specs.declared.words.SolveOption.{SolveOption};
 
 use shared_words::number;
 use thiserror::Error;
@@ -8,8 +9,12 @@ use thiserror::Error;
 /// What the program is to do.
 #[derive(Clone, Copy, Debug, PartialEq, Eq)]
 pub enum Command {
-    /// Solve the openings of the source.
+    /// Solve the openings of the source on the journal.
     Solve(Options),
+    /// Write what the journal holds.
+    Report,
+    /// Write the certificate of a root of the journal, by its number from 1.
+    Certify(u32),
     /// Check the text of a certificate, which the source holds.
     Verify,
     /// Write the endgame table of so many pieces, 2 or 3.
@@ -27,40 +32,127 @@ pub struct Options {
     pub pieces: u8,
     /// How many plies of each game are played, 0 to 200.
     pub plies: u8,
+    /// How many records of work the run may add to the journal, 0 to 1,000,000.
+    pub budget: u32,
+    /// How many leases later a lease of a leaf runs out, 1 to 1,000,000,000.
+    pub lease: u32,
+}
+
+/// An option of `solve`.
+#[derive(Clone, Copy)]
+pub(crate) enum SolveOption {
+    Depth,
+    Pieces,
+    Plies,
+    Budget,
+    Lease,
 }
 
 /// The words are not in the grammar.
 #[derive(Clone, Copy, Debug, PartialEq, Eq, Error)]
 #[error("the words are refused at word {at}")]
 pub struct WordsRefusal {
-    /// The place, from 0, of the first word that cannot stand there, or the number of words where one
-    /// is missing.
+    /// The place, from 0, of the first word that cannot stand there, or the number of words where
+    /// one is missing.
     pub at: usize,
 }
 
 /// How many plies a search looks ahead where no number is given.
-pub(crate) const DEFAULT_DEPTH: u8 = 4;
+pub(crate) const DEFAULT_DEPTH: u32 = 4;
 
 /// The most plies that a search looks ahead.
-pub(crate) const MAX_DEPTH: u64 = 12;
+pub(crate) const MAX_DEPTH: u32 = 12;
 
 /// How many plies of each game are played where no number is given.
-pub(crate) const DEFAULT_PLIES: u8 = 200;
+pub(crate) const DEFAULT_PLIES: u32 = 200;
 
 /// The most plies of each game that are played.
-pub(crate) const MAX_PLIES: u64 = 200;
+pub(crate) const MAX_PLIES: u32 = 200;
 
 /// The number of pieces of the endgame table of `solve` where no number is given.
-pub(crate) const DEFAULT_PIECES: u8 = 2;
+pub(crate) const DEFAULT_PIECES: u32 = 2;
 
 /// The least number of pieces of an endgame table.
-pub(crate) const MIN_PIECES: u64 = 2;
+pub(crate) const MIN_PIECES: u32 = 2;
 
 /// The most pieces of an endgame table.
-pub(crate) const MAX_PIECES: u64 = 3;
+pub(crate) const MAX_PIECES: u32 = 3;
+
+/// How many records of work a run may add where no number is given.
+pub(crate) const DEFAULT_BUDGET: u32 = 1_000;
+
+/// The most records of work that a run may add.
+pub(crate) const MAX_BUDGET: u32 = 1_000_000;
+
+/// How many leases later a lease runs out where no number is given.
+pub(crate) const DEFAULT_LEASE: u32 = 1_000_000;
+
+/// The least number of leases after which a lease runs out.
+pub(crate) const MIN_LEASE: u32 = 1;
+
+/// The greatest number of leases after which a lease runs out.
+pub(crate) const MAX_LEASE: u32 = 1_000_000_000;
+
+/// The number of the first root of a journal.
+pub(crate) const MIN_ROOT: u32 = 1;
+
+/// The number of the last root that a journal can hold.
+pub(crate) const MAX_ROOT: u32 = 65_536;
+
+/// How many options `solve` has.
+const OPTION_COUNT: usize = 5;
+
+impl SolveOption {
+    /// The option that a word names, if it names one.
+    fn named(word: &str) -> Option<SolveOption>
+        ensures some { IfSome result (λ option. word.now ≡ option_name option) }
+        ensures none { result ≡ None → (option : SolveOption) → word.now ≢ option_name option }
+    {
+        match word {
+            "--depth" => Some(SolveOption::Depth),
+            "--pieces" => Some(SolveOption::Pieces),
+            "--plies" => Some(SolveOption::Plies),
+            "--budget" => Some(SolveOption::Budget),
+            "--lease" => Some(SolveOption::Lease),
+            _ => None,
+        }
+    }
+
+    /// Its place among the options, from 0.
+    fn place(self) -> usize
+        ensures place { result ≡ place_of self }
+        ensures within { result < OPTION_COUNT }
+    {
+        self as usize
+    }
+
+    /// The least number that it takes.
+    fn least(self) -> u32
+        ensures { result ≡ least_of self }
+    {
+        match self {
+            SolveOption::Pieces => MIN_PIECES,
+            SolveOption::Lease => MIN_LEASE,
+            _ => 0,
+        }
+    }
+
+    /// The most that it takes.
+    fn most(self) -> u32
+        ensures { result ≡ most_of self }
+    {
+        match self {
+            SolveOption::Depth => MAX_DEPTH,
+            SolveOption::Pieces => MAX_PIECES,
+            SolveOption::Plies => MAX_PLIES,
+            SolveOption::Budget => MAX_BUDGET,
+            SolveOption::Lease => MAX_LEASE,
+        }
+    }
+}
 
 /// The number at a place, from `least` to `most`.
-fn number_at(words: &[&str], at: usize, least: u64, most: u64) -> Result<u64, WordsRefusal>
+fn number_at(words: &[&str], at: usize, least: u32, most: u32) -> Result<u32, WordsRefusal>
     ensures within { OnOk result (at < length words.now) }
     ensures least { IfOk result (λ n. least ≤ n) }
     ensures most { IfOk result (λ n. n ≤ most) }
@@ -73,9 +165,33 @@ fn number_at(words: &[&str], at: usize, least: u64, most: u64) -> Result<u64, Wo
         return Err(WordsRefusal { at });
     }
     match number(words[at].as_bytes()) {
-        Some(n) if least <= n && n <= most => Ok(n),
+        Some(n) if u64::from(least) <= n && n <= u64::from(most) => Ok(n as u32),
         _ => Err(WordsRefusal { at }),
     }
+}
+
+/// Reads the options of `solve`, which stand behind the first two words: the number that each is
+/// given, by its place.
+fn read_settings(words: &[&str]) -> Result<[Option<u32>; OPTION_COUNT], WordsRefusal>
+    requires { (path : List ℕ) × (path ≢ [])
+        × (take 2 (texts words.now) ≡ path ∷ codes "solve" ∷ []) }
+    ensures given { IfOk result (λ numbers. AreGiven (texts words.now) numbers) }
+    ensures refused { IfErr result (λ refusal. IsRefusedAt (texts words.now) refusal.at) }
+{
+    let mut numbers = [None; OPTION_COUNT];
+    let mut at = 2;
+    while at < words.len() {
+        let Some(option) = SolveOption::named(words[at]) else {
+            return Err(WordsRefusal { at });
+        };
+        if numbers[option.place()].is_some() {
+            return Err(WordsRefusal { at });
+        }
+        let number = number_at(words, at + 1, option.least(), option.most())?;
+        numbers[option.place()] = Some(number);
+        at += 2;
+    }
+    Ok(numbers)
 }
 
 /// Reads the options of `solve`, which stand behind the first two words.
@@ -85,26 +201,13 @@ fn read_solve(words: &[&str]) -> Result<Command, WordsRefusal>
     ensures command { IfOk result (λ command. Says (texts words.now) command) }
     ensures refused { IfErr result (λ refusal. IsRefusedAt (texts words.now) refusal.at) }
 {
-    let mut depth = None;
-    let mut pieces = None;
-    let mut plies = None;
-    let mut at = 2;
-    while at < words.len() {
-        if words[at] == "--depth" && depth.is_none() {
-            depth = Some(number_at(words, at + 1, 0, MAX_DEPTH)? as u8);
-        } else if words[at] == "--pieces" && pieces.is_none() {
-            pieces = Some(number_at(words, at + 1, MIN_PIECES, MAX_PIECES)? as u8);
-        } else if words[at] == "--plies" && plies.is_none() {
-            plies = Some(number_at(words, at + 1, 0, MAX_PLIES)? as u8);
-        } else {
-            return Err(WordsRefusal { at });
-        }
-        at += 2;
-    }
+    let [depth, pieces, plies, budget, lease] = read_settings(words)?;
     Ok(Command::Solve(Options {
-        depth: depth.unwrap_or(DEFAULT_DEPTH),
-        pieces: pieces.unwrap_or(DEFAULT_PIECES),
-        plies: plies.unwrap_or(DEFAULT_PLIES),
+        depth: depth.unwrap_or(DEFAULT_DEPTH) as u8,
+        pieces: pieces.unwrap_or(DEFAULT_PIECES) as u8,
+        plies: plies.unwrap_or(DEFAULT_PLIES) as u8,
+        budget: budget.unwrap_or(DEFAULT_BUDGET),
+        lease: lease.unwrap_or(DEFAULT_LEASE),
     }))
 }
 
@@ -120,6 +223,20 @@ fn read_table(words: &[&str]) -> Result<Command, WordsRefusal>
         return Err(WordsRefusal { at: 3 });
     }
     Ok(Command::MakeTable(pieces as u8))
+}
+
+/// Reads the root of `certify`, which stands behind the first two words.
+fn read_certify(words: &[&str]) -> Result<Command, WordsRefusal>
+    requires { (path : List ℕ) × (path ≢ [])
+        × (take 2 (texts words.now) ≡ path ∷ codes "certify" ∷ []) }
+    ensures command { IfOk result (λ command. Says (texts words.now) command) }
+    ensures refused { IfErr result (λ refusal. IsRefusedAt (texts words.now) refusal.at) }
+{
+    let root = number_at(words, 2, MIN_ROOT, MAX_ROOT)?;
+    if words.len() > 3 {
+        return Err(WordsRefusal { at: 3 });
+    }
+    Ok(Command::Certify(root))
 }
 
 /// Reads a command that its name alone says, which is the second word.
@@ -138,14 +255,17 @@ fn read_plain(words: &[&str], command: Command) -> Result<Command, WordsRefusal>
 /// Reads the words, without the program's name: a path, which is not empty, and then one of these.
 ///
 /// - `solve` and its options in any order, each at most once, with its number in the next word:
-///   `--depth`, 0 to 12 and by default 4, `--pieces`, 2 or 3 and by default 2, and `--plies`, 0 to 200
-///   and by default 200.
+///   `--depth`, 0 to 12 and by default 4, `--pieces`, 2 or 3 and by default 2, `--plies`, 0 to 200
+///   and by default 200, `--budget`, 0 to 1,000,000 and by default 1,000, and `--lease`, 1 to
+///   1,000,000,000 and by default 1,000,000.
+/// - `report`.
+/// - `certify` and the number of a root, 1 to 65,536.
 /// - `verify`.
 /// - `table` and the number of pieces, 2 or 3.
 /// - `table-check`.
 ///
-/// Refuses words that are not in this grammar at the first that cannot stand where it stands (places
-/// count from 0), or at their number where one is missing.
+/// Refuses words that are not in this grammar at the first that cannot stand where it stands
+/// (places count from 0), or at their number where one is missing.
 pub fn read_words(words: &[&str]) -> Result<Command, WordsRefusal>
     ensures command { IfOk result (λ command. Says (texts words.now) command) }
     ensures limits { IfOk result (λ command. IsWithinLimits command) }
@@ -163,6 +283,8 @@ pub fn read_words(words: &[&str]) -> Result<Command, WordsRefusal>
     }
     match words[1] {
         "solve" => read_solve(words),
+        "report" => read_plain(words, Command::Report),
+        "certify" => read_certify(words),
         "verify" => read_plain(words, Command::Verify),
         "table" => read_table(words),
         "table-check" => read_plain(words, Command::TableCheck),
@@ -180,6 +302,19 @@ mod tests {
             depth,
             pieces,
             plies,
+            budget: 1_000,
+            lease: 1_000_000,
+        });
+        assert_eq!(rt; read_words(words), Ok(solve), "{words:?}");
+    }
+
+    fn expect_budget(rt: &impl Abort, words: &[&str], budget: u32, lease: u32) {
+        let solve = Command::Solve(Options {
+            depth: 4,
+            pieces: 2,
+            plies: 200,
+            budget,
+            lease,
         });
         assert_eq!(rt; read_words(words), Ok(solve), "{words:?}");
     }
@@ -221,6 +356,44 @@ mod tests {
     }
 
     #[test]
+    fn reads_a_budget_and_a_lease(rt: HostRuntime) {
+        expect_budget(&rt, &["-", "solve", "--budget", "0"], 0, 1_000_000);
+        expect_budget(
+            &rt,
+            &["-", "solve", "--budget", "1000000", "--lease", "1"],
+            1_000_000,
+            1,
+        );
+        expect_budget(
+            &rt,
+            &["-", "solve", "--lease", "1000000000"],
+            1_000,
+            1_000_000_000,
+        );
+        expect_refused(&rt, &["-", "solve", "--budget", "1000001"], 3);
+        expect_refused(&rt, &["-", "solve", "--lease", "0"], 3);
+        expect_refused(&rt, &["-", "solve", "--lease", "1000000001"], 3);
+        expect_refused(&rt, &["-", "solve", "--budget", "4294967296"], 3);
+        expect_refused(&rt, &["-", "solve", "--budget", "1", "--budget", "1"], 4);
+        expect_refused(&rt, &["-", "solve", "--workers", "1"], 2);
+    }
+
+    #[test]
+    fn reads_report_and_certify(rt: HostRuntime) {
+        expect_command(&rt, &["-", "report"], Command::Report);
+        expect_command(&rt, &["report", "report"], Command::Report);
+        expect_command(&rt, &["-", "certify", "1"], Command::Certify(1));
+        expect_command(&rt, &["-", "certify", "65536"], Command::Certify(65_536));
+        expect_refused(&rt, &["-", "report", "1"], 2);
+        expect_refused(&rt, &["", "report"], 0);
+        expect_refused(&rt, &["-", "certify"], 2);
+        for root in ["0", "65537", "01", "-1", "", "one", "4294967297"] {
+            expect_refused(&rt, &["-", "certify", root], 2);
+        }
+        expect_refused(&rt, &["-", "certify", "1", "1"], 3);
+    }
+
+    #[test]
     fn reads_verify(rt: HostRuntime) {
         expect_command(&rt, &["-", "verify"], Command::Verify);
         expect_command(&rt, &["verify", "verify"], Command::Verify);
@@ -238,7 +411,7 @@ mod tests {
     fn refuses_the_first_word_that_cannot_stand(rt: HostRuntime) {
         expect_refused(&rt, &["", "solve"], 0);
         expect_refused(&rt, &["-", "Solve"], 1);
-        expect_refused(&rt, &["-", "report"], 1);
+        expect_refused(&rt, &["-", "reports"], 1);
         expect_refused(&rt, &["-", "solve", "depth", "1"], 2);
         expect_refused(&rt, &["-", "solve", "--depth=1"], 2);
         expect_refused(&rt, &["-", "solve", "--depth", "13"], 3);

@@ -19,8 +19,8 @@ use Rattle.strategy_certificate.specs.Parts.{WinList, HoldList, IsPath, IsWinRow
 use Rattle.strategy_certificate.specs.Claims.{HasShortRanks}
 use Rattle.strategy_certificate.specs.Certificates.{claim_of}
 use Rattle.bench_records.specs.Positions.{short_text, long_text, position_text}
-use Rattle.bench_records.specs.Texts.{choice_text, win_text, hold_text, part_text, claim_byte, certificate_text, text_of, IsShown, ShowsEnough, IsCounted, IsSound, IsText}
-use Rattle.bench_records.specs.Formats.{Field, byte, short, long, position, Value, IsAllowed, field_text, Begins, Format, done, field, one, ◌>>=◌, Spells}
+use Rattle.bench_records.specs.Texts.{choice_bytes, win_text, hold_text, part_text, claim_byte, certificate_text, record_text, IsShown, ShowsEnough, HasShortCount, IsSoundRecord, IsText}
+use Rattle.bench_records.specs.Formats.{Field, byte, short, long, position, FieldValue, IsAllowed, field_text, BeginsField, Format, done, field, one, ◌>>=◌, SpellsValue}
 use Rattle.bench_records.specs.Orders.{is_between, many, square_order, path_order, is_move_count, choice_order, win_order, hold_order, win_part_order, hold_part_order, part_order, certificate_order, begin_order, solve_order, expand_order, kind_order, record_order}
 use Rattle.bench_records.specs.declared.records.BenchRecord.{BenchRecord}
 use Rattle.bench_records.specs.declared.records.BenchRecord.TheVariants.{Begin, Solve, Expand}
@@ -29,11 +29,11 @@ use Rattle.bench_records.proofs.Rows.{none_distinct, distinct_push, distinct_her
 
 -- ---- one field
 
-pub one_text : (f : Field) (bytes : List ℕ) (v : Value f) → Spells (one f) bytes v → IsAllowed f v × (bytes ≡ field_text f v)
+pub one_text : (f : Field) (bytes : List ℕ) (v : FieldValue f) → SpellsValue (one f) bytes v → IsAllowed f v × (bytes ≡ field_text f v)
 one_text f bytes v (u, (rest, (begins, (none, same)))) =
     (subst (IsAllowed f) same begins.allowed, begins.spelled ∙ ap (λ t. field_text f u ++ t) none ∙ append-nil (field_text f u) ∙ ap (field_text f) same)
 
-pub one_spells : (f : Field) (v : Value f) → IsAllowed f v → Spells (one f) (field_text f v) v
+pub one_spells : (f : Field) (v : FieldValue f) → IsAllowed f v → SpellsValue (one f) (field_text f v) v
 one_spells f v allowed = (v, ([], (record { allowed = allowed; spelled = sym (append-nil (field_text f v)) }, (refl, refl))))
 
 -- ---- tests of a byte
@@ -60,8 +60,8 @@ module _ {X : Type 0} (next : List X → Format X) (text : X → List ℕ) (Good
     pub good : Good all
     pub spelled : bytes ≡ flat_map text more
 
-  many_text : ((before : List X) (x : X) (bytes : List ℕ) → Good before → Spells (next before) bytes x → Good (before ++ x ∷ []) × (bytes ≡ text x))
-      → (n : ℕ) (before all : List X) (bytes : List ℕ) → Good before → Spells (many n next before) bytes all → Made before n all bytes
+  many_text : ((before : List X) (x : X) (bytes : List ℕ) → Good before → SpellsValue (next before) bytes x → Good (before ++ x ∷ []) × (bytes ≡ text x))
+      → (n : ℕ) (before all : List X) (bytes : List ℕ) → Good before → SpellsValue (many n next before) bytes all → Made before n all bytes
   many_text step zero before all bytes good (none, same) = record { more = []; is = sym same ∙ sym (append-nil before); count = refl; good = subst Good same good; spelled = none }
   many_text step (suc n) before all bytes good spells =
       let cut = spells_cut (next before) (λ x. many n next (before ++ x ∷ [])) bytes all spells in
@@ -75,13 +75,13 @@ module _ {X : Type 0} (next : List X → Format X) (text : X → List ℕ) (Good
         spelled = cut.is ∙ (λ i. here.1 i ++ rest.spelled i);
       }
 
-  many_spells : ((before : List X) (x : X) (more : List X) → Good (before ++ x ∷ more) → Spells (next before) (text x) x)
-      → (before more : List X) → Good (before ++ more) → Spells (many (length more) next before) (flat_map text more) (before ++ more)
+  many_spells : ((before : List X) (x : X) (more : List X) → Good (before ++ x ∷ more) → SpellsValue (next before) (text x) x)
+      → (before more : List X) → Good (before ++ more) → SpellsValue (many (length more) next before) (flat_map text more) (before ++ more)
   many_spells step before [] good = (refl, sym (append-nil before))
   many_spells step before (x ∷ more) good =
       let rows : (before ++ x ∷ []) ++ more ≡ before ++ x ∷ more = append_assoc before (x ∷ []) more in
       spells_then (next before) (λ y. many (length more) next (before ++ y ∷ [])) (text x) (flat_map text more) x (before ++ x ∷ more) (step before x more good)
-      (subst (λ all. Spells (many (length more) next (before ++ x ∷ [])) (flat_map text more) all) rows
+      (subst (λ all. SpellsValue (many (length more) next (before ++ x ∷ [])) (flat_map text more) all) rows
       (many_spells step (before ++ x ∷ []) more (subst Good (sym rows) good)))
 
 here_all : {X : Type 0} (P : X → Type 0) (xs : List X) (x : X) (more : List X) → All P (xs ++ x ∷ more) → P x
@@ -93,12 +93,12 @@ bytes_of_squares : (path : List ℕ) → flat_map (λ s. s ∷ []) path ≡ path
 bytes_of_squares [] = refl
 bytes_of_squares (s ∷ path) = ap (λ p. s ∷ p) (bytes_of_squares path)
 
-square_text : (before : List ℕ) (s : ℕ) (bytes : List ℕ) → All IsSquare before → Spells (square_order before) bytes s → All IsSquare (before ++ s ∷ []) × (bytes ≡ s ∷ [])
+square_text : (before : List ℕ) (s : ℕ) (bytes : List ℕ) → All IsSquare before → SpellsValue (square_order before) bytes s → All IsSquare (before ++ s ∷ []) × (bytes ≡ s ∷ [])
 square_text before s bytes good spells =
     let known = one_text (byte (is_between 1 32)) bytes s spells in
     (All-push IsSquare before s good (between 1 32 s known.0), known.1)
 
-square_spells : (before : List ℕ) (s : ℕ) (more : List ℕ) → All IsSquare (before ++ s ∷ more) → Spells (square_order before) (s ∷ []) s
+square_spells : (before : List ℕ) (s : ℕ) (more : List ℕ) → All IsSquare (before ++ s ∷ more) → SpellsValue (square_order before) (s ∷ []) s
 square_spells before s more good =
     let square = here_all IsSquare before s more good in
     one_spells (byte (is_between 1 32)) s (is-between 1 32 s square.0 square.1)
@@ -110,8 +110,8 @@ count_some n h = by (or_cases (suc n == 0) (is_between 2 13 (suc n)) h)
     by (inl none) = absurd (let e : suc n ≡ 0 = eqb-true (suc n) 0 none in omega arith)
     by (inr some) = between 2 13 (suc n) some
 
-path_text : (n : ℕ) (chosen : Option (List ℕ)) (bytes : List ℕ) → IsTrue (is_move_count n) → Spells (path_order n) bytes chosen → IfSome chosen IsPath × (n ∷ bytes ≡ choice_text chosen)
-path_text zero chosen bytes h (none, same) = subst (λ c. IfSome c IsPath × (0 ∷ bytes ≡ choice_text c)) same (tt, ap (λ t. 0 ∷ t) none)
+path_text : (n : ℕ) (chosen : Option (List ℕ)) (bytes : List ℕ) → IsTrue (is_move_count n) → SpellsValue (path_order n) bytes chosen → IfSome chosen IsPath × (n ∷ bytes ≡ choice_bytes chosen)
+path_text zero chosen bytes h (none, same) = subst (λ c. IfSome c IsPath × (0 ∷ bytes ≡ choice_bytes c)) same (tt, ap (λ t. 0 ∷ t) none)
 path_text (suc n) chosen bytes h spells =
     let cut = spells_cut (many (suc n) square_order []) (λ path. done (Some path)) bytes chosen spells in
     let made = many_text square_order (λ s. s ∷ []) (All IsSquare) square_text (suc n) [] cut.value cut.front (All-nil IsSquare) cut.first in
@@ -120,9 +120,9 @@ path_text (suc n) chosen bytes h spells =
     let least : 2 ≤ length cut.value = let k = (count_some n h).0 in omega arith in
     let most : length cut.value ≤ 13 = let k = (count_some n h).1 in omega arith in
     let text : bytes ≡ cut.value = cut.is ∙ ap (λ t. cut.front ++ t) cut.second.0 ∙ append-nil cut.front ∙ made.spelled ∙ bytes_of_squares made.more ∙ sym path in
-    subst (λ c. IfSome c IsPath × (suc n ∷ bytes ≡ choice_text c)) cut.second.1 ((least, most, made.good), (λ i. sym long i ∷ text i))
+    subst (λ c. IfSome c IsPath × (suc n ∷ bytes ≡ choice_bytes c)) cut.second.1 ((least, most, made.good), (λ i. sym long i ∷ text i))
 
-pub choice_is : (bytes : List ℕ) (chosen : Option (List ℕ)) → Spells choice_order bytes chosen → IfSome chosen IsPath × (bytes ≡ choice_text chosen)
+pub choice_is : (bytes : List ℕ) (chosen : Option (List ℕ)) → SpellsValue choice_order bytes chosen → IfSome chosen IsPath × (bytes ≡ choice_bytes chosen)
 choice_is bytes chosen spells =
     let cut = spells_cut (one (byte is_move_count)) path_order bytes chosen spells in
     let count = one_text (byte is_move_count) cut.front cut.value cut.first in
@@ -132,14 +132,14 @@ choice_is bytes chosen spells =
 pub some_count : (n : ℕ) → 2 ≤ n → n ≤ 13 → IsTrue (is_move_count n)
 some_count n a b = or_right (n == 0) (is_between 2 13 n) (is-between 2 13 n a b)
 
-path_spells : (path : List ℕ) → IsPath path → Spells (path_order (length path)) path (Some path)
+path_spells : (path : List ℕ) → IsPath path → SpellsValue (path_order (length path)) path (Some path)
 path_spells [] whole = absurd (let k : 2 ≤ 0 = whole.0 in omega arith)
 path_spells (s ∷ path) whole =
     let squares = many_spells square_order (λ s. s ∷ []) (All IsSquare) square_spells [] (s ∷ path) whole.2 in
-    subst (λ t. Spells (path_order (suc (length path))) t (Some (s ∷ path))) (append-nil (flat_map (λ s. s ∷ []) (s ∷ path)) ∙ bytes_of_squares (s ∷ path))
+    subst (λ t. SpellsValue (path_order (suc (length path))) t (Some (s ∷ path))) (append-nil (flat_map (λ s. s ∷ []) (s ∷ path)) ∙ bytes_of_squares (s ∷ path))
     (spells_then (many (suc (length path)) square_order []) (λ p. done (Some p)) (flat_map (λ s. s ∷ []) (s ∷ path)) [] (s ∷ path) (Some (s ∷ path)) squares (refl, refl))
 
-pub choice_spells : (chosen : Option (List ℕ)) → IfSome chosen IsPath → Spells choice_order (choice_text chosen) chosen
+pub choice_spells : (chosen : Option (List ℕ)) → IfSome chosen IsPath → SpellsValue choice_order (choice_bytes chosen) chosen
 choice_spells None whole = spells_then (one (byte is_move_count)) path_order (0 ∷ []) [] 0 None (one_spells (byte is_move_count) 0 refl) (refl, refl)
 choice_spells (Some path) whole =
     spells_then (one (byte is_move_count)) path_order (length path ∷ []) path (length path) (Some path)
@@ -173,7 +173,7 @@ pub record GoodHolds (rows : List (Board × Option (List ℕ))) : Type 0 where
   pub distinct : HasDistinctPositions rows
   pub each : All IsHoldRow rows
 
-win_is : (before : List (Board × WinEntry)) (row : Board × WinEntry) (bytes : List ℕ) → GoodWins before → Spells (win_order before) bytes row → GoodWins (before ++ row ∷ []) × (bytes ≡ win_text row)
+win_is : (before : List (Board × WinEntry)) (row : Board × WinEntry) (bytes : List ℕ) → GoodWins before → SpellsValue (win_order before) bytes row → GoodWins (before ++ row ∷ []) × (bytes ≡ win_text row)
 win_is before row bytes good spells =
     let at_p = spells_cut (one (position (positions_of before))) win_behind bytes row spells in
     let p = one_text (position (positions_of before)) at_p.front at_p.value at_p.first in
@@ -193,18 +193,18 @@ win_is before row bytes good spells =
       text,
     )
 
-win_spells : (before : List (Board × WinEntry)) (row : Board × WinEntry) (more : List (Board × WinEntry)) → GoodWins (before ++ row ∷ more) → Spells (win_order before) (win_text row) row
+win_spells : (before : List (Board × WinEntry)) (row : Board × WinEntry) (more : List (Board × WinEntry)) → GoodWins (before ++ row ∷ more) → SpellsValue (win_order before) (win_text row) row
 win_spells before row more good =
     let sound = here_all IsWinRow before row more good.each in
     let low = here_all (λ r. r.1.rank ≤ 2 ^ 40) before row more good.low in
     let wide : row.1.rank < 2 ^ 64 = omega arith in
-    spells_then (one (position (positions_of before))) win_behind (position_text row.0) (long_text row.1.rank ++ choice_text row.1.chosen) row.0 row
+    spells_then (one (position (positions_of before))) win_behind (position_text row.0) (long_text row.1.rank ++ choice_bytes row.1.chosen) row.0 row
     (one_spells (position (positions_of before)) row.0 (sound.0, distinct_here before row more good.distinct))
-    (spells_then (one (long (2 ^ 40))) (win_chosen row.0) (long_text row.1.rank) (choice_text row.1.chosen) row.1.rank row (one_spells (long (2 ^ 40)) row.1.rank (wide, low))
-    (subst (λ t. Spells (choice_order >>= (win_row row.0 row.1.rank)) t row) (append-nil (choice_text row.1.chosen))
-    (spells_then choice_order (win_row row.0 row.1.rank) (choice_text row.1.chosen) [] row.1.chosen row (choice_spells row.1.chosen sound.1.1) (refl, refl))))
+    (spells_then (one (long (2 ^ 40))) (win_chosen row.0) (long_text row.1.rank) (choice_bytes row.1.chosen) row.1.rank row (one_spells (long (2 ^ 40)) row.1.rank (wide, low))
+    (subst (λ t. SpellsValue (choice_order >>= (win_row row.0 row.1.rank)) t row) (append-nil (choice_bytes row.1.chosen))
+    (spells_then choice_order (win_row row.0 row.1.rank) (choice_bytes row.1.chosen) [] row.1.chosen row (choice_spells row.1.chosen sound.1.1) (refl, refl))))
 
-hold_is : (before : List (Board × Option (List ℕ))) (row : Board × Option (List ℕ)) (bytes : List ℕ) → GoodHolds before → Spells (hold_order before) bytes row → GoodHolds (before ++ row ∷ []) × (bytes ≡ hold_text row)
+hold_is : (before : List (Board × Option (List ℕ))) (row : Board × Option (List ℕ)) (bytes : List ℕ) → GoodHolds before → SpellsValue (hold_order before) bytes row → GoodHolds (before ++ row ∷ []) × (bytes ≡ hold_text row)
 hold_is before row bytes good spells =
     let at_p = spells_cut (one (position (positions_of before))) hold_behind bytes row spells in
     let p = one_text (position (positions_of before)) at_p.front at_p.value at_p.first in
@@ -221,13 +221,13 @@ hold_is before row bytes good spells =
       text,
     )
 
-hold_spells : (before : List (Board × Option (List ℕ))) (row : Board × Option (List ℕ)) (more : List (Board × Option (List ℕ))) → GoodHolds (before ++ row ∷ more) → Spells (hold_order before) (hold_text row) row
+hold_spells : (before : List (Board × Option (List ℕ))) (row : Board × Option (List ℕ)) (more : List (Board × Option (List ℕ))) → GoodHolds (before ++ row ∷ more) → SpellsValue (hold_order before) (hold_text row) row
 hold_spells before row more good =
     let sound = here_all IsHoldRow before row more good.each in
-    spells_then (one (position (positions_of before))) hold_behind (position_text row.0) (choice_text row.1) row.0 row
+    spells_then (one (position (positions_of before))) hold_behind (position_text row.0) (choice_bytes row.1) row.0 row
     (one_spells (position (positions_of before)) row.0 (sound.0, distinct_here before row more good.distinct))
-    (subst (λ t. Spells (choice_order >>= (hold_row row.0)) t row) (append-nil (choice_text row.1))
-    (spells_then choice_order (hold_row row.0) (choice_text row.1) [] row.1 row (choice_spells row.1 sound.1) (refl, refl)))
+    (subst (λ t. SpellsValue (choice_order >>= (hold_row row.0)) t row) (append-nil (choice_bytes row.1))
+    (spells_then choice_order (hold_row row.0) (choice_bytes row.1) [] row.1 row (choice_spells row.1 sound.1) (refl, refl)))
 
 -- ---- parts
 
@@ -247,11 +247,11 @@ holds_behind side count = many count hold_order [] >>= hold_part side
 -- a part that bytes behind this claim spell
 pub record IsPartText (code : ℕ) (bytes : List ℕ) (part : Part) : Type 0 where
   pub claimed : code ≡ claim_byte (claim_of part)
-  pub counted : IsCounted part
+  pub counted : HasShortCount part
   pub ranks : HasShortRanks part
   pub spelled : bytes ≡ part_text part
 
-win_part_is : (side : Side) (bytes : List ℕ) (part : Part) → Spells (win_part_order side) bytes part → IsPartText (claim_byte (claim.Win side)) bytes part
+win_part_is : (side : Side) (bytes : List ℕ) (part : Part) → SpellsValue (win_part_order side) bytes part → IsPartText (claim_byte (claim.Win side)) bytes part
 win_part_is side bytes part spells =
     let at_count = spells_cut (one short) (wins_behind side) bytes part spells in
     let count = one_text short at_count.front at_count.value at_count.first in
@@ -268,7 +268,7 @@ win_part_is side bytes part spells =
           ++ (at_rows.is ∙ ap (λ t. at_rows.front ++ t) at_rows.second.0 ∙ append-nil at_rows.front ∙ made.spelled ∙ ap (flat_map win_text) (sym rows)) i);
     })
 
-hold_part_is : (side : Side) (bytes : List ℕ) (part : Part) → Spells (hold_part_order side) bytes part → IsPartText (claim_byte (claim.Hold side)) bytes part
+hold_part_is : (side : Side) (bytes : List ℕ) (part : Part) → SpellsValue (hold_part_order side) bytes part → IsPartText (claim_byte (claim.Hold side)) bytes part
 hold_part_is side bytes part spells =
     let at_count = spells_cut (one short) (holds_behind side) bytes part spells in
     let count = one_text short at_count.front at_count.value at_count.first in
@@ -285,7 +285,7 @@ hold_part_is side bytes part spells =
           ++ (at_rows.is ∙ ap (λ t. at_rows.front ++ t) at_rows.second.0 ∙ append-nil at_rows.front ∙ made.spelled ∙ ap (flat_map hold_text) (sym rows)) i);
     })
 
-part_is : (code : ℕ) (bytes : List ℕ) (part : Part) → 1 ≤ code → code ≤ 4 → Spells (part_order code) bytes part → IsPartText code bytes part
+part_is : (code : ℕ) (bytes : List ℕ) (part : Part) → 1 ≤ code → code ≤ 4 → SpellsValue (part_order code) bytes part → IsPartText code bytes part
 part_is zero bytes part least most spells = absurd (omega arith)
 part_is (suc zero) bytes part least most spells = win_part_is Black bytes part spells
 part_is (suc (suc zero)) bytes part least most spells = win_part_is White bytes part spells
@@ -293,19 +293,19 @@ part_is (suc (suc (suc zero))) bytes part least most spells = hold_part_is Black
 part_is (suc (suc (suc (suc zero)))) bytes part least most spells = hold_part_is White bytes part spells
 part_is (suc (suc (suc (suc (suc n))))) bytes part least most spells = absurd (omega arith)
 
-win_part_spells : (side : Side) (list : WinList) → list.side ≡ side → IsCounted (Win list) → HasShortRanks (Win list) → Spells (win_part_order side) (part_text (Win list)) (Win list)
+win_part_spells : (side : Side) (list : WinList) → list.side ≡ side → HasShortCount (Win list) → HasShortRanks (Win list) → SpellsValue (win_part_order side) (part_text (Win list)) (Win list)
 win_part_spells side list same counted low =
     let rows = many_spells win_order win_text GoodWins win_spells [] list.entries (record { distinct = counted.0.distinct; each = counted.0.rows; low = low }) in
     spells_then (one short) (wins_behind side) (short_text (length list.entries)) (flat_map win_text list.entries) (length list.entries) (Win list) (one_spells short (length list.entries) counted.1)
-    (subst (λ t. Spells (many (length list.entries) win_order [] >>= (win_part side)) t (Win list)) (append-nil (flat_map win_text list.entries))
+    (subst (λ t. SpellsValue (many (length list.entries) win_order [] >>= (win_part side)) t (Win list)) (append-nil (flat_map win_text list.entries))
     (spells_then (many (length list.entries) win_order []) (win_part side) (flat_map win_text list.entries) [] list.entries (Win list) rows
     (refl, λ i. Win (record { side = sym same i; entries = list.entries }))))
 
-hold_part_spells : (side : Side) (list : HoldList) → list.side ≡ side → IsCounted (Hold list) → Spells (hold_part_order side) (part_text (Hold list)) (Hold list)
+hold_part_spells : (side : Side) (list : HoldList) → list.side ≡ side → HasShortCount (Hold list) → SpellsValue (hold_part_order side) (part_text (Hold list)) (Hold list)
 hold_part_spells side list same counted =
     let rows = many_spells hold_order hold_text GoodHolds hold_spells [] list.entries (record { distinct = counted.0.distinct; each = counted.0.rows }) in
     spells_then (one short) (holds_behind side) (short_text (length list.entries)) (flat_map hold_text list.entries) (length list.entries) (Hold list) (one_spells short (length list.entries) counted.1)
-    (subst (λ t. Spells (many (length list.entries) hold_order [] >>= (hold_part side)) t (Hold list)) (append-nil (flat_map hold_text list.entries))
+    (subst (λ t. SpellsValue (many (length list.entries) hold_order [] >>= (hold_part side)) t (Hold list)) (append-nil (flat_map hold_text list.entries))
     (spells_then (many (length list.entries) hold_order []) (hold_part side) (flat_map hold_text list.entries) [] list.entries (Hold list) rows
     (refl, λ i. Hold (record { side = sym same i; entries = list.entries }))))
 
@@ -313,27 +313,27 @@ hold_part_spells side list same counted =
 record SpelledPart (part : Part) : Type 0 where
   least : 1 ≤ claim_byte (claim_of part)
   most : claim_byte (claim_of part) ≤ 4
-  spells : Spells (part_order (claim_byte (claim_of part))) (part_text part) part
+  spells : SpellsValue (part_order (claim_byte (claim_of part))) (part_text part) part
 
-part_spells : (part : Part) → IsCounted part → HasShortRanks part → SpelledPart part
+part_spells : (part : Part) → HasShortCount part → HasShortRanks part → SpelledPart part
 part_spells (Win list) counted low = by list.side list refl counted low
   where
-    by : (side : Side) (list : WinList) → list.side ≡ side → IsCounted (Win list) → HasShortRanks (Win list) → SpelledPart (Win list)
+    by : (side : Side) (list : WinList) → list.side ≡ side → HasShortCount (Win list) → HasShortRanks (Win list) → SpelledPart (Win list)
     by Black list same counted low =
         let code : claim_byte (claim.Win list.side) ≡ 1 = ap (λ s. claim_byte (claim.Win s)) same in
-        record { least = omega (arith, code); most = omega (arith, code); spells = subst (λ n. Spells (part_order n) (part_text (Win list)) (Win list)) (sym code) (win_part_spells Black list same counted low) }
+        record { least = omega (arith, code); most = omega (arith, code); spells = subst (λ n. SpellsValue (part_order n) (part_text (Win list)) (Win list)) (sym code) (win_part_spells Black list same counted low) }
     by White list same counted low =
         let code : claim_byte (claim.Win list.side) ≡ 2 = ap (λ s. claim_byte (claim.Win s)) same in
-        record { least = omega (arith, code); most = omega (arith, code); spells = subst (λ n. Spells (part_order n) (part_text (Win list)) (Win list)) (sym code) (win_part_spells White list same counted low) }
+        record { least = omega (arith, code); most = omega (arith, code); spells = subst (λ n. SpellsValue (part_order n) (part_text (Win list)) (Win list)) (sym code) (win_part_spells White list same counted low) }
 part_spells (Hold list) counted low = by list.side list refl counted
   where
-    by : (side : Side) (list : HoldList) → list.side ≡ side → IsCounted (Hold list) → SpelledPart (Hold list)
+    by : (side : Side) (list : HoldList) → list.side ≡ side → HasShortCount (Hold list) → SpelledPart (Hold list)
     by Black list same counted =
         let code : claim_byte (claim.Hold list.side) ≡ 3 = ap (λ s. claim_byte (claim.Hold s)) same in
-        record { least = omega (arith, code); most = omega (arith, code); spells = subst (λ n. Spells (part_order n) (part_text (Hold list)) (Hold list)) (sym code) (hold_part_spells Black list same counted) }
+        record { least = omega (arith, code); most = omega (arith, code); spells = subst (λ n. SpellsValue (part_order n) (part_text (Hold list)) (Hold list)) (sym code) (hold_part_spells Black list same counted) }
     by White list same counted =
         let code : claim_byte (claim.Hold list.side) ≡ 4 = ap (λ s. claim_byte (claim.Hold s)) same in
-        record { least = omega (arith, code); most = omega (arith, code); spells = subst (λ n. Spells (part_order n) (part_text (Hold list)) (Hold list)) (sym code) (hold_part_spells White list same counted) }
+        record { least = omega (arith, code); most = omega (arith, code); spells = subst (λ n. SpellsValue (part_order n) (part_text (Hold list)) (Hold list)) (sym code) (hold_part_spells White list same counted) }
 
 -- ---- certificates
 
@@ -347,9 +347,9 @@ behind_claim pieces p code = part_order code >>= by_part pieces p
 -- a certificate that has a text
 pub record IsGoodShown (pieces : ℕ) (p : Board) (c : Certificate) : Type 0 where
   pub shown : IsShown pieces p c
-  pub counted : All IsCounted c.parts
+  pub counted : All HasShortCount c.parts
 
-certificate_is : (pieces : ℕ) (p : Board) (before : List Certificate) (c : Certificate) (bytes : List ℕ) → All (IsGoodShown pieces p) before → Spells (certificate_order pieces p before) bytes c
+certificate_is : (pieces : ℕ) (p : Board) (before : List Certificate) (c : Certificate) (bytes : List ℕ) → All (IsGoodShown pieces p) before → SpellsValue (certificate_order pieces p before) bytes c
     → All (IsGoodShown pieces p) (before ++ c ∷ []) × (bytes ≡ certificate_text c)
 certificate_is pieces p before c bytes good spells =
     let at_claim = spells_cut (one (byte (is_between 1 4))) (behind_claim pieces p) bytes c spells in
@@ -362,29 +362,29 @@ certificate_is pieces p before c bytes good spells =
     at_claim.is ∙ (λ i. (code.1 ∙ ap (λ n. n ∷ []) part.claimed) i ++ (at_part.is ∙ (λ j. part.spelled j ++ at_part.second.0 j)) i) in
     let fine : IsGoodShown pieces p made = record {
       shown = record { position = refl; table = refl; claim = refl; ranks = All-cons HasShortRanks at_part.value [] part.ranks (All-nil HasShortRanks) };
-      counted = All-cons IsCounted at_part.value [] part.counted (All-nil IsCounted);
+      counted = All-cons HasShortCount at_part.value [] part.counted (All-nil HasShortCount);
     } in
     subst (λ d. All (IsGoodShown pieces p) (before ++ d ∷ []) × (bytes ≡ certificate_text d)) at_part.second.1 (All-push (IsGoodShown pieces p) before made good fine, text)
 
 certificate_spells_of : (pieces : ℕ) (p : Board) (before : List Certificate) (where_at : Board) (claimed : Claim) (table : ℕ) (parts : List Part)
-    → where_at ≡ p → table ≡ pieces → map claim_of parts ≡ claimed ∷ [] → All HasShortRanks parts → All IsCounted parts
-    → Spells (certificate_order pieces p before) (claim_byte claimed ∷ flat_map part_text parts) (record { position = where_at; claim = claimed; pieces = table; parts = parts })
+    → where_at ≡ p → table ≡ pieces → map claim_of parts ≡ claimed ∷ [] → All HasShortRanks parts → All HasShortCount parts
+    → SpellsValue (certificate_order pieces p before) (claim_byte claimed ∷ flat_map part_text parts) (record { position = where_at; claim = claimed; pieces = table; parts = parts })
 certificate_spells_of pieces p before where_at claimed table [] same_p same_table claims low counted = absurd (cc)
 certificate_spells_of pieces p before where_at claimed table (one_part ∷ other ∷ more) same_p same_table claims low counted = absurd (cc)
 certificate_spells_of pieces p before where_at claimed table (part ∷ []) same_p same_table claims low counted =
     let own : claim_of part ≡ claimed = cc in
-    let spelled = part_spells part (All-head IsCounted part [] counted) (All-head HasShortRanks part [] low) in
+    let spelled = part_spells part (All-head HasShortCount part [] counted) (All-head HasShortRanks part [] low) in
     let made : Certificate = record { position = p; claim = claim_of part; pieces = pieces; parts = part ∷ [] } in
     let whole : made ≡ record { position = where_at; claim = claimed; pieces = table; parts = part ∷ [] } =
     λ i. record { position = sym same_p i; claim = own i; pieces = sym same_table i; parts = part ∷ [] } in
-    subst (λ c. Spells (certificate_order pieces p before) (claim_byte claimed ∷ flat_map part_text (part ∷ [])) c) whole
-    (subst (λ s. Spells (certificate_order pieces p before) (claim_byte s ∷ flat_map part_text (part ∷ [])) made) own
+    subst (λ c. SpellsValue (certificate_order pieces p before) (claim_byte claimed ∷ flat_map part_text (part ∷ [])) c) whole
+    (subst (λ s. SpellsValue (certificate_order pieces p before) (claim_byte s ∷ flat_map part_text (part ∷ [])) made) own
     (spells_then (one (byte (is_between 1 4))) (behind_claim pieces p) (claim_byte (claim_of part) ∷ []) (part_text part ++ []) (claim_byte (claim_of part)) made
     (one_spells (byte (is_between 1 4)) (claim_byte (claim_of part)) (is-between 1 4 (claim_byte (claim_of part)) spelled.least spelled.most))
     (spells_then (part_order (claim_byte (claim_of part))) (by_part pieces p) (part_text part) [] part made spelled.spells (refl, refl))))
 
 certificate_spells : (pieces : ℕ) (p : Board) (before : List Certificate) (c : Certificate) (more : List Certificate) → All (IsGoodShown pieces p) (before ++ c ∷ more)
-    → Spells (certificate_order pieces p before) (certificate_text c) c
+    → SpellsValue (certificate_order pieces p before) (certificate_text c) c
 certificate_spells pieces p before c more good =
     let fine = here_all (IsGoodShown pieces p) before c more good in
     certificate_spells_of pieces p before c.position c.claim c.pieces c.parts fine.shown.position fine.shown.table fine.shown.claim fine.shown.ranks fine.counted
@@ -396,16 +396,16 @@ all_shown pieces p [] all = All-nil (IsShown pieces p)
 all_shown pieces p (c ∷ cs) all =
     All-cons (IsShown pieces p) c cs (All-head (IsGoodShown pieces p) c cs all).shown (all_shown pieces p cs (All-tail (IsGoodShown pieces p) c cs all))
 
-all_counted : (pieces : ℕ) (p : Board) (cs : List Certificate) → All (IsGoodShown pieces p) cs → All (λ c. All IsCounted c.parts) cs
-all_counted pieces p [] all = All-nil (λ c. All IsCounted c.parts)
+all_counted : (pieces : ℕ) (p : Board) (cs : List Certificate) → All (IsGoodShown pieces p) cs → All (λ c. All HasShortCount c.parts) cs
+all_counted pieces p [] all = All-nil (λ c. All HasShortCount c.parts)
 all_counted pieces p (c ∷ cs) all =
-    All-cons (λ c. All IsCounted c.parts) c cs (All-head (IsGoodShown pieces p) c cs all).counted (all_counted pieces p cs (All-tail (IsGoodShown pieces p) c cs all))
+    All-cons (λ c. All HasShortCount c.parts) c cs (All-head (IsGoodShown pieces p) c cs all).counted (all_counted pieces p cs (All-tail (IsGoodShown pieces p) c cs all))
 
-all_good : (pieces : ℕ) (p : Board) (cs : List Certificate) → All (IsShown pieces p) cs → All (λ c. All IsCounted c.parts) cs → All (IsGoodShown pieces p) cs
+all_good : (pieces : ℕ) (p : Board) (cs : List Certificate) → All (IsShown pieces p) cs → All (λ c. All HasShortCount c.parts) cs → All (IsGoodShown pieces p) cs
 all_good pieces p [] shown counted = All-nil (IsGoodShown pieces p)
 all_good pieces p (c ∷ cs) shown counted =
-    All-cons (IsGoodShown pieces p) c cs (record { shown = All-head (IsShown pieces p) c cs shown; counted = All-head (λ d. All IsCounted d.parts) c cs counted })
-    (all_good pieces p cs (All-tail (IsShown pieces p) c cs shown) (All-tail (λ d. All IsCounted d.parts) c cs counted))
+    All-cons (IsGoodShown pieces p) c cs (record { shown = All-head (IsShown pieces p) c cs shown; counted = All-head (λ d. All HasShortCount d.parts) c cs counted })
+    (all_good pieces p cs (All-tail (IsShown pieces p) c cs shown) (All-tail (λ d. All HasShortCount d.parts) c cs counted))
 
 pub none_before : (p : Board) → ¬ Contains [] p
 none_before p there = Contains-nil p there
@@ -426,10 +426,10 @@ behind_node pieces node = one (position []) >>= behind_position pieces node
 -- a record behind its kind
 record IsBehind (pieces kind : ℕ) (r : BenchRecord) (bytes : List ℕ) : Type 0 where
   shows : ShowsEnough pieces r
-  sound : IsSound r
-  spelled : kind ∷ bytes ≡ text_of r
+  sound : IsSoundRecord r
+  spelled : kind ∷ bytes ≡ record_text r
 
-begin_is : (pieces : ℕ) (r : BenchRecord) (bytes : List ℕ) → Spells begin_order bytes r → IsBehind pieces 1 r bytes
+begin_is : (pieces : ℕ) (r : BenchRecord) (bytes : List ℕ) → SpellsValue begin_order bytes r → IsBehind pieces 1 r bytes
 begin_is pieces r bytes spells =
     let at_p = spells_cut (one (position [])) (λ q. done (Begin q)) bytes r spells in
     let p = one_text (position []) at_p.front at_p.value at_p.first in
@@ -439,7 +439,7 @@ begin_is pieces r bytes spells =
       spelled = ap (λ t. 1 ∷ t) (at_p.is ∙ (λ i. p.1 i ++ at_p.second.0 i) ∙ append-nil (position_text at_p.value));
     })
 
-expand_is : (pieces : ℕ) (r : BenchRecord) (bytes : List ℕ) → Spells expand_order bytes r → IsBehind pieces 3 r bytes
+expand_is : (pieces : ℕ) (r : BenchRecord) (bytes : List ℕ) → SpellsValue expand_order bytes r → IsBehind pieces 3 r bytes
 expand_is pieces r bytes spells =
     let at_node = spells_cut (one (long (2 ^ 64 - 1))) (λ n. done (Expand n)) bytes r spells in
     let node = one_text (long (2 ^ 64 - 1)) at_node.front at_node.value at_node.first in
@@ -449,7 +449,7 @@ expand_is pieces r bytes spells =
       spelled = ap (λ t. 3 ∷ t) (at_node.is ∙ (λ i. node.1 i ++ at_node.second.0 i) ∙ append-nil (long_text at_node.value));
     })
 
-solve_is : (pieces : ℕ) (r : BenchRecord) (bytes : List ℕ) → Spells (solve_order pieces) bytes r → IsBehind pieces 2 r bytes
+solve_is : (pieces : ℕ) (r : BenchRecord) (bytes : List ℕ) → SpellsValue (solve_order pieces) bytes r → IsBehind pieces 2 r bytes
 solve_is pieces r bytes spells =
     let at_node = spells_cut (one (long (2 ^ 64 - 1))) (behind_node pieces) bytes r spells in
     let node = one_text (long (2 ^ 64 - 1)) at_node.front at_node.value at_node.first in
@@ -472,14 +472,14 @@ solve_is pieces r bytes spells =
           ++ (at_shown.is ∙ ap (λ t. at_shown.front ++ t) at_shown.second.0 ∙ append-nil at_shown.front ∙ made.spelled ∙ ap (flat_map certificate_text) (sym shown)) k)) j)) i));
     })
 
-kind_is : (pieces kind : ℕ) (r : BenchRecord) (bytes : List ℕ) → 1 ≤ kind → kind ≤ 3 → Spells (kind_order pieces kind) bytes r → IsBehind pieces kind r bytes
+kind_is : (pieces kind : ℕ) (r : BenchRecord) (bytes : List ℕ) → 1 ≤ kind → kind ≤ 3 → SpellsValue (kind_order pieces kind) bytes r → IsBehind pieces kind r bytes
 kind_is pieces zero r bytes least most spells = absurd (omega arith)
 kind_is pieces (suc zero) r bytes least most spells = begin_is pieces r bytes spells
 kind_is pieces (suc (suc zero)) r bytes least most spells = solve_is pieces r bytes spells
 kind_is pieces (suc (suc (suc zero))) r bytes least most spells = expand_is pieces r bytes spells
 kind_is pieces (suc (suc (suc (suc n)))) r bytes least most spells = absurd (omega arith)
 
-pub spelled_is_text : (pieces : ℕ) (before : List BenchRecord) (r : BenchRecord) (bytes : List ℕ) → Spells (record_order pieces) bytes r → IsText pieces before r bytes
+pub spelled_is_text : (pieces : ℕ) (before : List BenchRecord) (r : BenchRecord) (bytes : List ℕ) → SpellsValue (record_order pieces) bytes r → IsText pieces before r bytes
 spelled_is_text pieces before r bytes spells =
     let at_kind = spells_cut (one (byte (is_between 1 3))) (kind_order pieces) bytes r spells in
     let kind = one_text (byte (is_between 1 3)) at_kind.front at_kind.value at_kind.first in
@@ -487,12 +487,12 @@ spelled_is_text pieces before r bytes spells =
     let behind = kind_is pieces at_kind.value r at_kind.rest range.0 range.1 at_kind.second in
     record { shows = behind.shows; sound = behind.sound; spelled = at_kind.is ∙ ap (λ t. t ++ at_kind.rest) kind.1 ∙ behind.spelled }
 
-spelled_kind : (pieces kind : ℕ) (r : BenchRecord) (bytes : List ℕ) → IsTrue (is_between 1 3 kind) → Spells (kind_order pieces kind) bytes r → Spells (record_order pieces) (kind ∷ bytes) r
+spelled_kind : (pieces kind : ℕ) (r : BenchRecord) (bytes : List ℕ) → IsTrue (is_between 1 3 kind) → SpellsValue (kind_order pieces kind) bytes r → SpellsValue (record_order pieces) (kind ∷ bytes) r
 spelled_kind pieces kind r bytes range spells =
     spells_then (one (byte (is_between 1 3))) (kind_order pieces) (kind ∷ []) bytes kind r (one_spells (byte (is_between 1 3)) kind range) spells
 
 solve_spells : (pieces node : ℕ) (p : Board) (shown : List Certificate) → node < 2 ^ 64 → IsLawful p → 1 ≤ length shown → length shown ≤ 4 → All (IsGoodShown pieces p) shown
-    → Spells (solve_order pieces) (long_text node ++ (position_text p ++ (length shown ∷ flat_map certificate_text shown))) (Solve node p shown)
+    → SpellsValue (solve_order pieces) (long_text node ++ (position_text p ++ (length shown ∷ flat_map certificate_text shown))) (Solve node p shown)
 solve_spells pieces node p shown wide lawful least most good =
     let all = many_spells (certificate_order pieces p) certificate_text (All (IsGoodShown pieces p)) (certificate_spells pieces p) [] shown good in
     spells_then (one (long (2 ^ 64 - 1))) (behind_node pieces) (long_text node) (position_text p ++ (length shown ∷ flat_map certificate_text shown)) node (Solve node p shown)
@@ -500,22 +500,22 @@ solve_spells pieces node p shown wide lawful least most good =
     (spells_then (one (position [])) (behind_position pieces node) (position_text p) (length shown ∷ flat_map certificate_text shown) p (Solve node p shown) (one_spells (position []) p (lawful, none_before p))
     (spells_then (one (byte (is_between 1 4))) (behind_count pieces node p) (length shown ∷ []) (flat_map certificate_text shown) (length shown) (Solve node p shown)
     (one_spells (byte (is_between 1 4)) (length shown) (is-between 1 4 (length shown) least most))
-    (subst (λ t. Spells (many (length shown) (certificate_order pieces p) [] >>= (solved node p)) t (Solve node p shown)) (append-nil (flat_map certificate_text shown))
+    (subst (λ t. SpellsValue (many (length shown) (certificate_order pieces p) [] >>= (solved node p)) t (Solve node p shown)) (append-nil (flat_map certificate_text shown))
     (spells_then (many (length shown) (certificate_order pieces p) []) (solved node p) (flat_map certificate_text shown) [] shown (Solve node p shown) all (refl, refl)))))
 
-pub text_is_spelled : (pieces : ℕ) (before : List BenchRecord) (r : BenchRecord) (bytes : List ℕ) → IsText pieces before r bytes → Spells (record_order pieces) bytes r
+pub text_is_spelled : (pieces : ℕ) (before : List BenchRecord) (r : BenchRecord) (bytes : List ℕ) → IsText pieces before r bytes → SpellsValue (record_order pieces) bytes r
 text_is_spelled pieces before (Begin p) bytes text =
-    subst (λ t. Spells (record_order pieces) t (Begin p)) (sym text.spelled)
+    subst (λ t. SpellsValue (record_order pieces) t (Begin p)) (sym text.spelled)
     (spelled_kind pieces 1 (Begin p) (position_text p) refl
-    (subst (λ t. Spells begin_order t (Begin p)) (append-nil (position_text p))
+    (subst (λ t. SpellsValue begin_order t (Begin p)) (append-nil (position_text p))
     (spells_then (one (position [])) (λ q. done (Begin q)) (position_text p) [] p (Begin p) (one_spells (position []) p (text.sound, none_before p)) (refl, refl))))
 text_is_spelled pieces before (Solve node p shown) bytes text =
-    subst (λ t. Spells (record_order pieces) t (Solve node p shown)) (sym text.spelled)
+    subst (λ t. SpellsValue (record_order pieces) t (Solve node p shown)) (sym text.spelled)
     (spelled_kind pieces 2 (Solve node p shown) (long_text node ++ (position_text p ++ (length shown ∷ flat_map certificate_text shown))) refl
     (solve_spells pieces node p shown text.sound.0 text.sound.1.0 text.shows.0 text.shows.1.0 (all_good pieces p shown text.shows.1.1 text.sound.1.1)))
 text_is_spelled pieces before (Expand node) bytes text =
     let wide = text.sound in
-    subst (λ t. Spells (record_order pieces) t (Expand node)) (sym text.spelled)
+    subst (λ t. SpellsValue (record_order pieces) t (Expand node)) (sym text.spelled)
     (spelled_kind pieces 3 (Expand node) (long_text node) refl
-    (subst (λ t. Spells expand_order t (Expand node)) (append-nil (long_text node))
+    (subst (λ t. SpellsValue expand_order t (Expand node)) (append-nil (long_text node))
     (spells_then (one (long (2 ^ 64 - 1))) (λ n. done (Expand n)) (long_text node) [] node (Expand node) (one_spells (long (2 ^ 64 - 1)) node (wide, omega arith)) (refl, refl))))

@@ -15,27 +15,28 @@ pub data Field : Type 0 where
   -- a position that is none of these
   position : List Board → Field
 
-abbrev pub Value : Field → Type 0
-Value (byte test) = ℕ
-Value short = ℕ
-Value (long most) = ℕ
-Value (position others) = Board
+abbrev pub FieldValue : Field → Type 0
+FieldValue (byte test) = ℕ
+FieldValue short = ℕ
+FieldValue (long most) = ℕ
+FieldValue (position others) = Board
 
 -- the field may have this value
-abbrev pub IsAllowed : (f : Field) → Value f → Type 0
+abbrev pub IsAllowed : (f : Field) → FieldValue f → Type 0
 IsAllowed (byte test) n = IsTrue (test n)
 IsAllowed short n = n < 2 ^ 32
 IsAllowed (long most) n = (n < 2 ^ 64) × (n ≤ most)
 IsAllowed (position others) p = IsLawful p × (¬ Contains others p)
 
-abbrev pub field_text : (f : Field) → Value f → List ℕ
+abbrev pub field_text : (f : Field) → FieldValue f → List ℕ
 field_text (byte test) n = n ∷ []
 field_text short n = short_text n
 field_text (long most) n = long_text n
 field_text (position others) p = position_text p
 
 -- the bytes begin with this value of the field, behind which the rest stands
-pub record Begins (f : Field) (bytes : List ℕ) (v : Value f) (rest : List ℕ) : Type 0 where
+pub record BeginsField (f : Field) (bytes : List ℕ) (v : FieldValue f)
+    (rest : List ℕ) : Type 0 where
   pub allowed : IsAllowed f v
   pub spelled : bytes ≡ field_text f v ++ rest
 
@@ -44,7 +45,7 @@ pub record Begins (f : Field) (bytes : List ℕ) (v : Value f) (rest : List ℕ)
 -- what is read where no field is due, or a field, and what is due behind each of its values
 pub data Format (A : Type 0) : Type 0 where
   done : A → Format A
-  field : (f : Field) → (Value f → Format A) → Format A
+  field : (f : Field) → (FieldValue f → Format A) → Format A
 
 -- one format behind another, of which the value read decides it
 infixl 10 ◌>>=◌
@@ -53,24 +54,25 @@ abbrev pub ◌>>=◌ : {A B : Type 0} → Format A → (A → Format B) → Form
 (field f next) >>= behind = field f (λ v. next v >>= behind)
 
 -- a format of one field
-abbrev pub one : (f : Field) → Format (Value f)
+abbrev pub one : (f : Field) → Format (FieldValue f)
 one f = field f done
 
 -- the bytes are spelled by the format, and say this
-abbrev pub Spells : {A : Type 0} → Format A → List ℕ → A → Type 0
-Spells (done a) bytes b = (bytes ≡ []) × (a ≡ b)
-Spells (field f next) bytes b =
-    (v : Value f) × ((rest : List ℕ) × (Begins f bytes v rest × Spells (next v) rest b))
+abbrev pub SpellsValue : {A : Type 0} → Format A → List ℕ → A → Type 0
+SpellsValue (done a) bytes b = (bytes ≡ []) × (a ≡ b)
+SpellsValue (field f next) bytes b =
+    (v : FieldValue f) × ((rest : List ℕ) × (BeginsField f bytes v rest
+    × SpellsValue (next v) rest b))
 
 -- The field that begins at this place of the bytes is the first that is not whole or not allowed:
 -- those before it are spelled, and from there the bytes begin with no value of it.
 abbrev pub Fails : {A : Type 0} → Format A → List ℕ → ℕ → Type 0
 Fails (done a) bytes at = ⊥
 Fails (field f next) bytes at =
-    ((at ≡ 0) × ((v : Value f) (rest : List ℕ) → ¬ Begins f bytes v rest))
-    ⊎ ((v : Value f)
+    ((at ≡ 0) × ((v : FieldValue f) (rest : List ℕ) → ¬ BeginsField f bytes v rest))
+    ⊎ ((v : FieldValue f)
     × ((rest : List ℕ)
-    × (Begins f bytes v rest
+    × (BeginsField f bytes v rest
     × ((later : ℕ) × ((at ≡ length (field_text f v) + later) × Fails (next v) rest later)))))
 
 -- all fields are spelled, and bytes follow from this place
@@ -79,6 +81,6 @@ pub record Trails {A : Type 0} (format : Format A) (bytes : List ℕ) (at : ℕ)
   pub value : A
   pub next : ℕ
   pub rest : List ℕ
-  pub spelled : Spells format front value
+  pub spelled : SpellsValue format front value
   pub is : bytes ≡ front ++ next ∷ rest
   pub place : at ≡ length front

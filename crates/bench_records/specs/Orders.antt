@@ -58,17 +58,17 @@ hold_order before = do
 
 -- ---- a certificate of this position: its claim, the number of entries, and the entries
 
-abbrev pub win_part_order : Side → Format Part
-win_part_order side = do
+abbrev pub rows_order : {R P : Type 0} → (List R → Format R) → (List R → P) → Format P
+rows_order row made = do
   count ← one short
-  rows ← many count win_order []
-  done (Win (record { side = side; entries = rows }))
+  rows ← many count row []
+  done (made rows)
+
+abbrev pub win_part_order : Side → Format Part
+win_part_order side = rows_order win_order (λ rows. Win (record { side = side; entries = rows }))
 
 abbrev pub hold_part_order : Side → Format Part
-hold_part_order side = do
-  count ← one short
-  rows ← many count hold_order []
-  done (Hold (record { side = side; entries = rows }))
+hold_part_order side = rows_order hold_order (λ rows. Hold (record { side = side; entries = rows }))
 
 -- 1 a win of Black, 2 of White, 3 a hold of Black, 4 of White
 abbrev pub part_order : ℕ → Format Part

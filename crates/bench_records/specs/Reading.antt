@@ -2,7 +2,7 @@
 use Rattle.std.specs.Prelude.{◌≡◌, ◌≢◌, ℕ, ◌+◌, List, ◌++◌, length}
 use Rattle.draughts_board.specs.Board.{Board, IsLawful}
 use Rattle.bench_records.specs.Positions.{position_text}
-use Rattle.bench_records.specs.Formats.{Format, Spells, Fails}
+use Rattle.bench_records.specs.Formats.{Format, SpellsValue, Fails}
 use Rattle.bench_records.specs.declared.refusal.RecordRefusal.{RecordRefusal}
 use Rattle.bench_records.specs.declared.refusal.RecordRefusal.TheVariants.{BadKind, BadField, Trailing, Memory}
 
@@ -12,10 +12,10 @@ pub record Spot : Type 0 where
   pub at : ℕ
 
 -- from the one spot to the other the bytes are spelled by the format, and say this
-pub record Reads {A : Type 0} (format : Format A) (old : Spot) (value : A)
+pub record ReadsValue {A : Type 0} (format : Format A) (old : Spot) (value : A)
     (new : Spot) : Type 0 where
   pub front : List ℕ
-  pub spelled : Spells format front value
+  pub spelled : SpellsValue format front value
   pub left : old.left ≡ front ++ new.left
   pub at : new.at ≡ old.at + length front
 
@@ -26,11 +26,11 @@ pub record FailsFrom {A : Type 0} (format : Format A) (old : Spot) (at : ℕ) : 
   pub fails : Fails format old.left later
 
 -- so from the spot on
-abbrev pub Refuses : {A : Type 0} → Format A → Spot → RecordRefusal → Type 0
-Refuses format old BadKind = ⊥
-Refuses format old (BadField at) = FailsFrom format old at
-Refuses format old (Trailing at) = ⊥
-Refuses format old (Memory e) = Unit {0}
+abbrev pub RefusesRecord : {A : Type 0} → Format A → Spot → RecordRefusal → Type 0
+RefusesRecord format old BadKind = ⊥
+RefusesRecord format old (BadField at) = FailsFrom format old at
+RefusesRecord format old (Trailing at) = ⊥
+RefusesRecord format old (Memory e) = Unit {0}
 
 -- no position begins these bytes
 abbrev pub NoPosition : List ℕ → Type 0

@@ -19,18 +19,18 @@ use Rattle.bench_records.specs.declared.records.BenchRecord.TheVariants.{Begin, 
 -- ---- moves
 
 -- the number of a path's squares and each square, or 0 where no move is chosen
-abbrev pub choice_text : Option (List ℕ) → List ℕ
-choice_text None = 0 ∷ []
-choice_text (Some path) = length path ∷ path
+abbrev pub choice_bytes : Option (List ℕ) → List ℕ
+choice_bytes None = 0 ∷ []
+choice_bytes (Some path) = length path ∷ path
 
 -- ---- certificates
 
 -- an entry of a win part, and one of a hold part
 abbrev pub win_text : Board × WinEntry → List ℕ
-win_text row = position_text row.0 ++ (long_text row.1.rank ++ choice_text row.1.chosen)
+win_text row = position_text row.0 ++ (long_text row.1.rank ++ choice_bytes row.1.chosen)
 
 abbrev pub hold_text : Board × Option (List ℕ) → List ℕ
-hold_text row = position_text row.0 ++ choice_text row.1
+hold_text row = position_text row.0 ++ choice_bytes row.1
 
 -- the number of a part's entries, and its entries
 abbrev pub part_text : Part → List ℕ
@@ -51,11 +51,11 @@ certificate_text c = claim_byte c.claim ∷ flat_map part_text c.parts
 
 -- ---- records
 
-abbrev pub text_of : BenchRecord → List ℕ
-text_of (Begin p) = 1 ∷ position_text p
-text_of (Solve node p shown) =
+abbrev pub record_text : BenchRecord → List ℕ
+record_text (Begin p) = 1 ∷ position_text p
+record_text (Solve node p shown) =
     2 ∷ (long_text node ++ (position_text p ++ (length shown ∷ flat_map certificate_text shown)))
-text_of (Expand node) = 3 ∷ long_text node
+record_text (Expand node) = 3 ∷ long_text node
 
 -- ---- what has a text
 
@@ -76,22 +76,26 @@ ShowsEnough pieces (Solve node p shown) =
 ShowsEnough pieces (Expand node) = Unit {0}
 
 -- a sound part, of so few entries that 4 bytes count them
-abbrev pub IsCounted : Part → Type 0
-IsCounted (part.Win list) = IsWinList list × (length list.entries < 2 ^ 32)
-IsCounted (part.Hold list) = IsHoldList list × (length list.entries < 2 ^ 32)
+abbrev pub HasShortCount : Part → Type 0
+HasShortCount (part.Win list) = IsWinList list × (length list.entries < 2 ^ 32)
+HasShortCount (part.Hold list) = IsHoldList list × (length list.entries < 2 ^ 32)
 
 -- values as a program has them: a number of 64 bits, a position under the rule on pieces, sound
 -- parts
-abbrev pub IsSound : BenchRecord → Type 0
-IsSound (Begin p) = IsLawful p
-IsSound (Solve node p shown) =
-    (node < 2 ^ 64) × (IsLawful p × All (λ c. All IsCounted c.parts) shown)
-IsSound (Expand node) = node < 2 ^ 64
+abbrev pub IsSoundRecord : BenchRecord → Type 0
+IsSoundRecord (Begin p) = IsLawful p
+IsSoundRecord (Solve node p shown) =
+    (node < 2 ^ 64) × (IsLawful p × All (λ c. All HasShortCount c.parts) shown)
+IsSoundRecord (Expand node) = node < 2 ^ 64
 
 -- In a journal for tables of so many pieces the bytes are the text of the record behind these
 -- records. This version's texts do not lean on the records before.
 pub record IsText (pieces : ℕ) (before : List BenchRecord) (r : BenchRecord)
     (bytes : List ℕ) : Type 0 where
   pub shows : ShowsEnough pieces r
-  pub sound : IsSound r
-  pub spelled : bytes ≡ text_of r
+  pub sound : IsSoundRecord r
+  pub spelled : bytes ≡ record_text r
+
+-- they are its text behind any records
+abbrev pub IsTextAlone : ℕ → List ℕ → BenchRecord → Type 0
+IsTextAlone pieces bytes r = (before : List BenchRecord) → IsText pieces before r bytes

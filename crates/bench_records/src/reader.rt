@@ -50,7 +50,8 @@ fn side_of(byte: u8) -> Option<Side>
     }
 }
 
-/// The position of the first 17 bytes, and the bytes behind them; none exactly where no position begins the bytes.
+/// The position of the first 17 bytes, and the bytes behind them; none exactly where no position
+/// begins the bytes.
 fn split_position(bytes: &[u8]) -> Option<(Position, &[u8])>
     ensures some { IfSome result (λ cut.
         IsLawful cut.0 × (bytes.now ≡ position_text cut.0 ++ cut.1.now)) }
@@ -88,7 +89,7 @@ impl<'a> Reader<'a> {
     ghost use Rattle.std.specs.Prelude.{IfOk, IfErr, [], ◌==◌};
     ghost use Rattle.bench_records.specs.Formats.{one, byte, short, long, position};
     ghost use Rattle.bench_records.specs.Orders.{is_between, choice_order, many, square_order};
-    ghost use Rattle.bench_records.specs.Reading.{Reads, Refuses};
+    ghost use Rattle.bench_records.specs.Reading.{ReadsValue, RefusesRecord};
 
     /// A reader of these bytes from their first on.
     pub(crate) fn new(bytes: &'a [u8]) -> Reader<'a>
@@ -114,9 +115,9 @@ impl<'a> Reader<'a> {
     /// A byte from the one number to the other.
     pub(crate) fn byte(&mut self, least: u8, most: u8) -> Result<u8, RecordRefusal>
         ensures ok { IfOk result (λ n.
-            Reads (one (byte (is_between least most))) self.old n self.new) }
+            ReadsValue (one (byte (is_between least most))) self.old n self.new) }
         ensures range { IfOk result (λ n. (least ≤ n) × (n ≤ most)) }
-        ensures err { IfErr result (Refuses (one (byte (is_between least most))) self.old) }
+        ensures err { IfErr result (RefusesRecord (one (byte (is_between least most))) self.old) }
         ensures place { IfErr result (λ refusal. refusal ≡ RecordRefusal.BadField self.old.at) }
     {
         let Some((n, rest)) = self.left.split_first() else {
@@ -132,8 +133,8 @@ impl<'a> Reader<'a> {
 
     /// A number of 4 bytes.
     pub(crate) fn short(&mut self) -> Result<u32, RecordRefusal>
-        ensures ok { IfOk result (λ n. Reads (one short) self.old n self.new) }
-        ensures err { IfErr result (Refuses (one short) self.old) }
+        ensures ok { IfOk result (λ n. ReadsValue (one short) self.old n self.new) }
+        ensures err { IfErr result (RefusesRecord (one short) self.old) }
     {
         let Some((n, rest)) = split_short(self.left) else {
             return Err(RecordRefusal::BadField(self.at));
@@ -145,9 +146,9 @@ impl<'a> Reader<'a> {
 
     /// A number of 8 bytes, which is at most this.
     pub(crate) fn long(&mut self, most: u64) -> Result<u64, RecordRefusal>
-        ensures ok { IfOk result (λ n. Reads (one (long most)) self.old n self.new) }
+        ensures ok { IfOk result (λ n. ReadsValue (one (long most)) self.old n self.new) }
         ensures most { IfOk result (λ n. n ≤ most) }
-        ensures err { IfErr result (Refuses (one (long most)) self.old) }
+        ensures err { IfErr result (RefusesRecord (one (long most)) self.old) }
     {
         let Some((n, rest)) = split_long(self.left) else {
             return Err(RecordRefusal::BadField(self.at));
@@ -162,8 +163,8 @@ impl<'a> Reader<'a> {
 
     /// A square.
     fn square(&mut self) -> Result<Square, RecordRefusal>
-        ensures ok { IfOk result (λ s. Reads (square_order []) self.old s self.new) }
-        ensures err { IfErr result (Refuses (square_order []) self.old) }
+        ensures ok { IfOk result (λ s. ReadsValue (square_order []) self.old s self.new) }
+        ensures err { IfErr result (RefusesRecord (square_order []) self.old) }
     {
         let n = self.byte(1, 32)?;
         Ok(Square::new(n).unwrap())
@@ -174,8 +175,8 @@ impl<'a> Reader<'a> {
         requires least { 2 ≤ count }
         requires most { count ≤ 13 }
         ensures ok { IfOk result (λ path.
-            Reads (many count square_order []) self.old path self.new) }
-        ensures err { IfErr result (Refuses (many count square_order []) self.old) }
+            ReadsValue (many count square_order []) self.old path self.new) }
+        ensures err { IfErr result (RefusesRecord (many count square_order []) self.old) }
     {
         let mut path = [Square::new(1).unwrap(); 13];
         for i in 0..count as usize {
@@ -186,8 +187,8 @@ impl<'a> Reader<'a> {
 
     /// The move that is chosen, if one is.
     pub(crate) fn choice(&mut self) -> Result<Option<Move>, RecordRefusal>
-        ensures ok { IfOk result (λ chosen. Reads choice_order self.old chosen self.new) }
-        ensures err { IfErr result (Refuses choice_order self.old) }
+        ensures ok { IfOk result (λ chosen. ReadsValue choice_order self.old chosen self.new) }
+        ensures err { IfErr result (RefusesRecord choice_order self.old) }
     {
         let at = self.at;
         let count = self.byte(0, 13)?;
@@ -202,8 +203,8 @@ impl<'a> Reader<'a> {
 
     /// A position.
     pub(crate) fn position(&mut self) -> Result<Position, RecordRefusal>
-        ensures ok { IfOk result (λ p. Reads (one (position [])) self.old p self.new) }
-        ensures err { IfErr result (Refuses (one (position [])) self.old) }
+        ensures ok { IfOk result (λ p. ReadsValue (one (position [])) self.old p self.new) }
+        ensures err { IfErr result (RefusesRecord (one (position [])) self.old) }
     {
         match split_position(self.left) {
             Some(cut) => {

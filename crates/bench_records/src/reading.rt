@@ -1,12 +1,13 @@
 //! Reading the text of a record.
-ghost use Rattle.std.specs.Prelude.{◌≡◌, ◌≤◌, ◌^◌, List, [], ◌∷◌, IfOk, IfErr};
+ghost use Rattle.std.specs.Prelude.{◌≡◌, ◌≤◌, ◌^◌, [], ◌∷◌, IfOk, IfErr};
+ghost use Rattle.std.specs.Bool.{OnFalse};
+ghost use Rattle.shared_words.specs.Answers.{IsExact};
 ghost use Rattle.strategy_certificate.specs.Parts.{HasEntry, positions_of};
-ghost use Rattle.bench_records.specs.Formats.{one, position, Spells};
-ghost use Rattle.bench_records.specs.Texts.{IsText};
+ghost use Rattle.bench_records.specs.Formats.{one, position, SpellsValue};
+ghost use Rattle.bench_records.specs.Texts.{IsTextAlone};
 ghost use Rattle.bench_records.specs.Orders.{many, win_order, hold_order, win_part_order, hold_part_order, part_order, certificate_order, begin_order, solve_order, expand_order, kind_order, record_order};
-ghost use Rattle.bench_records.specs.Reading.{Reads, Refuses};
-ghost use Rattle.bench_records.specs.Refusals.{IsRecordRefusal, IsMemory};
-ghost use Rattle.bench_records.specs.declared.records.BenchRecord.{BenchRecord as Record};
+ghost use Rattle.bench_records.specs.Reading.{ReadsValue, RefusesRecord};
+ghost use Rattle.bench_records.specs.Refusals.{IsRecordRefusal, record_wants_memory};
 
 use crate::reader::Reader;
 use crate::records::{BenchRecord, CertificateList, MOST_SHOWN};
@@ -20,10 +21,10 @@ use strategy_certificate::{
 /// A position that has no entry in the win part.
 fn win_position(reader: &mut Reader<'_>, part: &WinPart) -> Result<Position, RecordRefusal>
     ensures ok { IfOk result (λ p.
-        Reads (one (position (positions_of part.now.entries))) reader.old p reader.new) }
+        ReadsValue (one (position (positions_of part.now.entries))) reader.old p reader.new) }
     ensures absent { IfOk result (λ p. ¬ HasEntry part.now.entries p) }
     ensures err { IfErr result (
-        Refuses (one (position (positions_of part.now.entries))) reader.old) }
+        RefusesRecord (one (position (positions_of part.now.entries))) reader.old) }
 {
     let at = reader.place();
     let p = reader.position()?;
@@ -36,10 +37,10 @@ fn win_position(reader: &mut Reader<'_>, part: &WinPart) -> Result<Position, Rec
 /// A position that has no entry in the hold part.
 fn hold_position(reader: &mut Reader<'_>, part: &HoldPart) -> Result<Position, RecordRefusal>
     ensures ok { IfOk result (λ p.
-        Reads (one (position (positions_of part.now.entries))) reader.old p reader.new) }
+        ReadsValue (one (position (positions_of part.now.entries))) reader.old p reader.new) }
     ensures absent { IfOk result (λ p. ¬ HasEntry part.now.entries p) }
     ensures err { IfErr result (
-        Refuses (one (position (positions_of part.now.entries))) reader.old) }
+        RefusesRecord (one (position (positions_of part.now.entries))) reader.old) }
 {
     let at = reader.place();
     let p = reader.position()?;
@@ -51,10 +52,11 @@ fn hold_position(reader: &mut Reader<'_>, part: &HoldPart) -> Result<Position, R
 
 /// An entry of a win part, behind those that the part has.
 fn win_entry(reader: &mut Reader<'_>, part: &WinPart) -> Result<(Position, WinEntry), RecordRefusal>
-    ensures ok { IfOk result (λ row. Reads (win_order part.now.entries) reader.old row reader.new) }
+    ensures ok { IfOk result (λ row.
+        ReadsValue (win_order part.now.entries) reader.old row reader.new) }
     ensures absent { IfOk result (λ row. ¬ HasEntry part.now.entries row.0) }
     ensures rank { IfOk result (λ row. row.1.rank ≤ 2 ^ 40) }
-    ensures err { IfErr result (Refuses (win_order part.now.entries) reader.old) }
+    ensures err { IfErr result (RefusesRecord (win_order part.now.entries) reader.old) }
 {
     let p = win_position(reader, part)?;
     let rank = reader.long(MOST_FOUND_RANK)?;
@@ -68,19 +70,20 @@ fn hold_entry(
     part: &HoldPart,
 ) -> Result<(Position, Option<Move>), RecordRefusal>
     ensures ok { IfOk result (λ row.
-        Reads (hold_order part.now.entries) reader.old row reader.new) }
+        ReadsValue (hold_order part.now.entries) reader.old row reader.new) }
     ensures absent { IfOk result (λ row. ¬ HasEntry part.now.entries row.0) }
-    ensures err { IfErr result (Refuses (hold_order part.now.entries) reader.old) }
+    ensures err { IfErr result (RefusesRecord (hold_order part.now.entries) reader.old) }
 {
     let p = hold_position(reader, part)?;
     let chosen = reader.choice()?;
     Ok((p, chosen))
 }
 
-/// A win part of this side. Its memory grows with the bytes that are read, whatever count they name.
+/// A win part of this side. Its memory grows with the bytes that are read, whatever count they
+/// name.
 fn win_part(alloc: Global, reader: &mut Reader<'_>, side: Side) -> Result<Part, RecordRefusal>
-    ensures ok { IfOk result (λ part. Reads (win_part_order side) reader.old part reader.new) }
-    ensures err { IfErr result (Refuses (win_part_order side) reader.old) }
+    ensures ok { IfOk result (λ part. ReadsValue (win_part_order side) reader.old part reader.new) }
+    ensures err { IfErr result (RefusesRecord (win_part_order side) reader.old) }
 {
     let count = reader.short()?;
     let mut part = WinPart::new(alloc, side)?;
@@ -93,8 +96,9 @@ fn win_part(alloc: Global, reader: &mut Reader<'_>, side: Side) -> Result<Part, 
 
 /// A hold part of this side.
 fn hold_part(alloc: Global, reader: &mut Reader<'_>, side: Side) -> Result<Part, RecordRefusal>
-    ensures ok { IfOk result (λ part. Reads (hold_part_order side) reader.old part reader.new) }
-    ensures err { IfErr result (Refuses (hold_part_order side) reader.old) }
+    ensures ok { IfOk result (λ part.
+        ReadsValue (hold_part_order side) reader.old part reader.new) }
+    ensures err { IfErr result (RefusesRecord (hold_part_order side) reader.old) }
 {
     let count = reader.short()?;
     let mut part = HoldPart::new(alloc, side)?;
@@ -109,8 +113,8 @@ fn hold_part(alloc: Global, reader: &mut Reader<'_>, side: Side) -> Result<Part,
 fn part_of(alloc: Global, reader: &mut Reader<'_>, claim: u8) -> Result<Part, RecordRefusal>
     requires least { 1 ≤ claim }
     requires most { claim ≤ 4 }
-    ensures ok { IfOk result (λ part. Reads (part_order claim) reader.old part reader.new) }
-    ensures err { IfErr result (Refuses (part_order claim) reader.old) }
+    ensures ok { IfOk result (λ part. ReadsValue (part_order claim) reader.old part reader.new) }
+    ensures err { IfErr result (RefusesRecord (part_order claim) reader.old) }
 {
     match claim {
         1 => win_part(alloc, reader, Side::Black),
@@ -137,8 +141,8 @@ fn certificate(
     position: Position,
 ) -> Result<Certificate, RecordRefusal>
     ensures ok { IfOk result (λ c.
-        Reads (certificate_order pieces position []) reader.old c reader.new) }
-    ensures err { IfErr result (Refuses (certificate_order pieces position []) reader.old) }
+        ReadsValue (certificate_order pieces position []) reader.old c reader.new) }
+    ensures err { IfErr result (RefusesRecord (certificate_order pieces position []) reader.old) }
 {
     let claim = reader.byte(1, 4)?;
     let part = part_of(alloc, reader, claim)?;
@@ -159,9 +163,10 @@ fn certificates(
     count: u8,
 ) -> Result<CertificateList, RecordRefusal>
     ensures ok { IfOk result (λ shown.
-        Reads (many count (certificate_order pieces position) []) reader.old shown reader.new) }
+        ReadsValue (many count (certificate_order pieces position) [])
+        reader.old shown reader.new) }
     ensures err { IfErr result (
-        Refuses (many count (certificate_order pieces position) []) reader.old) }
+        RefusesRecord (many count (certificate_order pieces position) []) reader.old) }
 {
     let mut shown = Vec::new(alloc);
     for _ in 0..count {
@@ -173,16 +178,16 @@ fn certificates(
 
 /// What stands behind the kind of a record that begins a root.
 fn begin(reader: &mut Reader<'_>) -> Result<BenchRecord, RecordRefusal>
-    ensures ok { IfOk result (λ r. Reads begin_order reader.old r reader.new) }
-    ensures err { IfErr result (Refuses begin_order reader.old) }
+    ensures ok { IfOk result (λ r. ReadsValue begin_order reader.old r reader.new) }
+    ensures err { IfErr result (RefusesRecord begin_order reader.old) }
 {
     Ok(BenchRecord::Begin(reader.position()?))
 }
 
 /// What stands behind the kind of a record that solves a node.
 fn solve(alloc: Global, reader: &mut Reader<'_>, pieces: u8) -> Result<BenchRecord, RecordRefusal>
-    ensures ok { IfOk result (λ r. Reads (solve_order pieces) reader.old r reader.new) }
-    ensures err { IfErr result (Refuses (solve_order pieces) reader.old) }
+    ensures ok { IfOk result (λ r. ReadsValue (solve_order pieces) reader.old r reader.new) }
+    ensures err { IfErr result (RefusesRecord (solve_order pieces) reader.old) }
 {
     let node = reader.long(u64::MAX)?;
     let position = reader.position()?;
@@ -197,8 +202,8 @@ fn solve(alloc: Global, reader: &mut Reader<'_>, pieces: u8) -> Result<BenchReco
 
 /// What stands behind the kind of a record that expands a node.
 fn expand(reader: &mut Reader<'_>) -> Result<BenchRecord, RecordRefusal>
-    ensures ok { IfOk result (λ r. Reads expand_order reader.old r reader.new) }
-    ensures err { IfErr result (Refuses expand_order reader.old) }
+    ensures ok { IfOk result (λ r. ReadsValue expand_order reader.old r reader.new) }
+    ensures err { IfErr result (RefusesRecord expand_order reader.old) }
 {
     let node = reader.long(u64::MAX)?;
     Ok(BenchRecord::Expand { node })
@@ -213,8 +218,8 @@ fn behind_kind(
 ) -> Result<BenchRecord, RecordRefusal>
     requires least { 1 ≤ kind }
     requires most { kind ≤ 3 }
-    ensures ok { IfOk result (λ r. Reads (kind_order pieces kind) reader.old r reader.new) }
-    ensures err { IfErr result (Refuses (kind_order pieces kind) reader.old) }
+    ensures ok { IfOk result (λ r. ReadsValue (kind_order pieces kind) reader.old r reader.new) }
+    ensures err { IfErr result (RefusesRecord (kind_order pieces kind) reader.old) }
 {
     match kind {
         1 => begin(reader),
@@ -225,8 +230,9 @@ fn behind_kind(
 
 /// The record that these bytes spell, all of them.
 fn record(alloc: Global, bytes: &[u8], pieces: u8) -> Result<BenchRecord, RecordRefusal>
-    ensures spelled { IfOk result (Spells (record_order pieces) bytes.now) }
-    ensures refused { IfErr result (IsRecordRefusal pieces bytes.now) }
+    ensures spelled { IfOk result (SpellsValue (record_order pieces) bytes.now) }
+    ensures refused { IfErr result
+        (λ e. OnFalse (record_wants_memory e) (IsRecordRefusal pieces bytes.now e)) }
 {
     let mut reader = Reader::new(bytes);
     let Ok(kind) = reader.byte(1, 3) else {
@@ -241,20 +247,14 @@ fn record(alloc: Global, bytes: &[u8], pieces: u8) -> Result<BenchRecord, Record
 
 /// The record of which these bytes are the text, in a journal for tables of so many pieces.
 ///
-/// Bytes that are no record's text are refused for what goes wrong first ([`RecordRefusal`]); there is one refusal of
-/// them, and none of the text of a record ([`crate::laws`]). Want of memory is answered for any bytes. A count of
-/// entries takes no memory: that grows with the bytes that are there.
+/// Bytes that are no record's text are refused for what goes wrong first ([`RecordRefusal`]); there
+/// is one refusal of them, and none of the text of a record ([`crate::laws`]). Want of memory may
+/// be answered for any bytes. A count of entries takes no memory: that grows with the bytes that
+/// are there.
 pub fn decode(alloc: Global, bytes: &[u8], pieces: u8) -> Result<BenchRecord, RecordRefusal>
-    // What is read is the text of a record.
-    ensures read { IfOk result (λ r. (before : List Record) → IsText pieces before r bytes.now) }
-    // Each refusal is what it says.
-    ensures refused { IfErr result (IsRecordRefusal pieces bytes.now) }
-    // It is the text of no other record.
-    ensures only { IfOk result (λ found. (before : List Record) (r : Record)
-        → IsText pieces before r bytes.now → found ≡ r) }
-    // The text of a record is refused for want of memory alone.
-    ensures accepts { IfErr result (λ refusal. (before : List Record) (r : Record)
-        → IsText pieces before r bytes.now → IsMemory refusal) }
+    // The record that has this text, or what goes wrong first: exactly that, unless memory ran out.
+    ensures { IsExact record_wants_memory (IsTextAlone pieces bytes.now)
+        (IsRecordRefusal pieces bytes.now) result }
 {
     record(alloc, bytes, pieces)
 }

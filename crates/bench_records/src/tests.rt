@@ -1,4 +1,5 @@
-//! Records byte by byte, written out from the format: each mask holds square n as the bit of value 2^(n - 1).
+//! Records byte by byte, written out from the format: each mask holds square n as the bit of value
+//! 2^(n - 1).
 ghost use Rattle.std.specs.Prelude.{IfOk};
 
 use crate::{BenchRecord, RecordRefusal, decode, encode};
@@ -11,8 +12,8 @@ use strategy_certificate::{Claim, Part, WinEntry};
 /// A root begins: B:W16,19:B12, a Black man on bit 11 and White men on bits 15 and 18.
 const BEGIN: [u8; 18] = [1, 0, 0, 0, 8, 0, 0, 0, 0, 0, 0, 4, 128, 0, 0, 0, 0, 0];
 
-/// The journal with this record alone: its head, an open gate, the length of the frame's body in 8 bytes, that of the
-/// payload in 4, the payload, and a closed gate.
+/// The journal with this record alone: its head, an open gate, the length of the frame's body in 8
+/// bytes, that of the payload in 4, the payload, and a closed gate.
 const JOURNAL: [u8; 40] = [
     68, 82, 66, 69, 78, 67, 72, 2, 1, 0, 0, 0, 0, 0, 0, 0, 22, 0, 0, 0, 18, 1, 0, 0, 0, 8, 0, 0, 0,
     0, 0, 0, 4, 128, 0, 0, 0, 0, 0, 0,
@@ -36,7 +37,7 @@ const SOLVE: [u8; 86] = [
 const DRAW: [u8; 38] = [
     2, 0, 0, 0, 0, 0, 0, 0, 7, // the kind, and the node
     0, 0, 0, 0, 0, 0, 0, 0, 1, 0, 0, 0, 0, 128, 0, 0, 0, // from 9: its position
-    2, 3, 0, 0, 0, 0, 4, 0, 0, 0, 0, 0, // from 26: two certificates without entries, and one byte too many
+    2, 3, 0, 0, 0, 0, 4, 0, 0, 0, 0, 0, // from 26: two empty certificates, and one byte too many
 ];
 
 /// W:W16,23:B12
@@ -201,7 +202,8 @@ fn two_holds_show_a_draw(rt: HostRuntime) -> Result<(), Fail> {
     Ok(())
 }
 
-// One byte of the solved node is another: the byte's place, what stands there now, and the field that is refused.
+// One byte of the solved node is another: the byte's place, what stands there now, and the field
+// that is refused.
 #[test]
 fn fields_of_a_solved_node_are_refused(rt: HostRuntime) -> Result<(), Fail> {
     for (at, value, field) in [
@@ -306,8 +308,9 @@ fn other_damage_is_refused(rt: HostRuntime) -> Result<(), Fail> {
             Some(RecordRefusal::Trailing(at))
         );
     }
-    // A hold has no ranks: the first byte of the rank says that no move is chosen, and the 17 bytes from 50 on, with
-    // Black kings on 1, 2, 3, 5, 10 and 17, White men on 25, 26 and 29 and a White king on 28, are a position without one.
+    // A hold has no ranks: the first byte of the rank says that no move is chosen, and the 17 bytes
+    // from 50 on, with Black kings on 1, 2, 3, 5, 10 and 17, White men on 25, 26 and 29 and a White
+    // king on 28, are a position without one.
     for claim in [3, 4] {
         let bytes = with_byte(rt.alloc(), &SOLVE, 27, claim)?;
         assert_eq!(rt;
@@ -357,7 +360,8 @@ fn the_greatest_rank_is_read(rt: HostRuntime) -> Result<(), Fail> {
     Ok(())
 }
 
-/// Each front of the bytes, up to all of them, is refused at the last field that begins at its end or before.
+/// Each front of the bytes, up to all of them, is refused at the last field that begins at its end
+/// or before.
 fn fronts_are_refused(rt: &impl Abort, alloc: Global, bytes: &[u8], fields: &[usize]) {
     assert_eq!(rt; refusal(alloc, &[]), Some(RecordRefusal::BadKind));
     for length in 1..bytes.len() {

@@ -5,7 +5,7 @@ ghost use Rattle.strategy_certificate.specs.declared.certificates.Part.TheVarian
 ghost use Rattle.strategy_certificate.specs.Certificates.{claim_of};
 ghost use Rattle.draughts_board.specs.Board.{IsLawful};
 ghost use Rattle.bench_records.specs.Positions.{short_text, long_text, side_byte, position_text};
-ghost use Rattle.bench_records.specs.Texts.{choice_text, win_text, hold_text, claim_byte, part_text, certificate_text, text_of, ShowsEnough, IsCounted, IsText};
+ghost use Rattle.bench_records.specs.Texts.{choice_bytes, win_text, hold_text, claim_byte, part_text, certificate_text, record_text, ShowsEnough, HasShortCount, IsText};
 ghost use Rattle.bench_records.specs.declared.records.BenchRecord.{BenchRecord as Record};
 
 use crate::records::BenchRecord;
@@ -51,7 +51,7 @@ fn push_position(text: &mut Vec<u8>, p: &Position) -> Result<(), AllocError>
 
 /// Appends a move, if one is chosen, or that none is.
 fn push_choice(text: &mut Vec<u8>, chosen: &Option<Move>) -> Result<(), AllocError>
-    ensures { OnOk result (text.new.items ≡ text.old.items ++ choice_text chosen.now) }
+    ensures { OnOk result (text.new.items ≡ text.old.items ++ choice_bytes chosen.now) }
 {
     let Some(chosen) = chosen else {
         text.push(0)?;
@@ -96,7 +96,7 @@ fn push_count(text: &mut Vec<u8>, count: usize) -> Result<(), AllocError>
 /// Appends a win part.
 fn push_win_part(text: &mut Vec<u8>, part: &WinPart) -> Result<(), AllocError>
     ensures text { OnOk result (text.new.items ≡ text.old.items ++ part_text (parts.Win part.now)) }
-    ensures counted { OnOk result (IsCounted (parts.Win part.now)) }
+    ensures counted { OnOk result (HasShortCount (parts.Win part.now)) }
 {
     push_count(text, part.len())?;
     for i in 0..part.len() {
@@ -110,7 +110,7 @@ fn push_win_part(text: &mut Vec<u8>, part: &WinPart) -> Result<(), AllocError>
 fn push_hold_part(text: &mut Vec<u8>, part: &HoldPart) -> Result<(), AllocError>
     ensures text { OnOk result (text.new.items
         ≡ text.old.items ++ part_text (parts.Hold part.now)) }
-    ensures counted { OnOk result (IsCounted (parts.Hold part.now)) }
+    ensures counted { OnOk result (HasShortCount (parts.Hold part.now)) }
 {
     push_count(text, part.len())?;
     for i in 0..part.len() {
@@ -123,7 +123,7 @@ fn push_hold_part(text: &mut Vec<u8>, part: &HoldPart) -> Result<(), AllocError>
 /// Appends a part.
 fn push_part(text: &mut Vec<u8>, part: &Part) -> Result<(), AllocError>
     ensures text { OnOk result (text.new.items ≡ text.old.items ++ part_text part.now) }
-    ensures counted { OnOk result (IsCounted part.now) }
+    ensures counted { OnOk result (HasShortCount part.now) }
 {
     match part {
         Part::Win(part) => push_win_part(text, part),
@@ -148,7 +148,7 @@ fn claim_byte(claim: Claim) -> u8
 fn push_certificate(text: &mut Vec<u8>, c: &Certificate) -> Result<(), AllocError>
     requires { map claim_of c.now.parts ≡ c.now.claim ∷ [] }
     ensures text { OnOk result (text.new.items ≡ text.old.items ++ certificate_text c.now) }
-    ensures counted { OnOk result (All IsCounted c.now.parts) }
+    ensures counted { OnOk result (All HasShortCount c.now.parts) }
 {
     text.push(claim_byte(c.claim))?;
     match c.parts.as_slice() {
@@ -162,7 +162,7 @@ fn push_certificates(text: &mut Vec<u8>, shown: &[Certificate]) -> Result<(), Al
     requires { All (λ c. map claim_of c.parts ≡ c.claim ∷ []) shown.now }
     ensures text { OnOk result (text.new.items
         ≡ text.old.items ++ flat_map certificate_text shown.now) }
-    ensures counted { OnOk result (All (λ c. All IsCounted c.parts) shown.now) }
+    ensures counted { OnOk result (All (λ c. All HasShortCount c.parts) shown.now) }
 {
     for c in shown {
         push_certificate(text, c)?;
@@ -183,7 +183,7 @@ fn push_solve(
         ++ (position_text position.now
         ++ (length shown.now ∷ flat_map certificate_text shown.now)))) }
     ensures lawful { OnOk result (IsLawful position.now) }
-    ensures counted { OnOk result (All (λ c. All IsCounted c.parts) shown.now) }
+    ensures counted { OnOk result (All (λ c. All HasShortCount c.parts) shown.now) }
 {
     push_long(text, node)?;
     push_position(text, position)?;
@@ -191,7 +191,8 @@ fn push_solve(
     push_certificates(text, shown)
 }
 
-/// The text of a record. A part of 2^32 entries or more, which no text can say, is answered as want of memory.
+/// The text of a record. A part of 2^32 entries or more, which no text can say, is answered as want
+/// of memory.
 pub fn encode(alloc: Global, r: &BenchRecord) -> Result<Vec<u8>, AllocError>
     requires { (pieces : ℕ) × ShowsEnough pieces r.now }
     ensures { IfOk result (λ text. (pieces : ℕ) (before : List Record)

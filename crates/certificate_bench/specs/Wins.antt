@@ -7,5 +7,5 @@ use Rattle.strategy_certificate.specs.declared.oracle.Answer.{Answer}
 use Rattle.strategy_certificate.specs.Tables.{TableWins}
 
 -- a rank, and a position that the table shows as won by White at that rank
-abbrev pub IsWon : (Board → Option Answer) → ℕ × Board → Type 0
-IsWon answer row = TableWins draughts answer White row.0 row.1
+abbrev pub IsWonByTable : (Board → Option Answer) → ℕ × Board → Type 0
+IsWonByTable answer row = TableWins draughts answer White row.0 row.1

@@ -1,9 +1,10 @@
-//! Makes a certificate that White wins out of the endgame table of three pieces, prints it, reads it back and checks it
-//! by the table of two; merges its part out of two that overlap; writes it in a record of a journal and reads it back.
+//! Makes a certificate that White wins out of the endgame table of three pieces, prints it, reads
+//! it back and checks it by the table of two; merges its part out of two that overlap; writes it in
+//! a record of a journal and reads it back.
 //!
-//! Without words it prints how many entries the certificate has and how many bytes its text, what it claims of which
-//! position, and how many entries the merged parts and the record have. With the word `time` it prints how many
-//! entries a second are read, and how many are checked.
+//! Without words it prints how many entries the certificate has and how many bytes its text, what
+//! it claims of which position, and how many entries the merged parts and the record have. With the
+//! word `time` it prints how many entries a second are read, and how many are checked.
 #![tactic(auto)]
 
 mod making;
@@ -28,7 +29,8 @@ use strategy_certificate::{Certificate, Part, PartList};
 /// How many entries the certificate has.
 const ENTRIES: usize = 100_000;
 
-/// Reads the text of a certificate, checks it by the table, and prints what it is now known to show.
+/// Reads the text of a certificate, checks it by the table, and prints what it is now known to
+/// show.
 fn tell(rt: &(impl Print + Alloc<A = Global>), text: &[u8], table: &Table) -> Result<()> {
     let bytes = text.len();
     let read = read_certificate(rt.alloc(), text)?;
@@ -43,8 +45,8 @@ fn tell(rt: &(impl Print + Alloc<A = Global>), text: &[u8], table: &Table) -> Re
     Ok(())
 }
 
-/// Merges the certificate's win part out of two that overlap, and its hold part likewise, and prints how many entries
-/// they have. The win part is then the same as before.
+/// Merges the certificate's win part out of two that overlap, and its hold part likewise, and
+/// prints how many entries they have. The win part is then the same as before.
 fn tell_merged(rt: &(impl Print + Alloc<A = Global>), c: &Certificate, text: &[u8]) -> Result<()> {
     let [Part::Win(part)] = c.parts.as_slice() else {
         bail!("not one win part");

@@ -3,7 +3,7 @@ ghost use Rattle.std.specs.Prelude.{◌≡◌, ◌<◌, ◌≤◌, ◌↔◌, �
 ghost use Rattle.draughts_board.specs.Rules.{IsLegal};
 ghost use Rattle.endgame_table.specs.Entries.{answers};
 ghost use Rattle.table_index.specs.Order.{entry_count};
-ghost use Rattle.certificate_bench.specs.Wins.{IsWon};
+ghost use Rattle.certificate_bench.specs.Wins.{IsWonByTable};
 ghost use Rattle.bench_records.specs.Texts.{IsShown};
 ghost use Rattle.strategy_certificate.specs.Claims.{HasShortRanks};
 ghost use Rattle.strategy_certificate.specs.declared.entries.TheConstants.{MOST_FOUND_RANK};
@@ -20,7 +20,8 @@ use table_index::position_at;
 
 /// The rank at which the table shows that White wins.
 fn white_rank(table: &Table, p: &Position) -> Option<u32>
-    ensures { (r : ℕ) → (result ≡ Some r) ↔ IsWon (answers table.now.pieces table.now.numbers) (r, p.now) }
+    ensures { (r : ℕ) → (result ≡ Some r)
+        ↔ IsWonByTable (answers table.now.pieces table.now.numbers) (r, p.now) }
 {
     match (p.to_move(), table.probe(p)) {
         (Side::White, Some(Answer::Win(rank))) => Some(rank),
@@ -32,7 +33,7 @@ fn white_rank(table: &Table, p: &Position) -> Option<u32>
 /// The position at this index, with its rank, where White wins it and both sides have pieces.
 fn won_position(table: &Table, index: u32) -> Option<(u32, Position)>
     requires { index < entry_count 3 }
-    ensures { IfSome result (IsWon (answers table.now.pieces table.now.numbers)) }
+    ensures { IfSome result (IsWonByTable (answers table.now.pieces table.now.numbers)) }
 {
     let p = position_at(index)?;
     if p.count(Side::Black) == 0 || p.count(Side::White) == 0 {
@@ -42,14 +43,15 @@ fn won_position(table: &Table, index: u32) -> Option<(u32, Position)>
     Some((rank, p))
 }
 
-/// The positions of three pieces, of both sides, that White wins, with their ranks: the first so many in rising rank,
-/// those of one rank in the order of their indices.
+/// The positions of three pieces, of both sides, that White wins, with their ranks: the first so
+/// many in rising rank, those of one rank in the order of their indices.
 fn won_positions(
     alloc: Global,
     table: &Table,
     count: usize,
 ) -> Result<Vec<(u32, Position)>, AllocError>
-    ensures won { IfOk result (λ won. All (IsWon (answers table.now.pieces table.now.numbers)) won.items) }
+    ensures won { IfOk result (λ won.
+        All (IsWonByTable (answers table.now.pieces table.now.numbers)) won.items) }
     ensures count { IfOk result (λ won. vec_len won ≤ count) }
 {
     let mut won = Vec::new(alloc);
@@ -63,7 +65,8 @@ fn won_positions(
     Ok(won)
 }
 
-/// Where White moves, the first legal move to a position that the table shows as won for White at a lower rank.
+/// Where White moves, the first legal move to a position that the table shows as won for White at a
+/// lower rank.
 fn chosen_move(
     alloc: Global,
     table: &Table,
@@ -106,9 +109,11 @@ fn win_part(alloc: Global, table: &Table, won: &[(u32, Position)]) -> Result<Win
     Ok(part)
 }
 
-/// A certificate that White wins a position of three pieces, made out of the table of three and leaning on that of two.
+/// A certificate that White wins a position of three pieces, made out of the table of three and
+/// leaning on that of two.
 ///
-/// It has so many entries, or fewer where the table shows no more. Refused where it shows none, and for want of memory.
+/// It has so many entries, or fewer where the table shows no more. Refused where it shows none, and
+/// for want of memory.
 pub fn make_certificate(alloc: Global, table: &Table, count: usize) -> Result<Certificate>
     ensures pieces { IfOk result (λ c. c.pieces ≡ 2) }
     ensures claim { IfOk result (λ c. c.claim ≡ claim.Win Side.White) }

@@ -16,7 +16,8 @@ fn rate(entries: usize, nanoseconds: u128) -> u128 {
     (entries as u128).saturating_mul(1_000_000_000) / nanoseconds.max(1)
 }
 
-/// Prints how many entries a second of this text are read, and how many are checked by the table, by the best times.
+/// Prints how many entries a second of this text are read, and how many are checked by the table,
+/// by the best times.
 pub fn time(
     rt: &(impl Print + Clock + Alloc<A = Global>),
     text: &[u8],

@@ -4,7 +4,8 @@ ghost use Rattle.std.specs.Prelude.{◌≡◌, IfOk};
 use std::alloc::{AllocError, Global};
 use strategy_certificate::{HoldPart, WinPart, as_hold, merge_holds, merge_wins};
 
-/// The entries of the part at these places, counted from 0: from the first to the one before the second.
+/// The entries of the part at these places, counted from 0: from the first to the one before the
+/// second.
 fn slice_of(alloc: Global, part: &WinPart, first: usize, end: usize) -> Result<WinPart, AllocError>
     ensures { IfOk result (λ slice. slice.side ≡ part.now.side) }
 {
@@ -16,7 +17,8 @@ fn slice_of(alloc: Global, part: &WinPart, first: usize, end: usize) -> Result<W
     Ok(slice)
 }
 
-/// The part, put together again of its first 60 and its last 60 in a hundred entries, and its hold part likewise.
+/// The part, put together again of its first 60 and its last 60 in a hundred entries, and its hold
+/// part likewise.
 pub fn merged(alloc: Global, part: &WinPart) -> Result<(WinPart, HoldPart), AllocError>
     ensures wins { IfOk result (λ both. both.0.side ≡ part.now.side) }
     ensures holds { IfOk result (λ both. both.1.side ≡ part.now.side) }

@@ -15,7 +15,7 @@ use Rattle.certificate_checker.specs.declared.faults.EntryFault.{EntryFault}
 use Rattle.certificate_checker.specs.declared.faults.EntryFault.TheVariants.{StuckHolder, BadMove, Missing, BadRank}
 use Rattle.certificate_checker.specs.declared.faults.PartFault.{PartFault}
 use Rattle.certificate_checker.specs.declared.faults.PartFault.TheVariants.{Entry, NoRoot}
-use Rattle.certificate_checker.specs.Faults.{FailsFirst, IsStuck, IsWon, IsRankFault, IsWinFault, IsHoldFault, HasWinFault, HasHoldFault, HasEntryFault, HasPartFault}
+use Rattle.certificate_checker.specs.Faults.{FailsFirst, IsStuck, IsShownWon, IsRankFault, IsWinFault, IsHoldFault, HasWinFault, HasHoldFault, HasEntryFault, HasPartFault}
 use Rattle.certificate_checker.proofs.ListLemmas.{All-nth, one_failure, FailsFirst-one}
 
 differ : (s : Side) → s ≡ other s → ⊥
@@ -35,13 +35,13 @@ module _ (list : WinList) (answer : Board → Option Answer) where
   abbrev IsGoodRow : Board × WinEntry → Type 0
   IsGoodRow row = IsGoodWinEntry list answer row.0 row.1
 
-  below_is_won : (r : ℕ) (due : List Board) → All (IsReachedBelow list answer r) due → All (IsWon list answer) due
+  below_is_won : (r : ℕ) (due : List Board) → All (IsReachedBelow list answer r) due → All (IsShownWon list answer) due
   below_is_won r due all = λ i q within. let below = all i q within in (below.0, below.1.1)
 
   rank_fault_is_no_good : (r : ℕ) (due : List Board) (f : EntryFault) → IsRankFault list answer r due f → All (IsReachedBelow list answer r) due → ⊥
   rank_fault_is_no_good r due StuckHolder f all = f
   rank_fault_is_no_good r due BadMove f all = f
-  rank_fault_is_no_good r due (Missing q) f all = nth_all (IsWon list answer) due q f (below_is_won r due all)
+  rank_fault_is_no_good r due (Missing q) f all = nth_all (IsShownWon list answer) due q f (below_is_won r due all)
   rank_fault_is_no_good r due BadRank f all = f.1.1.1 (All-contains (IsReachedBelow list answer r) due f.1.0 all f.1.1.0)
 
   pub win_fault_is_no_good : (p : Board) (e : WinEntry) (f : EntryFault) → IsWinFault list answer p e f → IsGoodWinEntry list answer p e → ⊥
@@ -55,11 +55,11 @@ module _ (list : WinList) (answer : Board → Option Answer) where
   one_rank_fault r due BadMove g a b = absurd a
   one_rank_fault r due (Missing q) StuckHolder a b = absurd b
   one_rank_fault r due (Missing q) BadMove a b = absurd b
-  one_rank_fault r due (Missing q) (Missing w) a b = ap Missing (FailsFirst-one (IsWon list answer) due q w a b)
-  one_rank_fault r due (Missing q) BadRank a b = absurd (nth_all (IsWon list answer) due q a b.0)
+  one_rank_fault r due (Missing q) (Missing w) a b = ap Missing (FailsFirst-one (IsShownWon list answer) due q w a b)
+  one_rank_fault r due (Missing q) BadRank a b = absurd (nth_all (IsShownWon list answer) due q a b.0)
   one_rank_fault r due BadRank StuckHolder a b = absurd b
   one_rank_fault r due BadRank BadMove a b = absurd b
-  one_rank_fault r due BadRank (Missing w) a b = absurd (nth_all (IsWon list answer) due w b a.0)
+  one_rank_fault r due BadRank (Missing w) a b = absurd (nth_all (IsShownWon list answer) due w b a.0)
   one_rank_fault r due BadRank BadRank a b = refl
 
   one_win_fault : (p : Board) (e : WinEntry) (f g : EntryFault) → IsWinFault list answer p e f → IsWinFault list answer p e g → f ≡ g

@@ -4,3 +4,5 @@ pub mod LeastLemmas
 pub mod FaultLemmas
 pub mod RefusalLemmas
 pub mod SightLemmas
+pub mod FactLemmas
+pub mod ToldLemmas

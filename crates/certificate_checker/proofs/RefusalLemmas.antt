@@ -15,7 +15,7 @@ use Rattle.certificate_checker.specs.declared.faults.PartFault.TheVariants as wr
 use Rattle.certificate_checker.specs.declared.refusals.CheckRefusal.{CheckRefusal}
 use Rattle.certificate_checker.specs.declared.refusals.CheckRefusal.TheVariants.{BadRank, BadMove, Missing, StuckHolder, NoRoot, ClaimNotMet, Memory}
 use Rattle.certificate_checker.specs.Faults.{HasPartFault}
-use Rattle.certificate_checker.specs.Refusals.{HasFaultAt, HasDueParts, IsPartRefused, IsRefusal, is_memory, refusal_at}
+use Rattle.certificate_checker.specs.Refusals.{HasFaultAt, HasDueParts, IsPartRefused, IsRefusal, check_wants_memory, part_refusal_at}
 use Rattle.certificate_checker.specs.Laws.{RefusedIsNotGood, OneRefusal}
 use Rattle.certificate_checker.proofs.ListLemmas.{All-nth, one_failure}
 use Rattle.certificate_checker.proofs.FaultLemmas.{faulty_part_is_not_good, one_part_fault}
@@ -33,7 +33,7 @@ module _ (answer : Board → Option Answer) where
     IsForClaim refusal = (refusal ≡ ClaimNotMet) × (HasDueParts c → ⊥)
 
     abbrev IsForPart : CheckRefusal → Type 0
-    IsForPart refusal = (n : ℕ) × ((f : PartFault) × ((refusal ≡ refusal_at n f) × IsPartRefused answer c n f))
+    IsForPart refusal = (n : ℕ) × ((f : PartFault) × ((refusal ≡ part_refusal_at n f) × IsPartRefused answer c n f))
 
     cause : (refusal : CheckRefusal) → IsRefusal answer c refusal → IsForClaim refusal ⊎ IsForPart refusal
     cause ClaimNotMet because = inl (refl, because)
@@ -45,7 +45,7 @@ module _ (answer : Board → Option Answer) where
     cause (Memory e) because = absurd because
 
     -- the refusal that is made of a fault is due
-    pub refusal_at-due : (n : ℕ) (f : PartFault) → IsPartRefused answer c n f → IsRefusal answer c (refusal_at n f)
+    pub refusal_at-due : (n : ℕ) (f : PartFault) → IsPartRefused answer c n f → IsRefusal answer c (part_refusal_at n f)
     refusal_at-due n (wrong.Entry entry fault.StuckHolder) because = because
     refusal_at-due n (wrong.Entry entry fault.BadMove) because = because
     refusal_at-due n (wrong.Entry entry (fault.Missing q)) because = because
@@ -64,7 +64,7 @@ module _ (answer : Board → Option Answer) where
     same one another (inr a) (inl b) = absurd (b.1 a.1.1.1.0)
     same one another (inr a) (inr b) =
         let equal = one_fault c.position c.parts a.0 b.0 a.1.0 b.1.0 a.1.1.1.1 b.1.1.1.1 in
-        a.1.1.0 ∙ ap (λ n. refusal_at n a.1.0) equal.0 ∙ ap (refusal_at b.0) equal.1 ∙ sym b.1.1.0
+        a.1.1.0 ∙ ap (λ n. part_refusal_at n a.1.0) equal.0 ∙ ap (part_refusal_at b.0) equal.1 ∙ sym b.1.1.0
 
 pub refused_is_not_good : RefusedIsNotGood
 refused_is_not_good answer c refusal because good = not_good answer c refusal (cause answer c refusal because) good
@@ -81,15 +81,15 @@ module _ (answer : Board → Option Answer) (c : Certificate) where
   abbrev pub IsRefused : Certificate × CheckRefusal → Type 0
   IsRefused refused = (refused.0 ≡ c) × IsRefusal answer c refused.1
 
-  pub exactly : (found : Result Certificate (Certificate × CheckRefusal)) → IfOk found IsAccepted → IfErr found (λ refused. OnFalse (is_memory refused.1) (IsRefused refused))
-      → IsExact (λ refused. is_memory refused.1) IsAccepted IsRefused found
+  pub exactly : (found : Result Certificate (Certificate × CheckRefusal)) → IfOk found IsAccepted → IfErr found (λ refused. OnFalse (check_wants_memory refused.1) (IsRefused refused))
+      → IsExact (λ refused. check_wants_memory refused.1) IsAccepted IsRefused found
   exactly found good fault =
-      exact_from_one (λ refused. is_memory refused.1) IsAccepted IsRefused found good fault (λ a b x y. x.0 ∙ sym y.0)
+      exact_from_one (λ refused. check_wants_memory refused.1) IsAccepted IsRefused found good fault (λ a b x y. x.0 ∙ sym y.0)
       (λ a e x y. refused_is_not_good answer c e.1 y.1 x.1) (λ e f x y i. ((x.0 ∙ sym y.0) i, one_refusal answer c e.1 f.1 x.1 y.1 i))
 
   -- a refusal that is due is a fault
-  pub due_fault : (refusal : CheckRefusal) → IsRefusal answer c refusal → OnFalse (is_memory refusal) (IsRefused (c, refusal))
-  due_fault refusal because = by (is_memory refusal)
+  pub due_fault : (refusal : CheckRefusal) → IsRefusal answer c refusal → OnFalse (check_wants_memory refusal) (IsRefused (c, refusal))
+  due_fault refusal because = by (check_wants_memory refusal)
     where
       by : (b : Bool) → OnFalse b (IsRefused (c, refusal))
       by true = tt

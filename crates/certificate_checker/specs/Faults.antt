@@ -34,16 +34,16 @@ abbrev pub IsStuck : Side → Board → Type 0
 IsStuck s p = (p.to_move ≡ s) × ((path : List ℕ) → IsLegal p path → ⊥)
 
 -- the position is an entry of the part, or a win of its side by the table
-abbrev pub IsWon : WinList → (Board → Option Answer) → Board → Type 0
-IsWon part answer q = (r : ℕ) × IsReached part answer r q
+abbrev pub IsShownWon : WinList → (Board → Option Answer) → Board → Type 0
+IsShownWon part answer q = (r : ℕ) × IsReached part answer r q
 
 -- what is wrong with the due positions of a win part's entry of this rank
 abbrev pub IsRankFault : WinList → (Board → Option Answer) → ℕ → List Board → EntryFault → Type 0
 IsRankFault part answer rank due StuckHolder = ⊥
 IsRankFault part answer rank due BadMove = ⊥
-IsRankFault part answer rank due (Missing q) = FailsFirst (IsWon part answer) due q
+IsRankFault part answer rank due (Missing q) = FailsFirst (IsShownWon part answer) due q
 IsRankFault part answer rank due BadRank =
-    All (IsWon part answer) due
+    All (IsShownWon part answer) due
     × ((q : Board) × (Contains due q × (IsReachedBelow part answer rank q → ⊥)))
 
 -- what is wrong with an entry of a win part

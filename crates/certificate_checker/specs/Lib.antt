@@ -4,3 +4,4 @@ pub mod Refusals
 pub mod Laws
 pub mod Sight
 pub mod Answers
+pub mod Told

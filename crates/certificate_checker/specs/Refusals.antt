@@ -26,9 +26,9 @@ abbrev pub IsPartRefused : (Board → Option Answer) → Certificate → ℕ →
 IsPartRefused answer c n fault = HasDueParts c × HasFaultAt answer c.position c.parts n fault
 
 -- memory ran out
-abbrev pub is_memory : CheckRefusal → Bool
-is_memory (Memory e) = true
-is_memory other = false
+abbrev pub check_wants_memory : CheckRefusal → Bool
+check_wants_memory (Memory e) = true
+check_wants_memory other = false
 
 -- The certificate is refused so by these answers: for its claim, or for the first part with a
 -- fault, and there for the first entry with one, or else for its root. Want of memory is no fault
@@ -45,9 +45,9 @@ IsRefusal answer c (NoRoot n) = IsPartRefused answer c n wrong.NoRoot
 IsRefusal answer c (Memory e) = ⊥
 
 -- the refusal for a fault of the nth part
-abbrev pub refusal_at : ℕ → PartFault → CheckRefusal
-refusal_at n (wrong.Entry entry fault.StuckHolder) = StuckHolder n entry
-refusal_at n (wrong.Entry entry fault.BadMove) = BadMove n entry
-refusal_at n (wrong.Entry entry (fault.Missing successor)) = Missing n entry successor
-refusal_at n (wrong.Entry entry fault.BadRank) = BadRank n entry
-refusal_at n wrong.NoRoot = NoRoot n
+abbrev pub part_refusal_at : ℕ → PartFault → CheckRefusal
+part_refusal_at n (wrong.Entry entry fault.StuckHolder) = StuckHolder n entry
+part_refusal_at n (wrong.Entry entry fault.BadMove) = BadMove n entry
+part_refusal_at n (wrong.Entry entry (fault.Missing successor)) = Missing n entry successor
+part_refusal_at n (wrong.Entry entry fault.BadRank) = BadRank n entry
+part_refusal_at n wrong.NoRoot = NoRoot n

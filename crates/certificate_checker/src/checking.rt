@@ -51,20 +51,22 @@ impl Proved {
 ghost use Rattle.std.specs.Prelude.{◌≡◌, OnOk, IfErr};
 ghost use Rattle.shared_words.specs.Answers.{IsExact};
 ghost use Rattle.strategy_certificate.specs.Certificates.{IsGoodBy, IsTrueOf};
-ghost use Rattle.certificate_checker.specs.Refusals.{IsRefusal, is_memory};
+ghost use Rattle.certificate_checker.specs.Refusals.{IsRefusal, check_wants_memory};
 
-/// Checks a certificate by the rules and the answers of an endgame table of as many pieces as it names.
+/// Checks a certificate by the rules and the answers of an endgame table of as many pieces as it
+/// names.
 ///
-/// It is accepted exactly where it is good, but for want of memory, and is handed back with each refusal. A refusal
-/// comes exactly where it is due, in the order that [`CheckRefusal`] tells.
+/// It is accepted exactly where it is good, but for want of memory, and is handed back with each
+/// refusal. A refusal comes exactly where it is due, in the order that [`CheckRefusal`] tells.
 pub fn check<O: Oracle>(
     alloc: Global,
     c: Certificate,
     oracle: &O,
 ) -> Result<Proved, (Certificate, CheckRefusal)>
     requires { c.pieces ≡ O.piece_limit oracle.now }
-    // The certificate, which is good, or what goes wrong first: exactly that, unless memory ran out.
-    ensures exact { IsExact (λ refused. is_memory refused.1)
+    // The certificate, which is good, or what goes wrong first: exactly that, unless memory ran
+    // out.
+    ensures exact { IsExact (λ refused. check_wants_memory refused.1)
         (λ proved. (proved ≡ c) × IsGoodBy (O.answer_at oracle.now) c)
         (λ refused. (refused.0 ≡ c) × IsRefusal (O.answer_at oracle.now) c refused.1) result }
     ensures claim { OnOk result (IsTrueOf c.claim c.position) }

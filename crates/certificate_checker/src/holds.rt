@@ -26,7 +26,8 @@ fn find_unheld<O: Oracle>(part: &HoldPart, oracle: &O, due: &[Position]) -> Opti
 
 /// What is wrong with an entry, if anything is.
 ///
-/// A side that has its due move is not stuck, so only where it has not is it asked whether it could move.
+/// A side that has its due move is not stuck, so only where it has not is it asked whether it could
+/// move.
 fn find_fault<O: Oracle>(
     alloc: Global,
     part: &HoldPart,

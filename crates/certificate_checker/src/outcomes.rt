@@ -9,7 +9,7 @@ ghost use Rattle.certificate_checker.specs.Sight.{IsAtSight};
 use crate::checking::Proved;
 use draughts_board::{Position, Side};
 use proof_numbers::Child;
-use strategy_certificate::ItemList;
+use shared_words::ItemList;
 
 /// The positions after a position, in order, each with its facts at sight and its mobility.
 pub type ChildList = ItemList<Child>;
@@ -17,7 +17,8 @@ pub type ChildList = ItemList<Child>;
 /// Certificates whose claims are true.
 pub type ProofList = ItemList<Proved>;
 
-/// A search that found too little: looking so far ahead shows neither the goal's win nor the other side's hold.
+/// A search that found too little: looking so far ahead shows neither the goal's win nor the other
+/// side's hold.
 #[derive(Drop)]
 pub struct Exhausted {
     /// The position that was searched.

@@ -75,7 +75,8 @@ fn find_part_fault<O: Oracle>(
     }
 }
 
-/// The number of the first part with a fault for the position, counted from 1, and its fault, if there is one.
+/// The number of the first part with a fault for the position, counted from 1, and its fault, if
+/// there is one.
 pub(crate) fn find_faulty_part<O: Oracle>(
     alloc: Global,
     parts: &[Part],

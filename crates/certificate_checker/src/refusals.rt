@@ -1,6 +1,6 @@
 //! Why a certificate is refused.
 ghost use Rattle.std.specs.Prelude.{◌≡◌};
-ghost use Rattle.certificate_checker.specs.Refusals.{refusal_at};
+ghost use Rattle.certificate_checker.specs.Refusals.{part_refusal_at};
 
 use crate::faults::{EntryFault, PartFault};
 use draughts_board::Position;
@@ -8,17 +8,20 @@ use std::alloc::AllocError;
 
 /// Why a certificate is refused. Parts and entries are counted from 1.
 ///
-/// The claim is looked at first, and then the parts in order: of each its entries in order, and then its root. Of an
-/// entry a stuck holder is looked for first, then a bad move, then what is missing, and then its rank.
+/// The claim is looked at first, and then the parts in order: of each its entries in order, and
+/// then its root. Of an entry a stuck holder is looked for first, then a bad move, then what is
+/// missing, and then its rank.
 #[derive(Clone, Copy, PartialEq, Eq, Debug, thiserror::Error)]
 pub enum CheckRefusal {
-    /// Some due successor of a win part's entry has no smaller rank, neither by an entry of the part nor by the table.
+    /// Some due successor of a win part's entry has no smaller rank, neither by an entry of the
+    /// part nor by the table.
     #[error("part {part}, entry {entry}: the rank of a successor is not below its own")]
     BadRank {
         part: usize,
         entry: usize,
     },
-    /// The part's side moves, and the chosen move is absent or illegal; or the other side moves, and a move is chosen.
+    /// The part's side moves, and the chosen move is absent or illegal; or the other side moves,
+    /// and a move is chosen.
     #[error("part {part}, entry {entry}: not the move that is due")]
     BadMove {
         part: usize,
@@ -37,7 +40,8 @@ pub enum CheckRefusal {
         part: usize,
         entry: usize,
     },
-    /// The entries of this part are good, and the certificate's position is neither one of them nor shown by the table.
+    /// The entries of this part are good, and the certificate's position is neither one of them nor
+    /// shown by the table.
     #[error("part {0}: the position is missing")]
     NoRoot(usize),
     /// The parts are not those that the claim needs.
@@ -50,7 +54,7 @@ pub enum CheckRefusal {
 
 /// The refusal for a fault of the part of this number.
 pub(crate) fn refusal_at(part: usize, fault: PartFault) -> CheckRefusal
-    ensures { result ≡ refusal_at part fault }
+    ensures { result ≡ part_refusal_at part fault }
 {
     let PartFault::Entry(entry, fault) = fault else {
         return CheckRefusal::NoRoot(part);

@@ -1,5 +1,5 @@
-//! What the checker asks of an entry and of the parts, on the White win in one: in W:W16,23:B12 the step 23-19 leaves
-//! Black without a move.
+//! What the checker asks of an entry and of the parts, on the White win in one: in W:W16,23:B12 the
+//! step 23-19 leaves Black without a move.
 use crate::due::{due_positions, has_due_move, is_stuck};
 use crate::faults::{EntryFault, PartFault};
 use crate::parts::are_due;

@@ -25,7 +25,7 @@ use Rattle.certificate_joiner.specs.declared.steps.Reason.TheVariants as reason
 use Rattle.certificate_joiner.specs.Shelf.{Put, certificates_of}
 use Rattle.certificate_joiner.specs.Certified.{IsCertified}
 use Rattle.certificate_joiner.specs.Steps.{IsUsable, PlaysTo}
-use Rattle.certificate_joiner.specs.Strategy.{is_due, knows, is_repeating, ShowsBy, Tells, IsAtSight, IsDueNode, IsKnown, weight, weights, first_due, due_nodes, GoesOn}
+use Rattle.certificate_joiner.specs.Strategy.{is_due, knows, is_repeating, ShowsBy, Tells, StandsAtSight, IsDueNode, IsKnown, weight, weights, first_due, due_nodes, StrategyGoesOn}
 use Rattle.certificate_joiner.proofs.Nodes.{position_of, facts_of, mark_of, children_of}
 use Rattle.certificate_joiner.proofs.Named.{EachNode-contains}
 use Rattle.certificate_joiner.proofs.Numbers.{least_zero, total_zero, some_proved, all_proved, some_disproved, all_disproved, proved_by, disproved_by}
@@ -107,7 +107,7 @@ module _ (k : ℕ) (puts : List Put) (aim : Aim) (s : Side) where
   known_from path x due t = record { lawful = due.sound.0.lawful; shelved = due.certified.0.shelved; fact = by aim t }
     where
       by : (a : Aim) → knows a s (facts_of x) ≡ true
-          → IsAtSight a k s (position_of x) ⊎ ((c : Certificate) × (Contains (certificates_of x.own.number puts) c × Tells a s c.claim))
+          → StandsAtSight a k s (position_of x) ⊎ ((c : Certificate) × (Contains (certificates_of x.own.number puts) c × Tells a s c.claim))
       by Win t = due.certified.0.wins s t
       by Hold t = due.certified.0.holds s t
 
@@ -126,7 +126,7 @@ module _ (k : ℕ) (puts : List Put) (aim : Aim) (s : Side) where
 
   pub goes_on_known : (x : Node) (r : Reason) → IsUsable s r
       → ((path : List Board) → IsDueNode k puts aim s path x → (before later : List Board) → ShowsBy aim k s before later (position_of x) r)
-      → GoesOn k puts aim s x (step_at x r) []
+      → StrategyGoesOn k puts aim s x (step_at x r) []
   goes_on_known x r usable shows = record {
     position = refl;
     usable = usable;
@@ -142,7 +142,7 @@ module _ (k : ℕ) (puts : List Put) (aim : Aim) (s : Side) where
   repeats_above a path x is sound (inr (inr (expanded, rest))) unknown before above =
       absurd (false≢true (subst (λ m. is_repeating m ≡ true) expanded is))
 
-  pub goes_on_repeats : (x : Node) → is_repeating (mark_of x) ≡ true → knows aim s (facts_of x) ≡ false → GoesOn k puts aim s x (step_at x reason.Repeats) []
+  pub goes_on_repeats : (x : Node) → is_repeating (mark_of x) ≡ true → knows aim s (facts_of x) ≡ false → StrategyGoesOn k puts aim s x (step_at x reason.Repeats) []
   goes_on_repeats x is unknown = record {
     position = refl;
     usable = tt;
@@ -170,7 +170,7 @@ module _ (k : ℕ) (puts : List Put) (aim : Aim) (s : Side) where
   plays Hold before later p chosen to = to
 
   pub goes_on_one : (x c : Node) (move : List ℕ) → (position_of x).to_move ≡ s
-      → IsLegal (position_of x) move → after (position_of x) move ≡ position_of c → GoesOn k puts aim s x (step_at x (reason.Play (Some move))) (c ∷ [])
+      → IsLegal (position_of x) move → after (position_of x) move ≡ position_of c → StrategyGoesOn k puts aim s x (step_at x (reason.Play (Some move))) (c ∷ [])
   goes_on_one x c move mine legal leads = record {
     position = refl;
     usable = tt;
@@ -184,7 +184,7 @@ module _ (k : ℕ) (puts : List Put) (aim : Aim) (s : Side) where
   }
 
   pub goes_on_all : (x : Node) → (position_of x).to_move ≡ other s → knows aim s (facts_of x) ≡ false → is_repeating (mark_of x) ≡ false
-      → GoesOn k puts aim s x (step_at x (reason.Play None)) (children_of x)
+      → StrategyGoesOn k puts aim s x (step_at x (reason.Play None)) (children_of x)
   goes_on_all x theirs unknown once = record {
     position = refl;
     usable = tt;
@@ -201,27 +201,27 @@ module _ (k : ℕ) (puts : List Put) (aim : Aim) (s : Side) where
   -- ---- the same, of a position that is the node's
 
   module _ (x : Node) (p : Board) (is : p ≡ position_of x) where
-    of_position : (r : Reason) (added : List Node) → GoesOn k puts aim s x (step_at x r) added → GoesOn k puts aim s x (record { position = p; reason = r }) added
-    of_position r added goes = subst (λ q. GoesOn k puts aim s x (record { position = q; reason = r }) added) (sym is) goes
+    of_position : (r : Reason) (added : List Node) → StrategyGoesOn k puts aim s x (step_at x r) added → StrategyGoesOn k puts aim s x (record { position = p; reason = r }) added
+    of_position r added goes = subst (λ q. StrategyGoesOn k puts aim s x (record { position = q; reason = r }) added) (sym is) goes
 
     pub at_known : (n : ℕ) (r : Reason) → n ≡ x.own.number → knows aim s (facts_of x) ≡ true → IsUsable s r
         → (IsKnown k aim s p (certificates_of n puts) → (before later : List Board) → ShowsBy aim k s before later p r)
-        → GoesOn k puts aim s x (record { position = p; reason = r }) []
+        → StrategyGoesOn k puts aim s x (record { position = p; reason = r }) []
     at_known n r named t usable shows =
         of_position r [] (goes_on_known x r usable (λ path due before later. subst (λ q. ShowsBy aim k s before later q r) is
         (shows (subst (λ q. IsKnown k aim s q (certificates_of n puts)) (sym is)
         (subst (λ m. IsKnown k aim s (position_of x) (certificates_of m puts)) (sym named) (known_from path x due t))) before later)))
 
-    pub at_repeats : is_repeating (mark_of x) ≡ true → knows aim s (facts_of x) ≡ false → GoesOn k puts aim s x (record { position = p; reason = reason.Repeats }) []
+    pub at_repeats : is_repeating (mark_of x) ≡ true → knows aim s (facts_of x) ≡ false → StrategyGoesOn k puts aim s x (record { position = p; reason = reason.Repeats }) []
     at_repeats repeats unknown = of_position reason.Repeats [] (goes_on_repeats x repeats unknown)
 
     pub at_all : p.to_move ≡ other s → knows aim s (facts_of x) ≡ false → is_repeating (mark_of x) ≡ false
-        → GoesOn k puts aim s x (record { position = p; reason = reason.Play None }) (children_of x)
+        → StrategyGoesOn k puts aim s x (record { position = p; reason = reason.Play None }) (children_of x)
     at_all theirs unknown once =
         of_position (reason.Play None) (children_of x) (goes_on_all x (subst (λ (q : Board). q.to_move ≡ other s) is theirs) unknown once)
 
     pub at_one : (c : Node) (next : Board) (move : List ℕ) → p.to_move ≡ s → next ≡ position_of c → IsLegal p move → after p move ≡ next
-        → GoesOn k puts aim s x (record { position = p; reason = reason.Play (Some move) }) (c ∷ [])
+        → StrategyGoesOn k puts aim s x (record { position = p; reason = reason.Play (Some move) }) (c ∷ [])
     at_one c next move mine same legal leads =
         of_position (reason.Play (Some move)) (c ∷ []) (goes_on_one x c move (subst (λ (q : Board). q.to_move ≡ s) is mine)
         (subst (λ q. IsLegal q move) is legal) (subst (λ q. after q move ≡ position_of c) is (leads ∙ same)))

@@ -22,7 +22,7 @@ use Rattle.proof_numbers.specs.Sight.{AreFactsAtSight}
 use Rattle.proof_tree.specs.declared.rows.Mark.TheVariants.{Unexpanded, Expanded}
 use Rattle.proof_tree.specs.Changes.{changed, learn, new_nodes, expanded}
 use Rattle.proof_tree.specs.Forest.{Own, Forest, no_node, node, Node, forest, node_at, size}
-use Rattle.proof_tree.specs.Sound.{EachNode, IsSound}
+use Rattle.proof_tree.specs.Sound.{EachNode, IsSoundForest}
 use Rattle.proof_tree.proofs.EachNode.{EachNode-appended, EachNode-map, no_node-with, missing_occurs, only_node}
 use Rattle.certificate_joiner.specs.Shelf.{Put, batches_of, certificates_of}
 use Rattle.certificate_joiner.specs.Certified.{IsShelved, IsCertified}
@@ -95,7 +95,7 @@ flat_one : (bs : List (List Certificate)) (b : List Certificate) → flat_map (�
 flat_one bs b =
     flat_map-append (λ l. l) bs (b ∷ []) ∙ ap (λ l. flat_map (λ l. l) bs ++ l) (flat_map-cons (λ l. l) b [] ∙ append-nil b)
 
-certificates-put : (m : ℕ) (puts : List Put) (put : Put)
+pub certificates-put : (m : ℕ) (puts : List Put) (put : Put)
     → certificates_of m (puts ++ put ∷ []) ≡ cond (eqb put.0 m) (certificates_of m puts ++ put.1) (certificates_of m puts)
 certificates-put m puts put = ap (flat_map (λ l. l)) (batches-put m puts put) ∙ by (eqb put.0 m)
   where
@@ -182,7 +182,7 @@ module _ (k : ℕ) (puts : List Put) (n : ℕ) (facts : Known) (batch : List Cer
     ),
   )
 
-  shown_where : (roots : Forest) → IsSound roots → (o : Option Node) → node_at n roots ≡ o → IfSome o (λ x. AreShownBy k x.own.position facts batch)
+  shown_where : (roots : Forest) → IsSoundForest roots → (o : Option Node) → node_at n roots ≡ o → IfSome o (λ x. AreShownBy k x.own.position facts batch)
       → EachNode (λ above x. x.own.number ≡ n → AreShownBy k x.own.position facts batch) [] roots
   shown_where roots sound None is shown =
       EachNode-map (λ above y. y.own.number ≡ n → ⊥) (λ above y. y.own.number ≡ n → AreShownBy k y.own.position facts batch) (λ above y h e. absurd (h e)) [] roots

@@ -30,8 +30,8 @@ use Rattle.certificate_joiner.specs.declared.steps.Reason.TheVariants.{Table, Sh
 use Rattle.strategy_certificate.specs.declared.entries.TheConstants.{MOST_FOUND_RANK}
 use Rattle.strategy_certificate.specs.Claims.{HasShortRanks}
 use Rattle.certificate_joiner.specs.Certified.{IsShelved}
-use Rattle.certificate_joiner.specs.Steps.{PlaysTo, PartShowsWin, PartShowsHold, IsUsable, side_of}
-use Rattle.certificate_joiner.specs.Strategy.{part_shows, IsShowingPart, ShowsNone, ShowsBy, Tells, IsAtSight, IsKnown}
+use Rattle.certificate_joiner.specs.Steps.{PlaysTo, PartShowsWin, PartShowsHold, IsUsable, part_side}
+use Rattle.certificate_joiner.specs.Strategy.{part_shows, IsShowingPart, ShowsNone, ShowsBy, Tells, StandsAtSight, IsKnown}
 use Rattle.certificate_joiner.proofs.AtSight.{at_sight_cases, table_wins, table_holds, theirs_without_move}
 use Rattle.certificate_joiner.proofs.Given.{found_part, good_part, gives_told_win, gives_hold, both_due}
 use Rattle.certificate_joiner.proofs.LowRanks.{ranks_are_low}
@@ -122,7 +122,7 @@ module _ (k : ℕ) (few : k ≤ 3) (s : Side) (p : Board) (shown : List Certific
   known_by_part Hold known one found before later =
       hold_shown found.among.0 (shelved_at Hold known found.among.0 found.among.1.0) one.now found.among.1.1 (hold_claim one.now found.shows)
 
-  shows_side : (aim : Aim) (one : Part) → part_shows aim s one ≡ true → side_of one ≡ s
+  shows_side : (aim : Aim) (one : Part) → part_shows aim s one ≡ true → part_side one ≡ s
   shows_side Win (part.Win list) t = (same_side-Decides list.side s).0 t
   shows_side Hold (part.Win list) t = (same_side-Decides list.side s).0 t
   shows_side Win (part.Hold list) t = absurd (false≢true t)
@@ -167,7 +167,7 @@ module _ (k : ℕ) (few : k ≤ 3) (s : Side) (p : Board) (shown : List Certific
       let found = found_part k p c shelved (claims.Hold s) claims.Draw is (both_due k p c shelved s) in
       (found.0, (found.1.0, claim_shows Hold found.0 (inr (found.1.1, refl))))
 
-  sight_left : (aim : Aim) → IsKnown k aim s p shown → NoPart aim → IsAtSight aim k s p
+  sight_left : (aim : Aim) → IsKnown k aim s p shown → NoPart aim → StandsAtSight aim k s p
   sight_left aim known none =
       elim known.fact [
         | inl sight ↦ sight
@@ -176,7 +176,7 @@ module _ (k : ℕ) (few : k ≤ 3) (s : Side) (p : Board) (shown : List Certific
             false≢true (sym (All-contains (λ one. part_shows aim s one ≡ false) c.parts one.0 (All-contains (ShowsNone aim s) shown c none there) one.1.0) ∙ one.1.1))
       ]
 
-  no_move : (aim : Aim) → IsAtSight aim k s p → (piece_count p ≤ k → ⊥) → (successors_of p ≡ []) × (p.to_move ≡ other s)
+  no_move : (aim : Aim) → StandsAtSight aim k s p → (piece_count p ≤ k → ⊥) → (successors_of p ≡ []) × (p.to_move ≡ other s)
   no_move Win sight many =
       elim (at_sight_cases k p sight.0) [ inl none ↦ (none, theirs_without_move s p none (Wins-holds draughts s p sight.1)) | inr least ↦ absurd (many least) ]
   no_move Hold (inl none) many = absurd (Contains-nil p none)

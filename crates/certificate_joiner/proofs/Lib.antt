@@ -18,3 +18,5 @@ pub mod WinTree
 pub mod HoldTree
 pub mod Joined
 pub mod Growth
+pub mod Agreeing
+pub mod Within

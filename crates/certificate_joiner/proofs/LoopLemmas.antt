@@ -19,8 +19,8 @@ use Rattle.proof_tree.specs.Forest.{Node}
 use Rattle.certificate_joiner.specs.Shelf.{Put}
 use Rattle.certificate_joiner.proofs.Nodes.{position_of}
 use Rattle.certificate_joiner.specs.Growing.{WinsAll, HoldsAllBut}
-use Rattle.certificate_joiner.specs.Steps.{ByEachTable, PlaysTo, ShowsWinBy, AddsWin, ShowsHoldBy, AddsHold}
-use Rattle.certificate_joiner.specs.Strategy.{ShowsBy, IsDueNode, IsDueAfter, due_nodes, GoesOn, IsStrategy}
+use Rattle.certificate_joiner.specs.Steps.{ByEachTable, PlaysTo, ShowsWinBy, JoinsWin, ShowsHoldBy, JoinsHold}
+use Rattle.certificate_joiner.specs.Strategy.{ShowsBy, IsDueNode, IsDueAfter, due_nodes, StrategyGoesOn, IsStrategy}
 use Rattle.certificate_joiner.proofs.Wins.{WinsAll-none}
 use Rattle.certificate_joiner.proofs.Holds.{HoldsAllBut-none}
 
@@ -63,7 +63,7 @@ module _ (k : ℕ) (puts : List Put) (aim : Aim) (s : Side) (f : ℕ → Node) (
     pub due_path : (path : List Board) × IsDueNode k puts aim s path (f n)
     due_path = (due_here.0, due_here.1.1)
 
-    module _ (step : Step) (goes : GoesOn k puts aim s (f n) step (due_nodes aim s (f n))) where
+    module _ (step : Step) (goes : StrategyGoesOn k puts aim s (f n) step (due_nodes aim s (f n))) where
       places : (ms : List ℕ) → map position_of (map f ms) ≡ map place ms
       places [] = refl
       places (m ∷ ms) = ap (λ l. place m ∷ l) (places ms)
@@ -108,16 +108,16 @@ holds_none k f nodes part none answer sound =
     (HoldsAllBut-none answer (map (λ m. position_of (f m)) (take (length nodes) nodes)) part none)
 
 module _ (k : ℕ) (puts : List Put) (s : Side) (f : ℕ → Node) (Has : ℕ → Type 0) (nodes : List ℕ) (i n : ℕ) (more : i < length nodes) (is : n ≡ get_or nodes i n) (step : Step) where
-  pub wins_one_more : (strategy : IsStrategy k puts Win s f Has nodes) → GoesOn k puts Win s (f n) step (due_nodes Win s (f n))
-      → (rank : ℕ) (old new : WinList) → old.side ≡ s → MOST_FOUND_RANK ≤ rank → AddsWin old step (rank + 1) new → WinsFrom k f nodes (i + 1) rank old → WinsFrom k f nodes i (rank + 1) new
+  pub wins_one_more : (strategy : IsStrategy k puts Win s f Has nodes) → StrategyGoesOn k puts Win s (f n) step (due_nodes Win s (f n))
+      → (rank : ℕ) (old new : WinList) → old.side ≡ s → MOST_FOUND_RANK ≤ rank → JoinsWin old step (rank + 1) new → WinsFrom k f nodes (i + 1) rank old → WinsFrom k f nodes i (rank + 1) new
   wins_one_more strategy goes rank old new mine high adds wins answer sound =
       subst (λ ps. WinsAll answer (rank + 1) ps new) (place_now k puts Win s f Has nodes strategy i n more is step goes)
       (adds k answer rank (map (λ m. position_of (f m)) (drop (i + 1) nodes)) sound high refl
       (subst (λ t. ShowsWinBy k t (map (λ m. position_of (f m)) (drop (i + 1) nodes)) step.position step.reason) (sym mine) (step_shows k puts Win s f Has nodes strategy i n more is step goes))
       (wins answer sound))
 
-  pub holds_one_more : (strategy : IsStrategy k puts Hold s f Has nodes) → GoesOn k puts Hold s (f n) step (due_nodes Hold s (f n))
-      → (old new : HoldList) → old.side ≡ s → AddsHold old step new → HoldsFrom k f nodes (i + 1) old → HoldsFrom k f nodes i new
+  pub holds_one_more : (strategy : IsStrategy k puts Hold s f Has nodes) → StrategyGoesOn k puts Hold s (f n) step (due_nodes Hold s (f n))
+      → (old new : HoldList) → old.side ≡ s → JoinsHold old step new → HoldsFrom k f nodes (i + 1) old → HoldsFrom k f nodes i new
   holds_one_more strategy goes old new mine adds holds answer sound =
       subst (λ ps. HoldsAllBut answer (map (λ m. position_of (f m)) (take i nodes)) ps new) (place_now k puts Hold s f Has nodes strategy i n more is step goes)
       (adds k answer (map (λ m. position_of (f m)) (take (i + 1) nodes)) (map (λ m. position_of (f m)) (take i nodes)) (map (λ m. position_of (f m)) (drop (i + 1) nodes)) sound

@@ -6,7 +6,7 @@ use Rattle.std.proofs.lemmas.List.Elements.{All-cons, All-nil}
 use Rattle.draughts_board.specs.Board.{Board}
 use Rattle.draughts_board.proofs.Members.{Contains-nil, Contains-cons_cases}
 use Rattle.proof_tree.specs.Forest.{Forest, no_node, node, Node, nodes, node_at, size}
-use Rattle.proof_tree.specs.Sound.{EachNode, IsSound, occurrences}
+use Rattle.proof_tree.specs.Sound.{EachNode, IsSoundForest, occurrences}
 use Rattle.std.proofs.lemmas.Option.{slice_get-get_or, get_or_from_slice_get}
 use Rattle.proof_tree.specs.Rows.{blank_node}
 use Rattle.proof_tree.proofs.EachNode.{EachNode-at, found_where, missing_occurs, no_node-with, only_node}
@@ -59,7 +59,7 @@ one_at_most : (b : Bool) → cond b 1 0 ≤ 1
 one_at_most true = omega arith
 one_at_most false = omega arith
 
-pub at_one_place : (roots : Forest) → IsSound roots → (n : ℕ) → occurrences n roots ≤ 1
+pub at_one_place : (roots : Forest) → IsSoundForest roots → (n : ℕ) → occurrences n roots ≤ 1
 at_one_place roots sound n = subst (λ m. m ≤ 1) (sym (sound.numbered n)) (one_at_most (nat_lt n (size roots)))
 
 -- what holds of each node holds from each node on
@@ -83,7 +83,7 @@ child_holds P roots each n x c is there =
     (x.own.position ∷ here.0, (EachNode-contains P (x.own.position ∷ here.0) x.children here.1.1 c there).0)
 
 -- a child of a node that is found is found
-pub child_found : (roots : Forest) → IsSound roots → (n : ℕ) (x c : Node) → node_at n roots ≡ Some x → Contains (nodes x.children) c
+pub child_found : (roots : Forest) → IsSoundForest roots → (n : ℕ) (x c : Node) → node_at n roots ≡ Some x → Contains (nodes x.children) c
     → node_at c.own.number roots ≡ Some c
 child_found roots sound n x c is there = by (node_at c.own.number roots) refl
   where
@@ -97,7 +97,7 @@ child_found roots sound n x c is there = by (node_at c.own.number roots) refl
         found ∙ ap Some (sym ((child_holds (λ above y. y.own.number ≡ m → y ≡ z) roots (only_node m [] roots z found (at_one_place roots sound m)) n x c is there).1 refl))
 
 -- and so is a root
-pub root_found : (roots : Forest) → IsSound roots → (x : Node) → Contains (nodes roots) x → node_at x.own.number roots ≡ Some x
+pub root_found : (roots : Forest) → IsSoundForest roots → (x : Node) → Contains (nodes roots) x → node_at x.own.number roots ≡ Some x
 root_found roots sound x there = by (node_at x.own.number roots) refl
   where
     m : ℕ
@@ -123,7 +123,7 @@ child_there roots n place some within = by (node_at n roots) some within
     by None some within = absurd (false≢true some)
     by (Some x) some within = within
 
-pub child_is : (roots : Forest) → IsSound roots → (n place c : ℕ) → IsNamed roots n → place < length (nodes (named roots n).children)
+pub child_is : (roots : Forest) → IsSoundForest roots → (n place c : ℕ) → IsNamed roots n → place < length (nodes (named roots n).children)
     → IfSome (node_at n roots) (λ x. IfSome (slice_get (nodes x.children) place) (λ child. c ≡ child.own.number))
     → IsNamed roots c × (slice_get (nodes (named roots n).children) place ≡ Some (named roots c))
 child_is roots sound n place c some within said =
@@ -139,7 +139,7 @@ child_is roots sound n place c some within said =
     (is.0, here ∙ ap Some (sym is.1))
 
 -- a root by its place
-pub root_is : (roots : Forest) → IsSound roots → (place n : ℕ) → place < length (nodes roots)
+pub root_is : (roots : Forest) → IsSoundForest roots → (place n : ℕ) → place < length (nodes roots)
     → IfSome (slice_get (nodes roots) place) (λ x. n ≡ x.own.number)
     → IsNamed roots n × ((slice_get (nodes roots) place ≡ Some (named roots n)) × Contains (nodes roots) (named roots n))
 root_is roots sound place n within said =

@@ -9,7 +9,7 @@ use Rattle.std.proofs.lemmas.List.{map-append, length-append}
 use Rattle.std.proofs.lemmas.Option.{slice_get_past}
 use Rattle.strategy_certificate.specs.declared.certificates.Certificate.{Certificate}
 use Rattle.certificate_joiner.specs.Shelf.{Put, batches_of}
-use Rattle.certificate_joiner.specs.ShelfRows.{Row, put_of, puts_of, placed, IsShelf}
+use Rattle.certificate_joiner.specs.ShelfRows.{ShelfRow, put_of, puts_of, placed, IsShelf}
 
 -- ---- keys
 
@@ -51,7 +51,7 @@ after_same before m n false e t = absurd (false≢true t)
 after_other : (before : ℕ → ℕ) (m n : ℕ) → eqb m n ≡ false → after before m n ≡ before n
 after_other before m n e = ap (λ c. cond c (suc (before n)) (before n)) e
 
-module _ (test : ℕ × ℕ → Bool) (row : Row) (rows : List Row) where
+module _ (test : ℕ × ℕ → Bool) (row : ShelfRow) (rows : List ShelfRow) where
   first_found : test row.0 ≡ true → lookup test (row ∷ rows) ≡ Some row.1
   first_found t = ap (λ b. cond b (Some row.1) (lookup test rows)) t
 
@@ -62,10 +62,10 @@ pub found : (before : ℕ → ℕ) (puts : List Put) (n i : ℕ) → lookup (is_
 found before [] n i = refl
 found before (put ∷ more) n i = by (eqb put.0 n) refl (λ b j. found b more n j) i
   where
-    row : Row
+    row : ShelfRow
     row = ((put.0, before put.0), put.1)
 
-    rest : List Row
+    rest : List ShelfRow
     rest = placed (after before put.0) more
 
     by : (b : Bool) → eqb put.0 n ≡ b → ((next : ℕ → ℕ) (j : ℕ) → lookup (is_key n (next n + j)) (placed next more) ≡ slice_get (batches_of n more) j) → (i : ℕ)
@@ -120,16 +120,16 @@ few_batches n (put ∷ more) = by (eqb put.0 n) (few_batches n more)
     by true le = omega arith
     by false le = omega arith
 
-many_puts : (rows : List Row) → length (puts_of rows) ≡ length rows
+many_puts : (rows : List ShelfRow) → length (puts_of rows) ≡ length rows
 many_puts [] = refl
 many_puts (row ∷ rows) = ap suc (many_puts rows)
 
-pub puts_of-put : (rows : List Row) (n b : ℕ) (batch : List Certificate) → puts_of (rows ++ ((n, b), batch) ∷ []) ≡ puts_of rows ++ (n, batch) ∷ []
+pub puts_of-put : (rows : List ShelfRow) (n b : ℕ) (batch : List Certificate) → puts_of (rows ++ ((n, b), batch) ∷ []) ≡ puts_of rows ++ (n, batch) ∷ []
 puts_of-put rows n b batch = map-append put_of rows (((n, b), batch) ∷ [])
 
 -- ---- a shelf
 
-module _ (rows : List Row) (counts : List (ℕ × ℕ)) (row_space count_space spare : ℕ) (shelf : IsShelf rows counts row_space count_space spare) where
+module _ (rows : List ShelfRow) (counts : List (ℕ × ℕ)) (row_space count_space spare : ℕ) (shelf : IsShelf rows counts row_space count_space spare) where
   pub at_place : (n i : ℕ) → lookup (is_key n i) rows ≡ slice_get (batches_of n (puts_of rows)) i
   at_place n i =
       let z : i ≡ 0 + i = omega arith in
@@ -141,7 +141,7 @@ module _ (rows : List Row) (counts : List (ℕ × ℕ)) (row_space count_space s
   pub place_fits : (n : ℕ) → length (batches_of n (puts_of rows)) ≤ 2 ^ 57
   place_fits n = let a = few_batches n (puts_of rows) in let b = many_puts rows in let c = shelf.few in omega arith
 
-  module _ (n : ℕ) (batch : List Certificate) (some : 1 ≤ spare) (new : List Row) (new_counts : List (ℕ × ℕ))
+  module _ (n : ℕ) (batch : List Certificate) (some : 1 ≤ spare) (new : List ShelfRow) (new_counts : List (ℕ × ℕ))
       (made : new ≡ rows ++ ((n, length (batches_of n (puts_of rows))), batch) ∷ [])
       (updated : (m : ℕ) → lookup (eqb m) new_counts ≡ cond (eqb n m) (Some (length (batches_of n (puts_of rows)) + 1)) (lookup (eqb m) counts)) where
     pub puts_new : puts_of new ≡ puts_of rows ++ (n, batch) ∷ []

@@ -8,7 +8,7 @@ use Rattle.strategy_certificate.specs.declared.oracle.Answer.{Answer}
 use Rattle.strategy_certificate.specs.declared.entries.WinEntry.{WinEntry}
 use Rattle.draughts_board.specs.Draughts.{draughts}
 use Rattle.strategy_certificate.specs.Tables.{TableWins}
-use Rattle.strategy_certificate.specs.Parts.{WinList, HasDistinctPositions, entry_of, improved, new_rows}
+use Rattle.strategy_certificate.specs.Parts.{WinList, HasDistinctPositions, entry_of, improved, added_rows}
 use Rattle.strategy_certificate.specs.Certificates.{HasDueMove, due_positions, IsReachedBelow, IsGoodWinEntry, IsGoodWinPart}
 use Rattle.strategy_certificate.specs.Laws.{ReachesNoLater, merged_win_list}
 use Rattle.strategy_certificate.proofs.MergeLemmas.{equal_boards, pick-all}
@@ -94,9 +94,9 @@ module _ (answer : Board → Option Answer) where
   abbrev IsLow : ℕ → Board × WinEntry → Type 0
   IsLow n row = row.1.rank ≤ n
 
-  merged_ranks : (n : ℕ) (into from : List (Board × WinEntry)) → All (λ row. row.1.rank ≤ n) into → All (λ row. row.1.rank ≤ n) from → All (λ row. row.1.rank ≤ n) (map (improved from) into ++ new_rows into from)
+  merged_ranks : (n : ℕ) (into from : List (Board × WinEntry)) → All (λ row. row.1.rank ≤ n) into → All (λ row. row.1.rank ≤ n) from → All (λ row. row.1.rank ≤ n) (map (improved from) into ++ added_rows into from)
   merged_ranks n into from low_into low_from =
-      All-append (IsLow n) (map (improved from) into) (new_rows into from)
+      All-append (IsLow n) (map (improved from) into) (added_rows into from)
       (All-map (IsLow n) (improved from) into (All-weaker (IsLow n) (λ row. IsLow n (improved from row)) one into low_into))
       (All-filter (λ (row : Board × WinEntry). is_none (entry_of into row.0)) (IsLow n) from low_from)
     where

@@ -22,9 +22,9 @@ ByEachTable k F = (answer : Board → Option Answer) → IsSoundTable draughts k
 
 -- ---- parts
 
-abbrev pub side_of : Part → Side
-side_of (part.Win list) = list.side
-side_of (part.Hold list) = list.side
+abbrev pub part_side : Part → Side
+part_side (part.Win list) = list.side
+part_side (part.Hold list) = list.side
 
 -- no position stands twice in a part that wins, as each part keeps
 abbrev pub IsDistinctPart : Part → Type 0
@@ -47,7 +47,7 @@ HasOneMore old row new = (HasEntry old row.0 × (new ≡ old)) ⊎ (new ≡ old 
 -- the part that shows the step is of the side, and no position stands twice in it
 abbrev pub IsUsable : Side → Reason → Type 0
 IsUsable s Table = Unit {0}
-IsUsable s (Shown shown) = (side_of shown.now ≡ s) × IsDistinctPart shown.now
+IsUsable s (Shown shown) = (part_side shown.now ≡ s) × IsDistinctPart shown.now
 IsUsable s (Play chosen) = Unit {0}
 IsUsable s Repeats = Unit {0}
 
@@ -81,8 +81,8 @@ ShowsWinBy k s later p (Play chosen) = PlaysTo s later p chosen
 ShowsWinBy k s later p Repeats = ⊥
 
 -- What one more step does to a part: from one that wins the later positions comes one that wins its own too.
-abbrev pub AddsWin : WinList → Step → ℕ → WinList → Type 0
-AddsWin old step rank new =
+abbrev pub JoinsWin : WinList → Step → ℕ → WinList → Type 0
+JoinsWin old step rank new =
     (k : ℕ) (answer : Board → Option Answer) (n : ℕ) (later : List Board) → IsSoundTable draughts k answer
     → MOST_FOUND_RANK ≤ n → rank ≡ n + 1 → ShowsWinBy k old.side later step.position step.reason
     → WinsAll answer n later old → WinsAll answer (n + 1) (step.position ∷ later) new
@@ -108,8 +108,8 @@ ShowsHoldBy k s before later p (Play chosen) = PlaysTo s later p chosen
 ShowsHoldBy k s before later p Repeats = Contains before p
 
 -- What one more step does to a part, where it and the earlier steps were still open.
-abbrev pub AddsHold : HoldList → Step → HoldList → Type 0
-AddsHold old step new =
+abbrev pub JoinsHold : HoldList → Step → HoldList → Type 0
+JoinsHold old step new =
     (k : ℕ) (answer : Board → Option Answer) (waiting before later : List Board) → IsSoundTable draughts k answer
     → ((q : Board) → Contains waiting q → (step.position ≡ q) ⊎ Contains before q)
     → ShowsHoldBy k old.side before later step.position step.reason

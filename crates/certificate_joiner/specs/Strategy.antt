@@ -89,15 +89,15 @@ abbrev pub Tells : Aim → Side → Claim → Type 0
 Tells Win s claim = TellsWin s claim
 Tells Hold s claim = TellsHold s claim
 
-abbrev pub IsAtSight : Aim → ℕ → Side → Board → Type 0
-IsAtSight Win k s p = ShowsWin draughts k s 0 p
-IsAtSight Hold k s p = ShowsHold draughts k s 0 [] p
+abbrev pub StandsAtSight : Aim → ℕ → Side → Board → Type 0
+StandsAtSight Win k s p = ShowsWin draughts k s 0 p
+StandsAtSight Hold k s p = ShowsHold draughts k s 0 [] p
 
 -- it is known of the position, at sight or by one of these certificates
 pub record IsKnown (k : ℕ) (aim : Aim) (s : Side) (p : Board) (shown : List Certificate) : Type 0 where
   pub lawful : IsLawful p
   pub shelved : All (IsShelved k p) shown
-  pub fact : IsAtSight aim k s p ⊎ ((c : Certificate) × (Contains shown c × Tells aim s c.claim))
+  pub fact : StandsAtSight aim k s p ⊎ ((c : Certificate) × (Contains shown c × Tells aim s c.claim))
 
 -- ---- how a strategy goes on
 
@@ -121,7 +121,7 @@ due_nodes aim s x =
     else (if same_side x.own.position.to_move s then first_due aim s (nodes x.children) else nodes x.children)))
 
 -- the step at a node, after which the strategy goes on at these nodes
-pub record GoesOn (k : ℕ) (puts : List Put) (aim : Aim) (s : Side) (x : Node) (step : Step) (added : List Node) : Type 0 where
+pub record StrategyGoesOn (k : ℕ) (puts : List Put) (aim : Aim) (s : Side) (x : Node) (step : Step) (added : List Node) : Type 0 where
   pub position : step.position ≡ x.own.position
   pub usable : IsUsable s step.reason
   pub shows : (path before : List Board) → IsDueNode k puts aim s path x → ((q : Board) → Contains path q → Contains before q)

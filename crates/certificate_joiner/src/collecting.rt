@@ -1,7 +1,7 @@
 //! The nodes of a strategy, collected from a tree.
 ghost use Rattle.std.specs.Prelude.{◌≡◌, ◌↔◌, IsTrue, ◌++◌, ℕ, List, Contains, All, IfOk, OnOk, MatchOption, length, [], ◌∷◌, true, false};
 ghost use Rattle.proof_tree.specs.Forest.{nodes};
-ghost use Rattle.proof_tree.specs.Sound.{IsSound};
+ghost use Rattle.proof_tree.specs.Sound.{IsSoundForest};
 ghost use Rattle.certificate_joiner.specs.Strategy.{knows, is_repeating, is_due, first_due, due_nodes, named, IsNamed, Added, Collected};
 
 use crate::steps::{Aim, Quest};
@@ -53,7 +53,7 @@ fn is_due(tree: &Tree, n: NodeId, quest: Quest) -> bool
 /// The first child that is due.
 pub(crate) fn due_child(tree: &Tree, n: NodeId, quest: Quest) -> Option<NodeId>
     requires there { IsNamed tree.now.forest n }
-    requires sound { IsSound tree.now.forest }
+    requires sound { IsSoundForest tree.now.forest }
     ensures { MatchOption result
         (All (λ x. is_due quest.aim quest.side x ≡ false) (nodes (named tree.now.forest n).children))
         (λ c. IsNamed tree.now.forest c
@@ -72,7 +72,7 @@ pub(crate) fn due_child(tree: &Tree, n: NodeId, quest: Quest) -> Option<NodeId>
 /// Adds the children behind the nodes.
 fn add_children(tree: &Tree, n: NodeId, to: &mut Vec<NodeId>) -> Result<(), AllocError>
     requires there { IsNamed tree.now.forest n }
-    requires sound { IsSound tree.now.forest }
+    requires sound { IsSoundForest tree.now.forest }
     ensures { OnOk result (Added (named tree.now.forest) (IsNamed tree.now.forest)
         to.old.items to.new.items (nodes (named tree.now.forest n).children)) }
 {
@@ -86,7 +86,7 @@ fn add_children(tree: &Tree, n: NodeId, to: &mut Vec<NodeId>) -> Result<(), Allo
 /// the first child that is due where the side moves, and else every child.
 fn add_due(tree: &Tree, n: NodeId, quest: Quest, to: &mut Vec<NodeId>) -> Result<(), AllocError>
     requires there { IsNamed tree.now.forest n }
-    requires sound { IsSound tree.now.forest }
+    requires sound { IsSoundForest tree.now.forest }
     ensures { OnOk result (Added (named tree.now.forest) (IsNamed tree.now.forest)
         to.old.items to.new.items (due_nodes quest.aim quest.side (named tree.now.forest n))) }
 {
@@ -114,7 +114,7 @@ pub(crate) fn collect(
     quest: Quest,
 ) -> Result<Vec<NodeId>, AllocError>
     requires there { IsNamed tree.now.forest root }
-    requires sound { IsSound tree.now.forest }
+    requires sound { IsSoundForest tree.now.forest }
     ensures { IfOk result (λ ns. Collected quest.aim quest.side
         (named tree.now.forest) (IsNamed tree.now.forest) root ns.items (length ns.items)) }
 {

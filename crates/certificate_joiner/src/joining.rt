@@ -2,10 +2,10 @@
 ghost use Rattle.std.specs.Prelude.{◌≡◌, ℕ, ◌+◌, ◌≤◌, ◌^◌, List, [], Option, length, IfOk, OnOk};
 ghost use Rattle.strategy_certificate.specs.declared.entries.TheConstants.{MOST_FOUND_RANK, MOST_RANK};
 ghost use Rattle.strategy_certificate.specs.Laws.{merged_hold_list};
-ghost use Rattle.proof_tree.specs.Sound.{IsSound};
+ghost use Rattle.proof_tree.specs.Sound.{IsSoundForest};
 ghost use Rattle.certificate_joiner.specs.declared.steps.Aim.TheVariants.{Win, Hold};
 ghost use Rattle.certificate_joiner.specs.Growing.{WinsAll, HoldsAllBut};
-ghost use Rattle.certificate_joiner.specs.Steps.{ByEachTable, side_of, IsDistinctPart, IsUsable, HasOneMore, with_win, as_hold_list, AddsWin, AddsHold};
+ghost use Rattle.certificate_joiner.specs.Steps.{ByEachTable, part_side, IsDistinctPart, IsUsable, HasOneMore, with_win, as_hold_list, JoinsWin, JoinsHold};
 ghost use Rattle.certificate_joiner.specs.Strategy.{named, IsNamed, places, IsStrategy};
 
 use crate::shelf::PartShelf;
@@ -20,7 +20,7 @@ use strategy_certificate::{
 
 /// Merges in the part that shows a win.
 fn merge_shown_win(alloc: Global, part: &mut WinPart, shown: &Part) -> Result<(), AllocError>
-    requires { side_of shown.now ≡ part.old.side }
+    requires { part_side shown.now ≡ part.old.side }
     ensures { OnOk result (part.new ≡ with_win part.old shown.now) }
 {
     match shown {
@@ -52,7 +52,7 @@ fn add_win(alloc: Global, part: &mut WinPart, step: &Step<'_>, rank: u64) -> Res
     requires rank { rank ≤ MOST_RANK }
     requires usable { IsUsable part.old.side step.now.reason }
     ensures side { OnOk result (part.new.side ≡ part.old.side) }
-    ensures wins { OnOk result (AddsWin part.old step.now rank part.new) }
+    ensures wins { OnOk result (JoinsWin part.old step.now rank part.new) }
 {
     match step.reason {
         Reason::Shown(shown) => merge_shown_win(alloc, part, shown),
@@ -71,7 +71,7 @@ pub(crate) fn join_wins(
     pieces: u8,
 ) -> Result<WinPart, AllocError>
     requires pieces { pieces ≤ 3 }
-    requires sound { IsSound tree.now.forest }
+    requires sound { IsSoundForest tree.now.forest }
     requires strategy { IsStrategy pieces shelf.now.puts Win side
         (named tree.now.forest) (IsNamed tree.now.forest) strategy.now }
     requires few { length strategy.now ≤ 2 ^ 60 }
@@ -101,7 +101,7 @@ pub(crate) fn join_wins(
 
 /// Merges in the part that shows a hold.
 fn merge_shown_hold(alloc: Global, part: &mut HoldPart, shown: &Part) -> Result<(), AllocError>
-    requires { side_of shown.now ≡ part.old.side }
+    requires { part_side shown.now ≡ part.old.side }
     ensures { OnOk result (part.new ≡ merged_hold_list part.old (as_hold_list shown.now)) }
 {
     match shown {
@@ -128,7 +128,7 @@ fn add_held(part: &mut HoldPart, p: Position, chosen: Option<Move>) -> Result<()
 fn add_hold(alloc: Global, part: &mut HoldPart, step: &Step<'_>) -> Result<(), AllocError>
     requires { IsUsable part.old.side step.now.reason }
     ensures side { OnOk result (part.new.side ≡ part.old.side) }
-    ensures holds { OnOk result (AddsHold part.old step.now part.new) }
+    ensures holds { OnOk result (JoinsHold part.old step.now part.new) }
 {
     match step.reason {
         Reason::Shown(shown) => merge_shown_hold(alloc, part, shown),
@@ -147,7 +147,7 @@ pub(crate) fn join_holds(
     pieces: u8,
 ) -> Result<HoldPart, AllocError>
     requires pieces { pieces ≤ 3 }
-    requires sound { IsSound tree.now.forest }
+    requires sound { IsSoundForest tree.now.forest }
     requires strategy { IsStrategy pieces shelf.now.puts Hold side
         (named tree.now.forest) (IsNamed tree.now.forest) strategy.now }
     ensures side { IfOk result (λ part. part.side ≡ side) }

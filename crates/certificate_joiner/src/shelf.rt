@@ -1,9 +1,10 @@
 //! Certificates that show what is known of nodes.
 use indexmap::IndexMap;
 use proof_tree::NodeId;
+use shared_words::ItemList;
 use std::alloc::{AllocError, Global};
 use std::marker::Model;
-use strategy_certificate::{Certificate, ItemList};
+use strategy_certificate::Certificate;
 
 /// Batches and spare together are at most this: more than a machine can address.
 const MOST_BATCHES: usize = 1 << 57;

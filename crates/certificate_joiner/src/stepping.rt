@@ -1,10 +1,10 @@
 //! The step of a strategy at one node.
 ghost use Rattle.std.specs.Prelude.{◌≡◌, ◌≤◌, ℕ, List, IfOk};
 ghost use Rattle.draughts_board.specs.Board.{Board};
-ghost use Rattle.proof_tree.specs.Sound.{IsSound};
+ghost use Rattle.proof_tree.specs.Sound.{IsSoundForest};
 ghost use Rattle.certificate_joiner.specs.Shelf.{certificates_of};
 ghost use Rattle.certificate_joiner.specs.Steps.{IsUsable};
-ghost use Rattle.certificate_joiner.specs.Strategy.{ShowsBy, IsDueNode, IsKnown, due_nodes, named, IsNamed, GoesOn};
+ghost use Rattle.certificate_joiner.specs.Strategy.{ShowsBy, IsDueNode, IsKnown, due_nodes, named, IsNamed, StrategyGoesOn};
 
 use crate::collecting::{due_child, is_known, is_mover, is_repeated};
 use crate::shelf::PartShelf;
@@ -42,10 +42,10 @@ pub(crate) fn step_at<'a>(
 ) -> Result<Step<'a>, AllocError>
     requires few { quest.pieces ≤ 3 }
     requires there { IsNamed tree.now.forest n }
-    requires sound { IsSound tree.now.forest }
+    requires sound { IsSoundForest tree.now.forest }
     requires due { (path : List Board)
         × IsDueNode quest.pieces shelf.now.puts quest.aim quest.side path (named tree.now.forest n) }
-    ensures { IfOk result (λ step. GoesOn quest.pieces shelf.now.puts quest.aim quest.side
+    ensures { IfOk result (λ step. StrategyGoesOn quest.pieces shelf.now.puts quest.aim quest.side
         (named tree.now.forest n) step (due_nodes quest.aim quest.side (named tree.now.forest n))) }
 {
     let position = tree.position(n);

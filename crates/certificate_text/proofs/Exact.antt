@@ -3,7 +3,7 @@ use Rattle.std.proofs.Common.{◌≡◌, ℕ, ◌+◌, ◌<◌, List, [], ◌∷
 use Rattle.strategy_certificate.specs.declared.certificates.Certificate.{Certificate}
 use Rattle.certificate_text.specs.Lines.{Line, line_text, text_of_lines}
 use Rattle.shared_words.specs.Bytes.{Lacks}
-use Rattle.certificate_text.specs.Text.{text_of, IsPrinted, before, IsSound, IsOpen, ReadsAs}
+use Rattle.certificate_text.specs.Text.{text_of_certificate, IsPrinted, before, IsSoundPlace, IsOpenPlace, ReadsAs}
 use Rattle.certificate_text.specs.Steps.{Leads}
 use Rattle.certificate_text.specs.Refusals.{IsNoLine, HasBadFen, IsDoubled, IsBadLineAt, IsTextRefusal}
 use Rattle.certificate_text.specs.Laws.{TextsTellApart, PrintedIsNotRefused, OneTextRefusal}
@@ -20,7 +20,7 @@ use Rattle.certificate_text.proofs.Places.{GoesOn, Meet, places}
 record Stops (text : List ℕ) (Fact : Place → List ℕ → Type 0) : Type 0 where
   place : Place
   rest : List ℕ
-  sound : IsSound place
+  sound : IsSoundPlace place
   spelled : text ≡ text_of_lines (before place) ++ rest
   stays : GoesOn place rest → ⊥
   fact : Fact place rest
@@ -41,7 +41,7 @@ stop_together text Fact Other a b =
 abbrev IsWhole : Certificate → List ℕ → Place → List ℕ → Type 0
 IsWhole c left d rest = (d ≡ at_end c) × (rest ≡ left)
 
-whole_stops : (text : List ℕ) (c : Certificate) (left : List ℕ) → IsPrinted c → text ≡ text_of c ++ left → Stops text (IsWhole c left)
+whole_stops : (text : List ℕ) (c : Certificate) (left : List ℕ) → IsPrinted c → text ≡ text_of_certificate c ++ left → Stops text (IsWhole c left)
 whole_stops text c left printed e = record { place = at_end c; rest = left; sound = printed; spelled = e; stays = λ on. on.leads; fact = (refl, refl) }
 
 one_certificate : (c d : Certificate) → at_end c ≡ at_end d → c ≡ d
@@ -49,19 +49,19 @@ one_certificate c d e = cc
 
 pub texts_tell_apart : TextsTellApart
 texts_tell_apart c d rest c_printed d_printed e =
-    let both = stop_together (text_of c) (IsWhole c []) (IsWhole d rest) (whole_stops (text_of c) c [] c_printed (sym (append-nil (text_of c)))) (whole_stops (text_of c) d rest d_printed e) in
+    let both = stop_together (text_of_certificate c) (IsWhole c []) (IsWhole d rest) (whole_stops (text_of_certificate c) c [] c_printed (sym (append-nil (text_of_certificate c)))) (whole_stops (text_of_certificate c) d rest d_printed e) in
     let facts = both.1.1 in
     (one_certificate c d (sym facts.0.0 ∙ facts.1.0), sym facts.1.1 ∙ facts.0.1)
 
 -- a text is that of one certificate
 pub one_certificate_read : (text : List ℕ) (c d : Certificate) → ReadsAs text c → ReadsAs text d → c ≡ d
-one_certificate_read text c d one another = (texts_tell_apart c d [] one.0 another.0 (sym one.1 ∙ another.1 ∙ sym (append-nil (text_of d)))).0
+one_certificate_read text c d one another = (texts_tell_apart c d [] one.0 another.0 (sym one.1 ∙ another.1 ∙ sym (append-nil (text_of_certificate d)))).0
 
 -- a reading that has come to a whole certificate and to the text's end has read the text
 pub whole_reads : (text : List ℕ) (lines : ℕ) (d : Place) (rest : List ℕ) (found : Certificate) → Went text lines d rest → d ≡ at_end found → rest ≡ [] → ReadsAs text found
 whole_reads text lines d rest found so_far whole over =
     let at = subst (λ x. Went text lines x rest) whole so_far in
-    (at.sound, at.spelled ∙ ap (λ r. text_of found ++ r) over ∙ append-nil (text_of found))
+    (at.sound, at.spelled ∙ ap (λ r. text_of_certificate found ++ r) over ∙ append-nil (text_of_certificate found))
 
 -- ---- refusals
 
@@ -72,7 +72,7 @@ record HasWrongLine (Fault : Place → List ℕ → Type 0) (number : ℕ) (d : 
   behind : List ℕ
   spelled : rest ≡ line ++ 10 ∷ behind
   whole : Lacks 10 line
-  due : IsOpen d
+  due : IsOpenPlace d
   wrong : Fault d line
 
 -- the refusal of a text whose reading stops where this is due, before this rest
@@ -80,12 +80,12 @@ abbrev IsRefusedAt : TextRefusal → Place → List ℕ → Type 0
 IsRefusedAt (refusal.BadLine n) d rest = HasWrongLine IsNoLine n d rest
 IsRefusedAt (refusal.BadFen n) d rest = HasWrongLine HasBadFen n d rest
 IsRefusedAt (refusal.Doubled n) d rest = HasWrongLine IsDoubled n d rest
-IsRefusedAt refusal.Truncated d rest = IsOpen d × Lacks 10 rest
-IsRefusedAt (refusal.AfterEnd n) d rest = (n ≡ length (before d) + 1) × ((IsOpen d → ⊥) × (0 < length rest))
+IsRefusedAt refusal.Truncated d rest = IsOpenPlace d × Lacks 10 rest
+IsRefusedAt (refusal.AfterEnd n) d rest = (n ≡ length (before d) + 1) × ((IsOpenPlace d → ⊥) × (0 < length rest))
 IsRefusedAt (refusal.Memory e) d rest = ⊥
 
 wrong_line_stops : (Fault : Place → List ℕ → Type 0) (text : List ℕ) (n : ℕ)
-    → ((d : Place) (line : List ℕ) (l : Line) (next : Place) → IsSound d → Fault d line → line ≡ line_text l → Leads d l next → ⊥)
+    → ((d : Place) (line : List ℕ) (l : Line) (next : Place) → IsSoundPlace d → Fault d line → line ≡ line_text l → Leads d l next → ⊥)
     → IsBadLineAt Fault text n → Stops text (HasWrongLine Fault n)
 wrong_line_stops Fault text n never (d, (line, (at, wrong))) = record {
   place = d;
@@ -132,7 +132,7 @@ not_refused_there (refusal.Memory e) c at = at
 
 pub printed_is_not_refused : PrintedIsNotRefused
 printed_is_not_refused text c r reads refused =
-    let both = stop_together text (IsRefusedAt r) (IsWhole c []) (refusal_stops text r refused) (whole_stops text c [] reads.0 (reads.1 ∙ sym (append-nil (text_of c)))) in
+    let both = stop_together text (IsRefusedAt r) (IsWhole c []) (refusal_stops text r refused) (whole_stops text c [] reads.0 (reads.1 ∙ sym (append-nil (text_of_certificate c)))) in
     let facts = both.1.1 in
     not_refused_there r c (subst (IsRefusedAt r (at_end c)) facts.1.1 (subst (λ d. IsRefusedAt r d both.1.0) facts.1.0 facts.0))
 

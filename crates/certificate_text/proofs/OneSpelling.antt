@@ -16,8 +16,8 @@ use Rattle.certificate_text.specs.Lines.{Line, title, table, position, claim, wi
 use Rattle.shared_words.specs.Bytes.{Lacks}
 use Rattle.strategy_certificate.specs.declared.entries.TheConstants.{MOST_RANK}
 use Rattle.strategy_certificate.specs.Tables.{IsTableSize}
-use Rattle.certificate_text.specs.Text.{IsSound}
-use Rattle.certificate_text.specs.Steps.{Adds, AddsWin, AddsHold, settled, Leads}
+use Rattle.certificate_text.specs.Text.{IsSoundPlace}
+use Rattle.certificate_text.specs.Steps.{AddsLine, AddsWin, AddsHold, settled, Leads}
 use Rattle.certificate_text.specs.Refusals.{BeginsPart, IsEntryOf, MayStand, IsFen, IsTaken, IsNoLine, HasBadFen, IsDoubled}
 use Rattle.certificate_text.specs.Places.{Place, at_title, at_table, at_position, at_claim, at_part, at_entry, at_end}
 use Rattle.shared_words.proofs.LackingBytes.{halves_agree, Lacks-append}
@@ -99,12 +99,12 @@ one_line (at_end c) l m one two e = absurd one
 
 -- ---- a line that leads on may stand there
 
-adds_may : (part : Part) (l : Line) (longer : Part) → Adds part l longer → IsEntryOf part l
+adds_may : (part : Part) (l : Line) (longer : Part) → AddsLine part l longer → IsEntryOf part l
 adds_may (Win old) (win_entry field rank chosen) (Win new) a = (Lacks-field 32 a.p field refl a.lawful a.fen, a.range)
 adds_may (Hold old) (hold_entry field chosen) (Hold new) a = (Lacks-field 32 a.p field refl a.lawful a.fen, a.path)
 adds_may part l longer a = absurd a
 
-pub leads_may : (d : Place) (l : Line) (next : Place) → IsSound d → Leads d l next → MayStand d l
+pub leads_may : (d : Place) (l : Line) (next : Place) → IsSoundPlace d → Leads d l next → MayStand d l
 leads_may at_title title next sound e = refl
 leads_may at_table (table pieces) next sound (few, e) = few
 leads_may (at_position pieces) (position field) next sound says = Lacks-field 32 says.p field refl says.lawful says.fen
@@ -127,7 +127,7 @@ one_hold old new other field chosen a b =
     let same : a.p ≡ b.p = printed_tells_apart a.p b.p a.lawful b.lawful (sym a.fen ∙ b.fen) in
     a.behind ∙ (λ i. record old { entries = old.entries ++ (same i, chosen) ∷ [] }) ∙ sym b.behind
 
-adds_one : (part : Part) (l : Line) (longer other : Part) → Adds part l longer → Adds part l other → longer ≡ other
+adds_one : (part : Part) (l : Line) (longer other : Part) → AddsLine part l longer → AddsLine part l other → longer ≡ other
 adds_one (Win old) (win_entry field rank chosen) (Win new) (Win other) a b = ap Win (one_win old new other field _ a b)
 adds_one (Win old) (win_entry field rank chosen) (Win new) other a b = absurd b
 adds_one (Hold old) (hold_entry field chosen) (Hold new) (Hold other) a b = ap Hold (one_hold old new other field chosen a b)
@@ -153,7 +153,7 @@ Lacks-heading : (side : Side) (count : ℕ) → count < 2 ^ 32 → Lacks 10 (sid
 Lacks-heading side count small =
     Lacks-append 10 (side_word side) (32 ∷ decimal count) (Lacks-side side) (Lacks-decimal 10 count refl (omega arith))
 
-adds_bare : (part : Part) (l : Line) (longer : Part) → Adds part l longer → Lacks 10 (line_text l)
+adds_bare : (part : Part) (l : Line) (longer : Part) → AddsLine part l longer → Lacks 10 (line_text l)
 adds_bare (Win old) (win_entry field rank chosen) (Win new) a =
     let low : rank ≤ MOST_RANK = a.range.0 in
     let spelled = Lacks-append 10 (decimal rank) (choice_text chosen) (Lacks-decimal 10 rank refl (omega arith)) (Lacks-choice chosen a.range.1) in
@@ -162,7 +162,7 @@ adds_bare (Hold old) (hold_entry field chosen) (Hold new) a =
     Lacks-append 10 field (choice_text chosen) (Lacks-field 10 a.p field refl a.lawful a.fen) (Lacks-choice chosen a.path)
 adds_bare part l longer a = absurd a
 
-pub leads_bare : (d : Place) (l : Line) (next : Place) → IsSound d → Leads d l next → Lacks 10 (line_text l)
+pub leads_bare : (d : Place) (l : Line) (next : Place) → IsSoundPlace d → Leads d l next → Lacks 10 (line_text l)
 leads_bare at_title title next sound e = refl
 leads_bare at_table (table pieces) next sound (few, e) =
     Lacks-append 10 (codes "table ") (decimal pieces) refl (Lacks-decimal 10 pieces refl (table_small pieces few))
@@ -188,7 +188,7 @@ record IsNew (d : Place) (field : List ℕ) : Type 0 where
 still_absent : {E : Type 0} (rows : List (Board × E)) (p q : Board) (field : List ℕ) → IsLawful p → IsLawful q → field ≡ fen_of p → field ≡ fen_of q → ¬ HasEntry rows p → ¬ HasEntry rows q
 still_absent rows p q field lp lq e f absent taken = absent (subst (HasEntry rows) (printed_tells_apart q p lq lp (sym f ∙ e)) taken)
 
-adds_new : (c : Certificate) (part : Part) (left : ℕ) (l : Line) (longer : Part) → Adds part l longer → IfSome (field_of l) (IsNew (at_entry c part left))
+adds_new : (c : Certificate) (part : Part) (left : ℕ) (l : Line) (longer : Part) → AddsLine part l longer → IfSome (field_of l) (IsNew (at_entry c part left))
 adds_new c (Win old) left (win_entry field rank chosen) (Win new) a = record {
   fen = (a.p, (a.lawful, a.fen));
   free = λ q lawful e. still_absent old.entries a.p q field a.lawful lawful a.fen e a.absent;
@@ -211,19 +211,19 @@ leads_new (at_entry c part left) l next (longer, (adds, e)) = adds_new c part le
 leads_new d l next none = absurd none
 
 -- the field of a line that leads on and is spelled as this line, which may stand there too
-field_new : (d : Place) (said l : Line) (next : Place) (field : List ℕ) → IsSound d → Leads d l next → MayStand d said → line_text said ≡ line_text l → field_of said ≡ Some field → IsNew d field
+field_new : (d : Place) (said l : Line) (next : Place) (field : List ℕ) → IsSoundPlace d → Leads d l next → MayStand d said → line_text said ≡ line_text l → field_of said ≡ Some field → IsNew d field
 field_new d said l next field sound leads may same has =
     subst (λ o. IfSome o (IsNew d)) (ap field_of (sym (one_line d said l may (leads_may d l next sound leads) same)) ∙ has) (leads_new d l next leads)
 
-pub no_line_leads_not : (d : Place) (line : List ℕ) (l : Line) (next : Place) → IsSound d → IsNoLine d line → line ≡ line_text l → Leads d l next → ⊥
+pub no_line_leads_not : (d : Place) (line : List ℕ) (l : Line) (next : Place) → IsSoundPlace d → IsNoLine d line → line ≡ line_text l → Leads d l next → ⊥
 no_line_leads_not d line l next sound fault same leads = fault l (leads_may d l next sound leads) same
 
-pub bad_fen_leads_not : (d : Place) (line : List ℕ) (l : Line) (next : Place) → IsSound d → HasBadFen d line → line ≡ line_text l → Leads d l next → ⊥
+pub bad_fen_leads_not : (d : Place) (line : List ℕ) (l : Line) (next : Place) → IsSoundPlace d → HasBadFen d line → line ≡ line_text l → Leads d l next → ⊥
 bad_fen_leads_not d line l next sound fault same leads =
     let new = field_new d fault.said l next fault.field sound leads fault.may (sym fault.spelled ∙ same) fault.has in
     fault.wrong new.fen
 
-pub doubled_leads_not : (d : Place) (line : List ℕ) (l : Line) (next : Place) → IsSound d → IsDoubled d line → line ≡ line_text l → Leads d l next → ⊥
+pub doubled_leads_not : (d : Place) (line : List ℕ) (l : Line) (next : Place) → IsSoundPlace d → IsDoubled d line → line ≡ line_text l → Leads d l next → ⊥
 doubled_leads_not d line l next sound fault same leads =
     let new = field_new d fault.said l next (fen_of fault.p) sound leads fault.may (sym fault.spelled ∙ same) fault.has in
     new.free fault.p fault.lawful refl fault.taken

@@ -1,7 +1,7 @@
 -- Where two readings of one text stand.
 use Rattle.std.proofs.Common.{◌≡◌, ℕ, suc, List, [], ◌∷◌, ◌++◌, length, refl, sym, ◌∙◌, ap, subst, append_assoc, ◌⊎◌, inl, inr}
 use Rattle.certificate_text.specs.Lines.{Line, line_text, text_of_lines}
-use Rattle.certificate_text.specs.Text.{IsSound}
+use Rattle.certificate_text.specs.Text.{IsSoundPlace}
 use Rattle.certificate_text.specs.Steps.{Leads}
 use Rattle.certificate_text.specs.Places.{Place}
 use Rattle.shared_words.proofs.LackingBytes.{halves_agree}
@@ -36,7 +36,7 @@ line_first line lines rest =
     append_assoc (line_text line ++ 10 ∷ []) (text_of_lines lines) rest ∙ append_assoc (line_text line) (10 ∷ []) (text_of_lines lines ++ rest)
 
 -- two readings of one text from one place stand at one place, or a line leads one of them on
-pub places : (d : Place) (lines more : List Line) (e f : Place) (rest left : List ℕ) → IsSound d → Runs d lines e → Runs d more f
+pub places : (d : Place) (lines more : List Line) (e f : Place) (rest left : List ℕ) → IsSoundPlace d → Runs d lines e → Runs d more f
     → text_of_lines lines ++ rest ≡ text_of_lines more ++ left → Meet e f lines more rest left
 places d [] [] e f rest left sound here there text = inl (record { one_due = sym here ∙ there; one_rest = text; one_count = refl })
 places d [] (m ∷ more) e f rest left sound here (next, (leads, runs)) text =

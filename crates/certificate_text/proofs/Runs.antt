@@ -16,8 +16,8 @@ use Rattle.strategy_certificate.specs.declared.certificates.Part.TheVariants.{Wi
 use Rattle.strategy_certificate.specs.declared.certificates.Certificate.{Certificate}
 use Rattle.strategy_certificate.specs.Parts.{IsWinRow, IsHoldRow, HasDistinctPositions, HasEntry, positions_of}
 use Rattle.certificate_text.specs.Lines.{Line, end}
-use Rattle.certificate_text.specs.Text.{size, win_line, hold_line, part_line, entry_lines, part_lines, head_lines, open_lines, IsPart, IsPrinted, IsPrintedPart, before, IsSound}
-use Rattle.certificate_text.specs.Steps.{Adds, Leads, settled}
+use Rattle.certificate_text.specs.Text.{part_length, win_line, hold_line, part_line, entry_lines, part_lines, head_lines, open_lines, IsPart, IsPrinted, IsPrintedPart, before, IsSoundPlace}
+use Rattle.certificate_text.specs.Steps.{AddsLine, Leads, settled}
 use Rattle.certificate_text.specs.Places.{Place, at_title, at_table, at_position, at_claim, at_part, at_entry, at_end}
 
 -- by these lines, one behind the other, what is due goes from the first to the last
@@ -67,7 +67,7 @@ hold_part side rows = Hold (record { side = side; entries = rows })
 
 -- what is due goes from the first entries to all, where n entries are left behind the first, and `left` behind all
 rows_run : {E : Type 0} (part_of : List (Board × E) → Part) (line_of : Board × E → Line) (c : Certificate)
-    → ((done : List (Board × E)) (row : Board × E) (more : List (Board × E)) → IsPart (part_of (done ++ row ∷ more)) → Adds (part_of done) (line_of row) (part_of (done ++ row ∷ [])))
+    → ((done : List (Board × E)) (row : Board × E) (more : List (Board × E)) → IsPart (part_of (done ++ row ∷ more)) → AddsLine (part_of done) (line_of row) (part_of (done ++ row ∷ [])))
     → (done more : List (Board × E)) (n left : ℕ) → n ≡ length more + left → IsPart (part_of (done ++ more))
     → Runs (settled c (part_of done) n) (map line_of more) (settled c (part_of (done ++ more)) left)
 rows_run part_of line_of c adds done [] n left e valid =
@@ -88,7 +88,7 @@ rows_run part_of line_of c adds done (row ∷ more) (suc n) left e valid =
     )
 
 adds_win : (side : Side) (done : List (Board × WinEntry)) (row : Board × WinEntry) (more : List (Board × WinEntry)) → IsPart (win_part side (done ++ row ∷ more))
-    → Adds (win_part side done) (win_line row) (win_part side (done ++ row ∷ []))
+    → AddsLine (win_part side done) (win_line row) (win_part side (done ++ row ∷ []))
 adds_win side done row more valid =
     let keeps = here_all IsWinRow done row more valid.rows in
     let split = sym (append_assoc done (row ∷ []) more) in
@@ -106,7 +106,7 @@ adds_win side done row more valid =
     }
 
 adds_hold : (side : Side) (done : List (Board × Option (List ℕ))) (row : Board × Option (List ℕ)) (more : List (Board × Option (List ℕ))) → IsPart (hold_part side (done ++ row ∷ more))
-    → Adds (hold_part side done) (hold_line row) (hold_part side (done ++ row ∷ []))
+    → AddsLine (hold_part side done) (hold_line row) (hold_part side (done ++ row ∷ []))
 adds_hold side done row more valid =
     let keeps = here_all IsHoldRow done row more valid.rows in
     let split = sym (append_assoc done (row ∷ []) more) in
@@ -124,7 +124,7 @@ adds_hold side done row more valid =
     }
 
 -- what is due goes from the first line of a part to its last entry, where `left` more are announced
-part_runs : (c : Certificate) (part : Part) (left : ℕ) → IsPart part → size part + left < 2 ^ 32 → Runs (at_part c) (part_line part (size part + left) ∷ entry_lines part) (settled c part left)
+part_runs : (c : Certificate) (part : Part) (left : ℕ) → IsPart part → part_length part + left < 2 ^ 32 → Runs (at_part c) (part_line part (part_length part + left) ∷ entry_lines part) (settled c part left)
 part_runs c (Win part) left valid small =
     let n = length part.entries + left in
     (settled c (win_part part.side []) n, ((small, refl), rows_run (win_part part.side) win_line c (adds_win part.side) [] part.entries n left refl valid))
@@ -141,7 +141,7 @@ parts_run : (c : Certificate) (done more : List Part) → All IsPrintedPart more
 parts_run c done [] all = ap (λ parts. at_part (of_parts c parts)) (sym (append-nil done))
 parts_run c done (part ∷ more) all =
     let printed = All-head IsPrintedPart part more all in
-    let none : size part + 0 ≡ size part = omega arith in
+    let none : part_length part + 0 ≡ part_length part = omega arith in
     let first = subst (λ n. Runs (at_part (of_parts c done)) (part_line part n ∷ entry_lines part) (at_part (of_parts c (done ++ part ∷ [])))) none
     (part_runs (of_parts c done) part 0 printed.0 (omega (arith, printed.1))) in
     runs_append (at_part (of_parts c done)) (part_lines part) (flat_map part_lines more) (at_part (of_parts c (done ++ part ∷ []))) (at_part (of_parts c (done ++ part ∷ more))) first
@@ -163,7 +163,7 @@ open_reached c printed =
     (parts_run c [] c.parts printed.parts)
 
 -- by the lines that stand before it, each due is reached from the first line on
-pub reached : (d : Place) → IsSound d → Runs at_title (before d) d
+pub reached : (d : Place) → IsSoundPlace d → Runs at_title (before d) d
 reached at_title sound = refl
 reached at_table sound = (at_table, (refl, refl))
 reached (at_position pieces) sound = (at_table, (refl, (at_position pieces, ((sound, refl), refl))))
@@ -172,6 +172,6 @@ reached (at_claim pieces p) sound =
 reached (at_part c) sound = open_reached c sound
 reached (at_entry c part zero) (printed, (valid, (some, small))) = absurd (let h : 0 < 0 = some in omega arith)
 reached (at_entry c part (suc left)) (printed, (valid, (some, small))) =
-    runs_append at_title (open_lines c) (part_line part (size part + suc left) ∷ entry_lines part) (at_part c) (at_entry c part (suc left)) (open_reached c printed) (part_runs c part (suc left) valid small)
+    runs_append at_title (open_lines c) (part_line part (part_length part + suc left) ∷ entry_lines part) (at_part c) (at_entry c part (suc left)) (open_reached c printed) (part_runs c part (suc left) valid small)
 reached (at_end c) sound =
     runs_append at_title (open_lines c) (end ∷ []) (at_part c) (at_end c) (open_reached c sound) (at_end c, (refl, refl))

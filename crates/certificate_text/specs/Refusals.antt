@@ -10,7 +10,7 @@ use Rattle.strategy_certificate.specs.Parts.{HasEntry, IsPath}
 use Rattle.shared_words.specs.Bytes.{Lacks, line_end}
 use Rattle.fen_text.specs.Printed.{fen_of}
 use Rattle.certificate_text.specs.Lines.{Line, title, table, position, claim, win, hold, win_entry, hold_entry, end, line_text, text_of_lines, field_of}
-use Rattle.certificate_text.specs.Text.{before, IsSound, IsOpen}
+use Rattle.certificate_text.specs.Text.{before, IsSoundPlace, IsOpenPlace}
 use Rattle.certificate_text.specs.Places.{Place, at_title, at_table, at_position, at_claim, at_part, at_entry, at_end}
 use Rattle.certificate_text.specs.declared.refusal.TextRefusal.{TextRefusal}
 use Rattle.certificate_text.specs.declared.refusal.TextRefusal.TheVariants as refusal
@@ -56,7 +56,7 @@ IsTaken d p = ⊥
 -- The text begins with what stands before this is due; `rest` stands behind it, and its first line,
 -- if it has one, is line `number` of the text.
 pub record StandsAt (text : List ℕ) (number : ℕ) (d : Place) (rest : List ℕ) : Type 0 where
-  pub sound : IsSound d
+  pub sound : IsSoundPlace d
   pub spelled : text ≡ text_of_lines (before d) ++ rest
   pub counted : number ≡ length (before d) + 1
 
@@ -65,15 +65,15 @@ pub record IsLineAt (text : List ℕ) (number : ℕ) (d : Place) (line : List �
   pub rest : List ℕ
   pub stands : StandsAt text number d (line ++ line_end ∷ rest)
   pub whole : Lacks line_end line
-  pub due : IsOpen d
+  pub due : IsOpenPlace d
 
 -- where a line is due no line ends in the rest of the text
-pub record IsTruncated (text : List ℕ) : Type 0 where
+pub record IsTruncatedText (text : List ℕ) : Type 0 where
   pub number : ℕ
   pub place : Place
   pub rest : List ℕ
   pub stands : StandsAt text number place rest
-  pub due : IsOpen place
+  pub due : IsOpenPlace place
   pub endless : Lacks line_end rest
 
 -- the line is none that may stand there
@@ -110,15 +110,15 @@ IsAfterEnd text number =
     (c : Certificate) × ((b : ℕ) × ((rest : List ℕ) × StandsAt text number (at_end c) (b ∷ rest)))
 
 -- memory ran out
-abbrev pub is_memory : TextRefusal → Bool
-is_memory (refusal.Memory e) = true
-is_memory r = false
+abbrev pub text_wants_memory : TextRefusal → Bool
+text_wants_memory (refusal.Memory e) = true
+text_wants_memory r = false
 
 -- why a text is no certificate's; want of memory is no fault of it
 abbrev pub IsTextRefusal : List ℕ → TextRefusal → Type 0
 IsTextRefusal text (refusal.BadLine n) = IsBadLineAt IsNoLine text n
 IsTextRefusal text (refusal.BadFen n) = IsBadLineAt HasBadFen text n
 IsTextRefusal text (refusal.Doubled n) = IsBadLineAt IsDoubled text n
-IsTextRefusal text refusal.Truncated = IsTruncated text
+IsTextRefusal text refusal.Truncated = IsTruncatedText text
 IsTextRefusal text (refusal.AfterEnd n) = IsAfterEnd text n
 IsTextRefusal text (refusal.Memory e) = ⊥

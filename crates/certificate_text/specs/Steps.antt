@@ -18,14 +18,14 @@ use Rattle.certificate_text.specs.declared.refusal.TextRefusal.{TextRefusal}
 use Rattle.certificate_text.specs.declared.refusal.TextRefusal.TheVariants as refusal
 
 -- the place where a reader stands
-abbrev pub place_of : Due → Place
-place_of due.Title = at_title
-place_of due.Table = at_table
-place_of (due.Position pieces) = at_position pieces
-place_of (due.Claim pieces p) = at_claim pieces p
-place_of (due.Part c) = at_part c
-place_of (due.Entry c part left) = at_entry c part left
-place_of (due.Nothing c) = at_end c
+abbrev pub place_due : Due → Place
+place_due due.Title = at_title
+place_due due.Table = at_table
+place_due (due.Position pieces) = at_position pieces
+place_due (due.Claim pieces p) = at_claim pieces p
+place_due (due.Part c) = at_part c
+place_due (due.Entry c part left) = at_entry c part left
+place_due (due.Nothing c) = at_end c
 
 -- an entry of a win part is read behind the others
 pub record AddsWin (old : WinList) (field : List ℕ) (e : WinEntry) (new : WinList) : Type 0 where
@@ -49,11 +49,11 @@ pub record AddsHold (old : HoldList) (field : List ℕ) (chosen : Option (List �
   pub valid : IsHoldList new
 
 -- the line adds an entry to the part
-abbrev pub Adds : Part → Line → Part → Type 0
-Adds (Win old) (win_entry field rank chosen) (Win new) =
+abbrev pub AddsLine : Part → Line → Part → Type 0
+AddsLine (Win old) (win_entry field rank chosen) (Win new) =
     AddsWin old field (record { rank = rank; chosen = chosen }) new
-Adds (Hold old) (hold_entry field chosen) (Hold new) = AddsHold old field chosen new
-Adds old line new = ⊥
+AddsLine (Hold old) (hold_entry field chosen) (Hold new) = AddsHold old field chosen new
+AddsLine old line new = ⊥
 
 abbrev pub with_part : Certificate → Part → Certificate
 with_part c part = record c { parts = c.parts ++ part ∷ [] }
@@ -83,7 +83,7 @@ Leads (at_part c) (hold side count) next =
     (count < 2 ^ 32) × (next ≡ settled c (Hold (record { side = side; entries = [] })) count)
 Leads (at_part c) end next = next ≡ at_end c
 Leads (at_entry c part left) line next =
-    (longer : Part) × (Adds part line longer × (next ≡ settled c longer (left - 1)))
+    (longer : Part) × (AddsLine part line longer × (next ≡ settled c longer (left - 1)))
 Leads d line next = ⊥
 
 -- the bytes are a line behind which this is due
@@ -91,12 +91,12 @@ abbrev pub Advances : Place → List ℕ → Place → Type 0
 Advances d line next = (said : Line) × ((line ≡ line_text said) × Leads d said next)
 
 -- line `number` is refused so
-abbrev pub Refuses : Place → List ℕ → ℕ → TextRefusal → Type 0
-Refuses d line number (refusal.BadLine n) = (n ≡ number) × IsNoLine d line
-Refuses d line number (refusal.BadFen n) = (n ≡ number) × HasBadFen d line
-Refuses d line number (refusal.Doubled n) = (n ≡ number) × IsDoubled d line
-Refuses d line number (refusal.Memory e) = Unit {0}
-Refuses d line number r = ⊥
+abbrev pub RefusesLine : Place → List ℕ → ℕ → TextRefusal → Type 0
+RefusesLine d line number (refusal.BadLine n) = (n ≡ number) × IsNoLine d line
+RefusesLine d line number (refusal.BadFen n) = (n ≡ number) × HasBadFen d line
+RefusesLine d line number (refusal.Doubled n) = (n ≡ number) × IsDoubled d line
+RefusesLine d line number (refusal.Memory e) = Unit {0}
+RefusesLine d line number r = ⊥
 
 -- ---- pieces of a line
 

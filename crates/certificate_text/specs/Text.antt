@@ -14,9 +14,9 @@ use Rattle.certificate_text.specs.Places.{Place, at_title, at_table, at_position
 
 -- ---- parts
 
-abbrev pub size : Part → ℕ
-size (Win part) = length part.entries
-size (Hold part) = length part.entries
+abbrev pub part_length : Part → ℕ
+part_length (Win part) = length part.entries
+part_length (Hold part) = length part.entries
 
 abbrev pub win_line : Board × WinEntry → Line
 win_line row = win_entry (fen_of row.0) row.1.rank row.1.chosen
@@ -34,7 +34,7 @@ entry_lines (Win part) = map win_line part.entries
 entry_lines (Hold part) = map hold_line part.entries
 
 abbrev pub part_lines : Part → List Line
-part_lines part = part_line part (size part) ∷ entry_lines part
+part_lines part = part_line part (part_length part) ∷ entry_lines part
 
 -- a part whose positions are lawful and stand once each, whose ranks are at most MOST_RANK and
 -- whose moves are paths
@@ -55,12 +55,12 @@ abbrev pub lines_of : Certificate → List Line
 lines_of c = open_lines c ++ end ∷ []
 
 -- the text of a certificate
-abbrev pub text_of : Certificate → List ℕ
-text_of c = text_of_lines (lines_of c)
+abbrev pub text_of_certificate : Certificate → List ℕ
+text_of_certificate c = text_of_lines (lines_of c)
 
 -- a part that a text can say: its entries are counted by a number below 2^32
 abbrev pub IsPrintedPart : Part → Type 0
-IsPrintedPart part = IsPart part × (size part < 2 ^ 32)
+IsPrintedPart part = IsPart part × (part_length part < 2 ^ 32)
 
 -- a certificate that a text can say
 pub record IsPrinted (c : Certificate) : Type 0 where
@@ -70,7 +70,7 @@ pub record IsPrinted (c : Certificate) : Type 0 where
 
 -- it is the text of this certificate
 abbrev pub ReadsAs : List ℕ → Certificate → Type 0
-ReadsAs text c = IsPrinted c × (text ≡ text_of c)
+ReadsAs text c = IsPrinted c × (text ≡ text_of_certificate c)
 
 -- ---- how far a reader has come: what is due next, behind what it has read
 
@@ -82,21 +82,21 @@ before (at_position pieces) = title ∷ table pieces ∷ []
 before (at_claim pieces p) = title ∷ table pieces ∷ position (fen_of p) ∷ []
 before (at_part c) = open_lines c
 before (at_entry c part left) =
-    open_lines c ++ (part_line part (size part + left) ∷ entry_lines part)
+    open_lines c ++ (part_line part (part_length part + left) ∷ entry_lines part)
 before (at_end c) = lines_of c
 
 -- what stands before is sound
-abbrev pub IsSound : Place → Type 0
-IsSound at_title = Unit {0}
-IsSound at_table = Unit {0}
-IsSound (at_position pieces) = IsTableSize pieces
-IsSound (at_claim pieces p) = IsTableSize pieces × IsLawful p
-IsSound (at_part c) = IsPrinted c
-IsSound (at_entry c part left) =
-    IsPrinted c × (IsPart part × ((0 < left) × (size part + left < 2 ^ 32)))
-IsSound (at_end c) = IsPrinted c
+abbrev pub IsSoundPlace : Place → Type 0
+IsSoundPlace at_title = Unit {0}
+IsSoundPlace at_table = Unit {0}
+IsSoundPlace (at_position pieces) = IsTableSize pieces
+IsSoundPlace (at_claim pieces p) = IsTableSize pieces × IsLawful p
+IsSoundPlace (at_part c) = IsPrinted c
+IsSoundPlace (at_entry c part left) =
+    IsPrinted c × (IsPart part × ((0 < left) × (part_length part + left < 2 ^ 32)))
+IsSoundPlace (at_end c) = IsPrinted c
 
 -- a line is due
-abbrev pub IsOpen : Place → Type 0
-IsOpen (at_end c) = ⊥
-IsOpen d = Unit {0}
+abbrev pub IsOpenPlace : Place → Type 0
+IsOpenPlace (at_end c) = ⊥
+IsOpenPlace d = Unit {0}

@@ -1,8 +1,8 @@
 //! What a reader has come to, and how a line leads on.
 ghost use Rattle.std.specs.Prelude.{◌≡◌, ◌<◌, ◌^◌, ℕ, [], IfOk, IfErr, OnOk, OnErr};
 ghost use Rattle.certificate_text.specs.Lines.{Line, line_text};
-ghost use Rattle.certificate_text.specs.Text.{IsSound, IsOpen};
-ghost use Rattle.certificate_text.specs.Steps.{place_of, Adds, Advances, Refuses, settled, with_part};
+ghost use Rattle.certificate_text.specs.Text.{IsSoundPlace, IsOpenPlace};
+ghost use Rattle.certificate_text.specs.Steps.{place_due, AddsLine, Advances, RefusesLine, settled, with_part};
 ghost use Rattle.certificate_text.specs.Places.{at_position, at_part, at_entry};
 ghost use Rattle.strategy_certificate.specs.declared.certificates.Certificate.{Certificate as Read};
 ghost use Rattle.strategy_certificate.specs.declared.certificates.Part.TheVariants as parts;
@@ -51,7 +51,7 @@ fn with_part(c: Certificate, part: Part) -> Result<Certificate, AllocError>
 
 /// What is due where so many entries of the part are left.
 fn settled(c: Certificate, part: Part, left: u32) -> Result<Due, AllocError>
-    ensures { IfOk result (λ next. place_of next ≡ settled c part left) }
+    ensures { IfOk result (λ next. place_due next ≡ settled c part left) }
 {
     if left == 0 {
         Ok(Due::Part(with_part(c, part)?))
@@ -62,8 +62,8 @@ fn settled(c: Certificate, part: Part, left: u32) -> Result<Due, AllocError>
 
 /// What is due behind the line of the position.
 fn after_position(pieces: u8, number: usize, line: &[u8]) -> Result<Due, TextRefusal>
-    ensures ok { IfOk result (λ next. Advances (at_position pieces) line.now (place_of next)) }
-    ensures err { IfErr result (Refuses (at_position pieces) line.now number) }
+    ensures ok { IfOk result (λ next. Advances (at_position pieces) line.now (place_due next)) }
+    ensures err { IfErr result (RefusesLine (at_position pieces) line.now number) }
 {
     let Some(field) = position_field(line) else {
         return Err(TextRefusal::BadLine(number));
@@ -107,8 +107,8 @@ fn after_heading(
     number: usize,
     line: &[u8],
 ) -> Result<Due, TextRefusal>
-    ensures ok { IfOk result (λ next. Advances (at_part c) line.now (place_of next)) }
-    ensures err { IfErr result (Refuses (at_part c) line.now number) }
+    ensures ok { IfOk result (λ next. Advances (at_part c) line.now (place_due next)) }
+    ensures err { IfErr result (RefusesLine (at_part c) line.now number) }
 {
     match heading_of(line) {
         Some(Heading::Win(side, count)) => Ok(settled(c, new_win(alloc, side)?, count)?),
@@ -121,9 +121,9 @@ fn after_heading(
 /// Adds the entry of a line to a win part.
 fn add_win(part: &mut WinPart, number: usize, line: &[u8]) -> Result<(), TextRefusal>
     ensures ok { OnOk result ((said : Line) × ((line.now ≡ line_text said)
-        × Adds (parts.Win part.old) said (parts.Win part.new))) }
+        × AddsLine (parts.Win part.old) said (parts.Win part.new))) }
     ensures err { IfErr result (λ r. (c : Read) (left : ℕ)
-        → Refuses (at_entry c (parts.Win part.old) left) line.now number r) }
+        → RefusesLine (at_entry c (parts.Win part.old) left) line.now number r) }
 {
     let Some((field, rank, chosen)) = win_entry(line) else {
         return Err(TextRefusal::BadLine(number));
@@ -141,9 +141,9 @@ fn add_win(part: &mut WinPart, number: usize, line: &[u8]) -> Result<(), TextRef
 /// Adds the entry of a line to a hold part.
 fn add_hold(part: &mut HoldPart, number: usize, line: &[u8]) -> Result<(), TextRefusal>
     ensures ok { OnOk result ((said : Line) × ((line.now ≡ line_text said)
-        × Adds (parts.Hold part.old) said (parts.Hold part.new))) }
+        × AddsLine (parts.Hold part.old) said (parts.Hold part.new))) }
     ensures err { IfErr result (λ r. (c : Read) (left : ℕ)
-        → Refuses (at_entry c (parts.Hold part.old) left) line.now number r) }
+        → RefusesLine (at_entry c (parts.Hold part.old) left) line.now number r) }
 {
     let Some((field, chosen)) = hold_entry(line) else {
         return Err(TextRefusal::BadLine(number));
@@ -167,8 +167,8 @@ fn after_entry(
     line: &[u8],
 ) -> Result<Due, TextRefusal>
     requires { 0 < left }
-    ensures ok { IfOk result (λ next. Advances (at_entry c part left) line.now (place_of next)) }
-    ensures err { IfErr result (Refuses (at_entry c part left) line.now number) }
+    ensures ok { IfOk result (λ next. Advances (at_entry c part left) line.now (place_due next)) }
+    ensures err { IfErr result (RefusesLine (at_entry c part left) line.now number) }
 {
     match part {
         Part::Win(mut part) => match add_win(&mut part, number, line) {
@@ -184,10 +184,10 @@ fn after_entry(
 
 /// What is due behind a line, which is line `number` of the text and stands where `due` is due.
 pub(crate) fn after(alloc: Global, due: Due, number: usize, line: &[u8]) -> Result<Due, TextRefusal>
-    requires sound { IsSound (place_of due) }
-    requires open { IsOpen (place_of due) }
-    ensures ok { IfOk result (λ next. Advances (place_of due) line.now (place_of next)) }
-    ensures err { IfErr result (Refuses (place_of due) line.now number) }
+    requires sound { IsSoundPlace (place_due due) }
+    requires open { IsOpenPlace (place_due due) }
+    ensures ok { IfOk result (λ next. Advances (place_due due) line.now (place_due next)) }
+    ensures err { IfErr result (RefusesLine (place_due due) line.now number) }
 {
     match due {
         Due::Title if is(line, "certificate 1") => Ok(Due::Table),

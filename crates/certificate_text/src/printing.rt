@@ -3,7 +3,7 @@ ghost use Rattle.std.specs.Prelude.{◌≡◌, ◌++◌, ◌∷◌, ◌<◌, ◌
 ghost use Rattle.draughts_board.specs.Board.{IsLawful};
 ghost use Rattle.fen_text.specs.Printed.{fen_of};
 ghost use Rattle.certificate_text.specs.Lines.{line_text, text_of_lines, choice_text, separator, further_squares, side_word, claim_word};
-ghost use Rattle.certificate_text.specs.Text.{text_of, part_lines, win_line, hold_line, head_lines, IsPrinted, IsPrintedPart};
+ghost use Rattle.certificate_text.specs.Text.{text_of_certificate, part_lines, win_line, hold_line, head_lines, IsPrinted, IsPrintedPart};
 ghost use Rattle.strategy_certificate.specs.Tables.{IsTableSize};
 ghost use Rattle.strategy_certificate.specs.declared.certificates.Part.TheVariants as parts;
 
@@ -36,7 +36,8 @@ pub fn claim_word(claim: Claim) -> &'static str
     }
 }
 
-/// What stands between the squares of a path: `x` where the rows of the first two differ by two, else `-`.
+/// What stands between the squares of a path: `x` where the rows of the first two differ by two,
+/// else `-`.
 pub(crate) fn separator(path: &[Square]) -> u8
     requires { 2 ≤ length path.now }
     ensures { result ≡ separator path.now }
@@ -116,7 +117,8 @@ fn push_hold_entry(
     Ok(())
 }
 
-/// Appends the line that begins a part of this kind. A count of 2^32 or more is answered as want of memory.
+/// Appends the line that begins a part of this kind. A count of 2^32 or more is answered as want of
+/// memory.
 fn push_part_line(
     text: &mut Vec<u8>,
     kind: &str,
@@ -194,10 +196,11 @@ fn push_head(text: &mut Vec<u8>, c: &Certificate) -> Result<(), AllocError>
     Ok(())
 }
 
-/// The text of a certificate. A part of 2^32 entries or more, which no text can say, is answered as want of memory.
+/// The text of a certificate. A part of 2^32 entries or more, which no text can say, is answered as
+/// want of memory.
 pub fn print_certificate(alloc: Global, c: &Certificate) -> Result<Vec<u8>, AllocError>
     requires { IsTableSize c.now.pieces }
-    ensures text { IfOk result (λ text. text.items ≡ text_of c.now) }
+    ensures text { IfOk result (λ text. text.items ≡ text_of_certificate c.now) }
     ensures printed { OnOk result (IsPrinted c.now) }
 {
     let mut text = Vec::new(alloc);

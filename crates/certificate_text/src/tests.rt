@@ -3,11 +3,11 @@ use crate::{TextRefusal, print_certificate, read_certificate};
 use std::alloc::{AllocError, Global};
 use std::test::Fail;
 
-const WIN: &str =
-    "certificate 1\ntable 2\nposition W:W16,23:B12\nclaim white-wins\nwin white 2\nW:W16,23:B12 1 23-19\nB:W16,19:B12 0\nend\n";
+const WIN: &str = "certificate 1\ntable 2\nposition W:W16,23:B12\nclaim white-wins\nwin white 2\n\
+    W:W16,23:B12 1 23-19\nB:W16,19:B12 0\nend\n";
 
-const DRAW: &str =
-    "certificate 1\ntable 2\nposition B:WK1,K19:BK15\nclaim draw\nhold black 1\nB:WK1,K19:BK15 15x24\nhold white 1\nB:WK1,K19:BK15\nend\n";
+const DRAW: &str = "certificate 1\ntable 2\nposition B:WK1,K19:BK15\nclaim draw\nhold black 1\n\
+    B:WK1,K19:BK15 15x24\nhold white 1\nB:WK1,K19:BK15\nend\n";
 
 /// What a text is answered with.
 #[derive(Clone, Copy, Debug)]

@@ -4,8 +4,8 @@ use Rattle.std.specs.List.{flat_map}
 use Rattle.std.proofs.Common.{sym, ◌∙◌, ap, subst, inl, inr, arith, length-append, length-take}
 use Rattle.std.proofs.lemmas.List.{take_at, flat_map_more}
 use Rattle.bench_disk.specs.Disk.{NothingPending}
-use Rattle.disk_journal.specs.Format.{behind_gate, frame, front, head, HasPayloads, IsFrame, IsJournal, StandsBetween, StandsForEither}
-use Rattle.disk_journal.specs.Gate.{text_of, IsClosedAt, IsClosedOrOpened, IsOpened}
+use Rattle.disk_journal.specs.Format.{behind_gate, frame, journal_front, file_head, HasPayloads, IsFrame, IsJournal, StandsBetween, StandsForEither}
+use Rattle.disk_journal.specs.Gate.{gate_text, IsClosedAt, IsClosedOrOpened, IsOpened}
 use Rattle.disk_journal.specs.Log.{IsAtRest}
 use Rattle.disk_journal.proofs.JournalLemmas.{all_more, becomes_journal, closed_gate, has_payloads, prefix_append, prefix_same, stays_journal}
 
@@ -21,7 +21,7 @@ either_between pieces payloads staged image (inl before) = (payloads, before, pr
 either_between pieces payloads staged image (inr after) = (payloads ++ staged, after, prefix_append payloads staged, prefix_same (payloads ++ staged))
 
 -- the frame of what is staged is one frame more
-pub frame_more : (pieces gate : ℕ) (frames : List (List (List ℕ))) (staged : List (List ℕ)) (file text new : List ℕ) → IsFrame staged → text ≡ text_of staged → gate ≡ length (front pieces frames)
+pub frame_more : (pieces gate : ℕ) (frames : List (List (List ℕ))) (staged : List (List ℕ)) (file text new : List ℕ) → IsFrame staged → text ≡ gate_text staged → gate ≡ length (journal_front pieces frames)
     → IsJournal pieces frames file → new ≡ take gate file ++ 1 ∷ text ++ drop (gate + 1 + length text) file → IsJournal pieces (frames ++ staged ∷ []) new
 frame_more pieces gate frames staged file text new is_frame is_text place journal is =
     becomes_journal pieces frames staged file new gate place journal is_frame
@@ -31,7 +31,7 @@ module _ {D : Type 0} (reads : D → List ℕ) (images : D → List ℕ → Type
   pub gate_is_closed : IsClosedAt gate (reads disk)
   gate_is_closed = closed_gate pieces rest.frames (reads disk) gate rest.place rest.journal
 
-  module _ (staged : List (List ℕ)) (text : List ℕ) (is_frame : IsFrame staged) (is_text : text ≡ text_of staged) where
+  module _ (staged : List (List ℕ)) (text : List ℕ) (is_frame : IsFrame staged) (is_text : text ≡ gate_text staged) where
     abbrev frames : List (List (List ℕ))
     frames = rest.frames ++ staged ∷ []
 
@@ -60,8 +60,8 @@ module _ {D : Type 0} (reads : D → List ℕ) (images : D → List ℕ → Type
             arith,
             at,
             rest.place,
-            ap length (sym (flat_map_more frame (head pieces) rest.frames staged)),
-            length-append (front pieces rest.frames) (frame staged),
+            ap length (sym (flat_map_more frame (file_head pieces) rest.frames staged)),
+            length-append (journal_front pieces rest.frames) (frame staged),
             ap length is_text,
             length-append (behind_gate staged) (0 ∷ []),
           );

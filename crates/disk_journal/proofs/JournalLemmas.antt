@@ -5,50 +5,50 @@ use Rattle.std.proofs.Common.{sym, ◌∙◌, ap, inl, inr, arith, append_assoc,
 use Rattle.std.proofs.lemmas.Bool.{cases_lt}
 use Rattle.std.proofs.lemmas.List.{take_at, drop_more, get_or_at, flat_map_more, append-nil}
 use Rattle.std.proofs.lemmas.List.Elements.{All-push}
-use Rattle.disk_journal.specs.Format.{front, frame, head, behind_gate, IsFrame, IsJournal, HasPayloads, IsPrefixOf, StandsBetween}
+use Rattle.disk_journal.specs.Format.{journal_front, frame, file_head, behind_gate, IsFrame, IsJournal, HasPayloads, IsPrefixOf, StandsBetween}
 use Rattle.disk_journal.specs.Gate.{IsClosedAt, StaysClosed, IsOpened}
 
 abbrev Frames : Type 0
 Frames = List (List (List ℕ))
 
 -- the closed gate of a journal
-pub closed_gate : (pieces : ℕ) (frames : Frames) (file : List ℕ) (gate : ℕ) → gate ≡ length (front pieces frames) → IsJournal pieces frames file → IsClosedAt gate file
+pub closed_gate : (pieces : ℕ) (frames : Frames) (file : List ℕ) (gate : ℕ) → gate ≡ length (journal_front pieces frames) → IsJournal pieces frames file → IsClosedAt gate file
 closed_gate pieces frames file gate place journal = record {
-  within = omega (arith, ap length journal.text, length-append (front pieces frames) (journal.gate ∷ journal.rest));
-  closed = λ is. journal.closed (sym (get_or_at (front pieces frames) journal.gate journal.rest 0 gate (sym place)) ∙ (ap (λ (l : List ℕ). get_or l gate 0) (sym journal.text) ∙ is));
+  within = omega (arith, ap length journal.text, length-append (journal_front pieces frames) (journal.gate ∷ journal.rest));
+  closed = λ is. journal.closed (sym (get_or_at (journal_front pieces frames) journal.gate journal.rest 0 gate (sym place)) ∙ (ap (λ (l : List ℕ). get_or l gate 0) (sym journal.text) ∙ is));
 }
 
 -- what stands before the gate
-pub front_of : (pieces : ℕ) (frames : Frames) (file : List ℕ) (gate : ℕ) → gate ≡ length (front pieces frames) → IsJournal pieces frames file → take gate file ≡ front pieces frames
+pub front_of : (pieces : ℕ) (frames : Frames) (file : List ℕ) (gate : ℕ) → gate ≡ length (journal_front pieces frames) → IsJournal pieces frames file → take gate file ≡ journal_front pieces frames
 front_of pieces frames file gate place journal =
-    ap (λ (l : List ℕ). take gate l) journal.text ∙ take_at (front pieces frames) (journal.gate ∷ journal.rest) gate (sym place)
+    ap (λ (l : List ℕ). take gate l) journal.text ∙ take_at (journal_front pieces frames) (journal.gate ∷ journal.rest) gate (sym place)
 
 -- an image with the same front and a closed gate is a journal of the same frames
-pub stays_journal : (pieces : ℕ) (frames : Frames) (file image : List ℕ) (gate : ℕ) → gate ≡ length (front pieces frames) → IsJournal pieces frames file → StaysClosed gate file image → IsJournal pieces frames image
+pub stays_journal : (pieces : ℕ) (frames : Frames) (file image : List ℕ) (gate : ℕ) → gate ≡ length (journal_front pieces frames) → IsJournal pieces frames file → StaysClosed gate file image → IsJournal pieces frames image
 stays_journal pieces frames file image gate place journal stays = record {
   gate = get_or image gate 0;
   rest = drop (gate + 1) image;
   text = sym (take-append-drop gate image) ∙ ap (λ (l : List ℕ). l ++ drop gate image) (stays.front ∙ front_of pieces frames file gate place journal)
-      ∙ ap (λ (l : List ℕ). front pieces frames ++ l) (drop_more image gate 0 stays.still_closed.within);
+      ∙ ap (λ (l : List ℕ). journal_front pieces frames ++ l) (drop_more image gate 0 stays.still_closed.within);
   closed = stays.still_closed.closed;
   each = journal.each;
   table = journal.table;
 }
 
 -- one with an open gate, a frame behind it and a closed gate has the frame too
-pub becomes_journal : (pieces : ℕ) (frames : Frames) (payloads : List (List ℕ)) (file image : List ℕ) (gate : ℕ) → gate ≡ length (front pieces frames) → IsJournal pieces frames file → IsFrame payloads
+pub becomes_journal : (pieces : ℕ) (frames : Frames) (payloads : List (List ℕ)) (file image : List ℕ) (gate : ℕ) → gate ≡ length (journal_front pieces frames) → IsJournal pieces frames file → IsFrame payloads
     → IsOpened gate (behind_gate payloads ++ 0 ∷ []) file image → IsJournal pieces (frames ++ payloads ∷ []) image
 becomes_journal pieces frames payloads file image gate place journal is_frame opened =
     let text = behind_gate payloads ++ 0 ∷ [] in
     let n = gate + 1 + length text in
-    let regrouped : front pieces frames ++ 1 ∷ text ≡ front pieces (frames ++ payloads ∷ []) ++ 0 ∷ [] =
-    sym (append_assoc (front pieces frames) (frame payloads) (0 ∷ [])) ∙ ap (λ (l : List ℕ). l ++ 0 ∷ []) (flat_map_more frame (head pieces) frames payloads) in
-    let begins : take n image ≡ front pieces (frames ++ payloads ∷ []) ++ 0 ∷ [] =
+    let regrouped : journal_front pieces frames ++ 1 ∷ text ≡ journal_front pieces (frames ++ payloads ∷ []) ++ 0 ∷ [] =
+    sym (append_assoc (journal_front pieces frames) (frame payloads) (0 ∷ [])) ∙ ap (λ (l : List ℕ). l ++ 0 ∷ []) (flat_map_more frame (file_head pieces) frames payloads) in
+    let begins : take n image ≡ journal_front pieces (frames ++ payloads ∷ []) ++ 0 ∷ [] =
     opened ∙ ap (λ (l : List ℕ). l ++ 1 ∷ text) (front_of pieces frames file gate place journal) ∙ regrouped in
     record {
       gate = 0;
       rest = drop n image;
-      text = sym (take-append-drop n image) ∙ ap (λ (l : List ℕ). l ++ drop n image) begins ∙ append_assoc (front pieces (frames ++ payloads ∷ [])) (0 ∷ []) (drop n image);
+      text = sym (take-append-drop n image) ∙ ap (λ (l : List ℕ). l ++ drop n image) begins ∙ append_assoc (journal_front pieces (frames ++ payloads ∷ [])) (0 ∷ []) (drop n image);
       closed = λ is. omega (arith, is);
       each = All-push IsFrame frames payloads journal.each is_frame;
       table = journal.table;
@@ -61,7 +61,7 @@ has_payloads pieces [] file journal = elim (cases_lt 9 (length file)) [
   | inr short ↦ inl (short, refl)
 ]
 has_payloads pieces (f ∷ frames) file journal =
-    inr (omega (arith, ap length journal.text, length-append (front pieces (f ∷ frames)) (journal.gate ∷ journal.rest), length-append (behind_gate f) (flat_map frame frames)), f ∷ frames, journal, refl)
+    inr (omega (arith, ap length journal.text, length-append (journal_front pieces (f ∷ frames)) (journal.gate ∷ journal.rest), length-append (behind_gate f) (flat_map frame frames)), f ∷ frames, journal, refl)
 
 -- the payloads with one frame more
 pub all_more : (frames : Frames) (payloads : List (List ℕ)) → flat_map (λ f. f) (frames ++ payloads ∷ []) ≡ flat_map (λ f. f) frames ++ payloads

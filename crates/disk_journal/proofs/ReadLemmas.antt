@@ -4,9 +4,9 @@ use Rattle.std.specs.List.{flat_map}
 use Rattle.std.proofs.Common.{sym, ◌∙◌, ap, subst, arith, append_assoc, length-append, take-append-drop}
 use Rattle.std.proofs.lemmas.List.{append-nil, drop-drop, flat_map_more}
 use Rattle.std.proofs.lemmas.List.Elements.{All-push}
-use Rattle.disk_journal.specs.Format.{body, body_length, frame, front, head, places_in_body, places_in_frames, IsFrame, IsPayload}
+use Rattle.disk_journal.specs.Format.{body, body_length, frame, journal_front, file_head, places_in_body, places_in_frames, IsFrame, IsPayload}
 use Rattle.disk_journal.specs.Refusals.{IsBroken, IsNoBody}
-use Rattle.disk_journal.specs.Rest.{AddsFrame, HasRead, IsOpen}
+use Rattle.disk_journal.specs.Rest.{AddsFrame, HasReadFrames, IsOpen}
 use Rattle.disk_journal.specs.declared.payload.Payload.{Payload}
 use Rattle.disk_journal.specs.FormatLaws.{length-body_length}
 use Rattle.disk_journal.proofs.FrameLemmas.{no_frame}
@@ -56,16 +56,16 @@ places_more_frames gate (f ∷ frames) payloads =
     ∙ sym (append_assoc (places_in_body (gate + 9) f) (places_in_frames (gate + length (frame f)) frames) _)
 
 -- one frame more
-pub read_more : (pieces gate next : ℕ) (file : List ℕ) (old new : List Payload) → HasRead pieces file gate old → AddsFrame gate next file old new → HasRead pieces file next new
+pub read_more : (pieces gate next : ℕ) (file : List ℕ) (old new : List Payload) → HasReadFrames pieces file gate old → AddsFrame gate next file old new → HasReadFrames pieces file next new
 read_more pieces gate next file old new read adds =
-    let whole : front pieces read.frames ++ frame adds.payloads ≡ front pieces (read.frames ++ adds.payloads ∷ []) = flat_map_more frame (head pieces) read.frames adds.payloads in
+    let whole : journal_front pieces read.frames ++ frame adds.payloads ≡ journal_front pieces (read.frames ++ adds.payloads ∷ []) = flat_map_more frame (file_head pieces) read.frames adds.payloads in
     record {
       frames = read.frames ++ adds.payloads ∷ [];
       each = All-push IsFrame read.frames adds.payloads read.each adds.is_frame;
-      text = read.text ∙ ap (λ (l : List ℕ). front pieces read.frames ++ l) adds.text ∙ sym (append_assoc (front pieces read.frames) (frame adds.payloads) (drop next file)) ∙ ap (λ (l : List ℕ). l ++ drop next file) whole;
-      place = adds.size ∙ omega (arith, read.place, length-append (front pieces read.frames) (frame adds.payloads), ap length whole);
+      text = read.text ∙ ap (λ (l : List ℕ). journal_front pieces read.frames ++ l) adds.text ∙ sym (append_assoc (journal_front pieces read.frames) (frame adds.payloads) (drop next file)) ∙ ap (λ (l : List ℕ). l ++ drop next file) whole;
+      place = adds.size ∙ omega (arith, read.place, length-append (journal_front pieces read.frames) (frame adds.payloads), ap length whole);
       bytes = adds.bytes ∙ ap (λ (l : List (List ℕ)). l ++ adds.payloads) read.bytes ∙ flat_map_more (λ (f : List (List ℕ)). f) [] read.frames adds.payloads;
       places = adds.places ∙ ap (λ (l : List ℕ). l ++ places_in_body (gate + 9) adds.payloads) read.places
-          ∙ ap (λ n. places_in_frames 8 read.frames ++ places_in_body (n + 9) adds.payloads) (read.place ∙ length-append (head pieces) (flat_map frame read.frames))
+          ∙ ap (λ n. places_in_frames 8 read.frames ++ places_in_body (n + 9) adds.payloads) (read.place ∙ length-append (file_head pieces) (flat_map frame read.frames))
           ∙ sym (places_more_frames 8 read.frames adds.payloads);
     }

@@ -21,5 +21,5 @@ abbrev pub IsClosedOrOpened : ℕ → List ℕ → List ℕ → List ℕ → Typ
 IsClosedOrOpened gate text file image = StaysClosed gate file image ⊎ IsOpened gate text file image
 
 -- what a commit writes behind a gate: the frame of these payloads, and the next gate, closed
-abbrev pub text_of : List (List ℕ) → List ℕ
-text_of payloads = behind_gate payloads ++ 0 ∷ []
+abbrev pub gate_text : List (List ℕ) → List ℕ
+gate_text payloads = behind_gate payloads ++ 0 ∷ []

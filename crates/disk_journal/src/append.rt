@@ -3,8 +3,8 @@ ghost use Rattle.std.specs.Prelude.{◌≡◌, ◌+◌, ◌<◌, ◌≤◌, ◌^
 ghost use Rattle.bench_disk.specs.Disk.{IsHonest, IsTorn, NothingPending, written};
 ghost use Rattle.shared_words.specs.Counts.{HasCause};
 ghost use Rattle.bench_disk.specs.Runs.{Leaves};
-ghost use Rattle.disk_journal.specs.Format.{IsFrame, IsJournal, StandsForEither, front};
-ghost use Rattle.disk_journal.specs.Gate.{IsClosedAt, IsClosedOrOpened, text_of};
+ghost use Rattle.disk_journal.specs.Format.{IsFrame, IsJournal, StandsForEither, journal_front};
+ghost use Rattle.disk_journal.specs.Gate.{IsClosedAt, IsClosedOrOpened, gate_text};
 ghost use Rattle.disk_journal.specs.Log.{IsAtRest};
 
 use bench_disk::{Disk, DiskFault};
@@ -50,23 +50,24 @@ pub fn append_text<D: Disk>(disk: &mut D, gate: u64, text: &[u8]) -> Result<(), 
     write_durably(disk, gate, &[1])
 }
 
-/// Appends a frame to a journal, of whatever payloads the text is, and tells the place of the next gate.
+/// Appends a frame to a journal, of whatever payloads the text is, and tells the place of the next
+/// gate.
 pub fn append_frame<D: Disk>(disk: &mut D, gate: u64, text: &[u8]) -> Result<u64, DiskFault>
     requires bound { gate < 2 ^ 62 }
-    requires text { (staged : List (List ℕ)) × IsFrame staged × (text.now ≡ text_of staged) }
+    requires text { (staged : List (List ℕ)) × IsFrame staged × (text.now ≡ gate_text staged) }
     requires at_rest { IsHonest D.TELLS → (pieces : ℕ) × (payloads : List (List ℕ)) ×
         IsAtRest D.reads D.images disk.old pieces gate payloads }
     ensures at_rest { IsHonest D.TELLS → (pieces : ℕ) (payloads staged : List (List ℕ)) →
-        IsFrame staged → text.now ≡ text_of staged →
+        IsFrame staged → text.now ≡ gate_text staged →
         IsAtRest D.reads D.images disk.old pieces gate payloads →
         IfOk result (λ next. IsAtRest D.reads D.images disk.new pieces next (payloads ++ staged)) }
     ensures frame { IsHonest D.TELLS → (pieces : ℕ) (frames : List (List (List ℕ)))
-        (staged : List (List ℕ)) → IsFrame staged → text.now ≡ text_of staged →
-        gate ≡ length (front pieces frames) →
+        (staged : List (List ℕ)) → IsFrame staged → text.now ≡ gate_text staged →
+        gate ≡ length (journal_front pieces frames) →
         IsJournal pieces frames (D.reads disk.old) →
         OnOk result (IsJournal pieces (frames ++ staged ∷ []) (D.reads disk.new)) }
     ensures crash { IsHonest D.TELLS → (pieces : ℕ) (payloads staged : List (List ℕ)) →
-        IsFrame staged → text.now ≡ text_of staged →
+        IsFrame staged → text.now ≡ gate_text staged →
         IsAtRest D.reads D.images disk.old pieces gate payloads →
         Leaves D.moment D.images_since disk.old disk.new
         (StandsForEither pieces payloads (payloads ++ staged)) }

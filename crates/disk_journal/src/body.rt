@@ -6,7 +6,8 @@ ghost use Rattle.disk_journal.specs.Refusals.{IsNoBody};
 use crate::payload::Payload;
 use std::alloc::{AllocError, Global};
 
-/// Adds the payloads of a body, which stands at that place, and tells whether it is exactly filled by them.
+/// Adds the payloads of a body, which stands at that place, and tells whether it is exactly filled
+/// by them.
 pub fn read_body(
     alloc: Global,
     bytes: &[u8],

@@ -1,7 +1,7 @@
 //! The frame of what is staged.
 ghost use Rattle.std.specs.Prelude.{◌≡◌, ◌+◌, ◌-◌, ◌≤◌, ◌<◌, ◌^◌, [], ◌∷◌, ◌++◌, ℕ, List, length, drop, vec_capacity, vec_len, IfOk, OnErr, OnOk};
 ghost use Rattle.disk_journal.specs.Format.{IsFrame, IsPayload, body_length};
-ghost use Rattle.disk_journal.specs.Gate.{text_of};
+ghost use Rattle.disk_journal.specs.Gate.{gate_text};
 
 use std::alloc::{AllocError, Global};
 use std::marker::Model;
@@ -11,7 +11,8 @@ const BODY_FIELD: usize = 8;
 
 const PAYLOAD_FIELD: usize = 4;
 
-/// The frame of the payloads that are staged, and the next gate behind it, ready to be written behind a gate.
+/// The frame of the payloads that are staged, and the next gate behind it, ready to be written
+/// behind a gate.
 #[derive(Drop)]
 pub struct Frame {
     // The length of the body, the body, and a closed gate.
@@ -59,8 +60,8 @@ fn append(text: &mut Vec<u8>, payload: &[u8])
     requires fits { length payload.now < 2 ^ 32 }
     requires sealed { 9 ≤ vec_len text.old }
     requires room { vec_len text.old + 4 + length payload.now ≤ vec_capacity text.old }
-    ensures { (payloads : List (List ℕ)) → text.old.items ≡ text_of payloads →
-        text.new.items ≡ text_of (payloads ++ payload.now ∷ []) }
+    ensures { (payloads : List (List ℕ)) → text.old.items ≡ gate_text payloads →
+        text.new.items ≡ gate_text (payloads ++ payload.now ∷ []) }
 {
     let _ = text.pop();
     let _ = text.extend_from_slice(&(payload.len() as u32).to_be_bytes());
@@ -72,7 +73,7 @@ fn append(text: &mut Vec<u8>, payload: &[u8])
 fn cut(text: &mut Vec<u8>, size: usize)
     requires { 13 + size ≤ vec_len text.old }
     ensures { (payloads : List (List ℕ)) (last : List ℕ) → size ≡ length last →
-        text.old.items ≡ text_of (payloads ++ last ∷ []) → text.new.items ≡ text_of payloads }
+        text.old.items ≡ gate_text (payloads ++ last ∷ []) → text.new.items ≡ gate_text payloads }
 {
     text.truncate(text.len() - 1 - PAYLOAD_FIELD - size);
     seal(text);
@@ -92,7 +93,8 @@ impl Frame {
         })
     }
 
-    /// Adds a payload behind the others. All memory that is needed until the frame is written is taken here.
+    /// Adds a payload behind the others. All memory that is needed until the frame is written is
+    /// taken here.
     pub fn push(&mut self, payload: &[u8]) -> Result<(), AllocError>
         requires { IsPayload payload.now }
         ensures ok { OnOk result (self.new ≡ self.old ++ payload.now ∷ []) }
@@ -134,7 +136,7 @@ impl Frame {
 
     /// What is to be written behind the gate: the frame, and the next gate, closed.
     pub fn text(&self) -> &[u8]
-        ensures text { result.now ≡ text_of self.now }
+        ensures text { result.now ≡ gate_text self.now }
         ensures frame { 0 < length self.now → IsFrame self.now }
     {
         &self.text

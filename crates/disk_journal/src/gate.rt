@@ -1,6 +1,6 @@
 //! What stands where a gate is due.
 ghost use Rattle.std.specs.Prelude.{◌≡◌, ◌+◌, ◌≤◌, ◌<◌, ◌^◌, ◌∷◌, List, ℕ, length, take, IfNone, IfSome};
-ghost use Rattle.disk_journal.specs.Format.{IsTable, body_length, head};
+ghost use Rattle.disk_journal.specs.Format.{IsPieceCount, body_length, file_head};
 
 /// What stands where a gate is due.
 #[derive(Clone, Copy)]
@@ -14,8 +14,9 @@ pub enum Gate {
 
 /// The pieces of the tables that these first 8 bytes of a file are a journal's head for.
 pub fn pieces_of(start: &[u8]) -> Option<u8>
-    ensures some { IfSome result (λ pieces. IsTable pieces × (start.now ≡ head pieces)) }
-    ensures none { IfNone result ((pieces : ℕ) → IsTable pieces → ¬ (start.now ≡ head pieces)) }
+    ensures some { IfSome result (λ pieces. IsPieceCount pieces × (start.now ≡ file_head pieces)) }
+    ensures none { IfNone result ((pieces : ℕ) → IsPieceCount pieces
+        → ¬ (start.now ≡ file_head pieces)) }
 {
     let [b'D', b'R', b'B', b'E', b'N', b'C', b'H', pieces] = start else {
         return None;
@@ -28,13 +29,14 @@ pub fn pieces_of(start: &[u8]) -> Option<u8>
 }
 
 impl Gate {
-    ghost use Rattle.disk_journal.specs.Rest.{Begins, IsWithin};
+    ghost use Rattle.disk_journal.specs.Rest.{BeginsGate, IsGateWithin};
 
-    /// What stands there, by the first 9 bytes from the gate on, or all where there are fewer, and the count of all.
+    /// What stands there, by the first 9 bytes from the gate on, or all where there are fewer, and
+    /// the count of all.
     pub fn of(start: &[u8], left: u64) -> Gate
         ensures begins { (rest : List ℕ) → start.now ≡ take 9 rest → left ≡ length rest →
-            Begins rest result }
-        ensures within { IsWithin left result }
+            BeginsGate rest result }
+        ensures within { IsGateWithin left result }
     {
         if start.is_empty() || left == 0 {
             return Gate::Broken;

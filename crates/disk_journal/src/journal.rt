@@ -1,10 +1,12 @@
 //! A journal that is attached to its disk.
-ghost use Rattle.std.specs.Prelude.{◌≡◌, ◌≢◌, ◌⊎◌, ◌+◌, ◌≤◌, ◌<◌, ◌^◌, ◌↔◌, ◌++◌, [], ◌∷◌, ℕ, List, length, map, IsTrue, IsOk, IsErr, IfErr, IfOk, OnOk, OnErr, IsErrAnd, MatchResult, false};
+ghost use Rattle.std.specs.Prelude.{◌≡◌, ◌≢◌, ◌⊎◌, ◌+◌, ◌≤◌, ◌<◌, ◌^◌, ◌↔◌, ◌++◌, [], ◌∷◌, ℕ, List, length, map, IsTrue, IsOk, IsErr, IfErr, IfOk, OnOk, OnErr, MatchResult, false};
 ghost use Rattle.bench_disk.specs.Disk.{IsHonest, NothingPending};
 ghost use Rattle.shared_words.specs.Counts.{HasCause, Rose};
 ghost use Rattle.bench_disk.specs.Runs.{Leaves};
-ghost use Rattle.disk_journal.specs.Format.{HasPayloads, HasPlaces, IsFresh, IsJournal, IsTable, StandsBetween, StandsForEither, head};
-ghost use Rattle.disk_journal.specs.Refusals.{Explains, IsForCause, IsOfNoBytes};
+ghost use Rattle.disk_journal.specs.Format.{HasPayloads, IsFresh, IsJournal, IsPieceCount, StandsBetween, StandsForEither, file_head};
+ghost use Rattle.shared_words.specs.Answers.{IsExact};
+ghost use Rattle.disk_journal.specs.Contents.{IsAttachedAs, attached_contents};
+ghost use Rattle.disk_journal.specs.Refusals.{Explains, says_nothing_of_file};
 
 use crate::append::append_frame;
 use crate::frame::Frame;
@@ -26,8 +28,8 @@ pub struct Receipt {
 
 /// A journal on a disk, to which payloads are staged and then committed.
 ///
-/// On an honest disk a crash at any moment leaves the payloads that were acknowledged, and of those that are being
-/// committed all or none. Clauses on payloads speak of honest disks.
+/// On an honest disk a crash at any moment leaves the payloads that were acknowledged, and of those
+/// that are being committed all or none. Clauses on payloads speak of honest disks.
 #[derive(Drop)]
 pub struct Journal<D: Disk> {
     disk: D,
@@ -42,7 +44,7 @@ pub struct Journal<D: Disk> {
 }
 
 impl<D: Disk> Model for Journal<D> {
-    ghost use Rattle.disk_journal.specs.Log.{IsSound, Log};
+    ghost use Rattle.disk_journal.specs.Log.{IsSoundJournal, Log};
 
     ghost Value = { Log D };
 
@@ -56,35 +58,36 @@ impl<D: Disk> Model for Journal<D> {
       failed = j.failed;
     } };
 
-    ghost invariant = { λ j. IsSound D.TELLS D.reads D.images j.disk j.pieces j.gate j.count
+    ghost invariant = { λ j. IsSoundJournal D.TELLS D.reads D.images j.disk j.pieces j.gate j.count
         j.failed };
 }
 
 impl<D: Disk> Journal<D> {
     ghost use Rattle.disk_journal.specs.Log.{StandsSince, StaysOrFresh};
 
-    /// Reads the journal on a disk, or begins one on a fresh disk, of at most 9 bytes, whatever they are. The payloads
-    /// come in order, each with its place.
+    /// Reads the journal on a disk, or begins one on a fresh disk, of at most 9 bytes, whatever
+    /// they are. The payloads come in order, each with its place.
     ///
-    /// It begins with the opening sync. Only on a fresh disk it writes: a head and a closed gate. Every refusal hands
-    /// the disk back.
+    /// It begins with the opening sync. Only on a fresh disk it writes: a head and a closed gate.
+    /// Every refusal hands the disk back.
     pub fn attach(
         alloc: Global,
         disk: D,
         pieces: u8,
     ) -> Result<(Journal<D>, Vec<Payload>), (D, JournalRefusal)>
-        requires { IsTable pieces }
+        requires { IsPieceCount pieces }
 
-        // The journal has exactly the payloads of what the disk read as, and the disk reads as them still.
-        ensures payloads { IsHonest D.TELLS →
-            IfOk result (λ r. HasPayloads pieces (D.reads disk)
-            (map (λ p. p.bytes.items) r.1.items)) }
-        ensures places { IsHonest D.TELLS →
-            IfOk result (λ r. HasPlaces pieces (D.reads disk) (map (λ p. p.at) r.1.items)) }
+        // What the bytes say, or why they are refused: exactly that, unless the disk failed or
+        // memory ran out.
+        ensures exact { IsHonest D.TELLS → IsExact says_nothing_of_file
+            (IsAttachedAs (D.reads disk) pieces) (Explains (D.reads disk) pieces)
+            (attached_contents result) }
+
+        // The disk still reads as the payloads that it read as.
         ensures same { IsHonest D.TELLS → IfOk result
             (λ r. HasPayloads pieces (D.reads r.0.disk) (map (λ p. p.bytes.items) r.1.items)) }
         ensures begun { IsHonest D.TELLS → IsFresh (D.reads disk) →
-            IfOk result (λ r. D.reads r.0.disk ≡ head pieces ++ 0 ∷ []) }
+            IfOk result (λ r. D.reads r.0.disk ≡ file_head pieces ++ 0 ∷ []) }
         ensures unwritten { IsHonest D.TELLS → 9 < length (D.reads disk) →
             MatchResult result (λ r. D.reads r.0.disk ≡ D.reads disk)
             (λ e. D.reads e.0 ≡ D.reads disk) }
@@ -101,18 +104,15 @@ impl<D: Disk> Journal<D> {
             HasPayloads pieces (D.reads disk) payloads →
             StandsSince D.images_since r.0.disk r.0.opened pieces payloads payloads) }
 
-        // A crash since the call began leaves what it might have left before, or a fresh file of a fresh one.
+        // A crash since the call began leaves what it might have left before, or a fresh file of a
+        // fresh one.
         ensures crash { IsHonest D.TELLS → MatchResult result
             (λ r. Leaves D.moment D.images_since disk r.0.disk
             (StaysOrFresh (D.images disk) (D.reads disk)))
             (λ e. Leaves D.moment D.images_since disk e.0
             (StaysOrFresh (D.images disk) (D.reads disk))) }
 
-        // Each refusal comes for its cause, and where the bytes have a cause no other comes for them.
-        ensures refused { IsHonest D.TELLS →
-            IfErr result (λ e. Explains (D.reads disk) pieces e.1) }
-        ensures exactly { IsHonest D.TELLS → (cause : _) → Explains (D.reads disk) pieces cause →
-            IsOfNoBytes cause ⊎ IsErrAnd result (λ e. IsForCause cause e.1) }
+        // The disk's faults, for which alone a disk's fault is answered.
         ensures cause { MatchResult result (λ r. D.faults disk ≤ D.faults r.0.disk)
             (λ e. (D.faults disk ≤ D.faults e.0) ×
             (e.1 ≡ JournalRefusal.DiskFault → Rose (D.faults disk) (D.faults e.0))) }
@@ -148,8 +148,9 @@ impl<D: Disk> Journal<D> {
         }
     }
 
-    /// Stages a payload, which `commit` then makes durable with all others that are staged. It makes the room of the
-    /// whole frame, so that `commit` takes no memory. A payload of 2^32 bytes or more is answered as want of memory.
+    /// Stages a payload, which `commit` then makes durable with all others that are staged. It
+    /// makes the room of the whole frame, so that `commit` takes no memory. A payload of 2^32 bytes
+    /// or more is answered as want of memory.
     pub fn stage(&mut self, payload: &[u8]) -> Result<(), AllocError>
         requires unfailed { self.old.failed ≡ false }
         requires some { 0 < length payload.now }
@@ -172,11 +173,12 @@ impl<D: Disk> Journal<D> {
         self.frame.pop();
     }
 
-    /// Makes the staged payloads durable, in order and in one frame, and leaves none staged. It writes the frame and the
-    /// next gate, closed, syncs, opens the gate before the frame and syncs: four calls of the device, whatever is
-    /// staged. With nothing staged it makes none.
+    /// Makes the staged payloads durable, in order and in one frame, and leaves none staged. It
+    /// writes the frame and the next gate, closed, syncs, opens the gate before the frame and
+    /// syncs: four calls of the device, whatever is staged. With nothing staged it makes none.
     ///
-    /// After a fault the journal is failed, and its payloads are known again only after a new `attach`.
+    /// After a fault the journal is failed, and its payloads are known again only after a new
+    /// `attach`.
     pub fn commit(&mut self) -> Result<Receipt, DiskFault>
         requires { self.old.failed ≡ false }
 
@@ -205,7 +207,8 @@ impl<D: Disk> Journal<D> {
             OnOk result (IsJournal self.old.pieces (frames ++ self.old.staged ∷ [])
             (D.reads self.new.disk)) }
 
-        // A crash since the call began leaves the payloads of before, with all of the staged ones or with none.
+        // A crash since the call began leaves the payloads of before, with all of the staged ones
+        // or with none.
         ensures atomic { IsHonest D.TELLS → (payloads : List (List ℕ)) →
             HasPayloads self.old.pieces (D.reads self.old.disk) payloads →
             Leaves D.moment D.images_since self.old.disk self.new.disk

@@ -1,12 +1,15 @@
 //! Reading a journal, and beginning one on a fresh disk.
-ghost use Rattle.std.specs.Prelude.{◌≡◌, ◌⊎◌, ◌+◌, ◌≤◌, ◌<◌, ◌^◌, [], ◌∷◌, ◌++◌, ℕ, List, length, map, IfErr, IfOk, OnErr, OnOk, IsErrAnd};
+ghost use Rattle.std.specs.Prelude.{◌≡◌, ◌⊎◌, ◌+◌, ◌≤◌, ◌<◌, ◌^◌, [], ◌∷◌, ◌++◌, ℕ, List, length, map, IfErr, IfOk, OnErr, OnOk};
 ghost use Rattle.bench_disk.specs.Disk.{IsHonest, NothingPending};
 ghost use Rattle.shared_words.specs.Counts.{HasCause, Rose};
 ghost use Rattle.bench_disk.specs.Runs.{Leaves};
-ghost use Rattle.disk_journal.specs.Format.{HasPayloads, HasPlaces, IsFresh, IsTable, head};
+ghost use Rattle.disk_journal.specs.Format.{HasPayloads, HasPlaces, IsFresh, IsPieceCount, file_head};
 ghost use Rattle.disk_journal.specs.Log.{IsAtRest, StaysOrFresh};
 ghost use Rattle.bench_disk.specs.Runs.{OnlyLooks};
-ghost use Rattle.disk_journal.specs.Refusals.{Explains, ExplainsAny, IsForCause, IsOfNoBytes};
+ghost use Rattle.std.specs.Bool.{OnFalse};
+ghost use Rattle.shared_words.specs.Answers.{IsExact};
+ghost use Rattle.disk_journal.specs.Contents.{IsReadAs, read_contents};
+ghost use Rattle.disk_journal.specs.Refusals.{Explains, ExplainsAny, says_nothing_of_file};
 ghost use Rattle.disk_journal.specs.Rest.{HoldsFrames};
 
 use crate::append::write_durably;
@@ -18,23 +21,17 @@ use std::alloc::Global;
 
 const MAX_FRESH: u64 = 9;
 
-/// Reads a journal on a disk without writing to it, and tells the pieces of its tables and its payloads, in order. A
-/// fresh disk, of at most 9 bytes, gives 2 and no payload.
+/// Reads a journal on a disk without writing to it, and tells the pieces of its tables and its
+/// payloads, in order. A fresh disk, of at most 9 bytes, gives 2 and no payload.
 pub fn read_journal<D: Disk>(
     alloc: Global,
     disk: &mut D,
 ) -> Result<(u8, Vec<Payload>), JournalRefusal>
-    ensures payloads { IsHonest D.TELLS →
-        IfOk result (λ r. HasPayloads r.0 (D.reads disk.old) (map (λ p. p.bytes.items) r.1.items)) }
-    ensures places { IsHonest D.TELLS →
-        IfOk result (λ r. HasPlaces r.0 (D.reads disk.old) (map (λ p. p.at) r.1.items)) }
-    ensures table { IfOk result (λ r. IsTable r.0) }
-    ensures fresh { IsHonest D.TELLS → IsFresh (D.reads disk.old) → IfOk result (λ r. r.0 ≡ 2) }
-
-    // Each refusal comes for its cause, and where the bytes have a cause no other comes for them.
-    ensures refused { IsHonest D.TELLS → IfErr result (ExplainsAny (D.reads disk.old)) }
-    ensures exactly { IsHonest D.TELLS → (cause : _) → ExplainsAny (D.reads disk.old) cause →
-        IsOfNoBytes cause ⊎ IsErrAnd result (IsForCause cause) }
+    // What the bytes say, or why they are refused: exactly that, unless the disk failed or memory
+    // ran out.
+    ensures exact { IsHonest D.TELLS → IsExact says_nothing_of_file (IsReadAs (D.reads disk.old))
+        (ExplainsAny (D.reads disk.old)) (read_contents result) }
+    ensures table { IfOk result (λ r. IsPieceCount r.0) }
     ensures looks { IsHonest D.TELLS → OnlyLooks D.reads D.images D.images_since D.moment disk.old
         disk.new }
     ensures later { D.moment disk.old ≤ D.moment disk.new }
@@ -64,7 +61,8 @@ fn read_asked<D: Disk>(
     ensures frames { IsHonest D.TELLS →
         IfOk result (λ f. HoldsFrames pieces (D.reads disk.old) f.gate f.payloads.items) }
     ensures bound { IfOk result (λ f. (length f.payloads.items ≤ f.gate) × (f.gate < 2 ^ 62)) }
-    ensures refused { IsHonest D.TELLS → IfErr result (Explains (D.reads disk.old) pieces) }
+    ensures refused { IsHonest D.TELLS → IfErr result
+        (λ e. OnFalse (says_nothing_of_file e) (Explains (D.reads disk.old) pieces e)) }
     ensures looks { IsHonest D.TELLS → OnlyLooks D.reads D.images D.images_since D.moment disk.old
         disk.new }
     ensures later { D.moment disk.old ≤ D.moment disk.new }
@@ -84,12 +82,12 @@ fn read_asked<D: Disk>(
 
 /// Writes the head and a closed gate over a fresh disk.
 fn begin<D: Disk>(disk: &mut D, pieces: u8) -> Result<(), DiskFault>
-    requires table { IsTable pieces }
+    requires table { IsPieceCount pieces }
     requires fresh { IsHonest D.TELLS → IsFresh (D.reads disk.old) }
     requires settled { IsHonest D.TELLS → NothingPending (D.reads disk.old) (D.images disk.old) }
     ensures at_rest { IsHonest D.TELLS →
         OnOk result (IsAtRest D.reads D.images disk.new pieces 8 []) }
-    ensures begun { IsHonest D.TELLS → OnOk result (D.reads disk.new ≡ head pieces ++ 0 ∷ []) }
+    ensures begun { IsHonest D.TELLS → OnOk result (D.reads disk.new ≡ file_head pieces ++ 0 ∷ []) }
     ensures crash { IsHonest D.TELLS → Leaves D.moment D.images_since disk.old disk.new IsFresh }
     ensures later { D.moment disk.old ≤ D.moment disk.new }
     ensures cause { HasCause (D.faults disk.old) (D.faults disk.new) result }
@@ -101,9 +99,10 @@ fn begin<D: Disk>(disk: &mut D, pieces: u8) -> Result<(), DiskFault>
     )
 }
 
-/// Reads a journal for tables of these pieces from a disk with nothing pending, or begins one on a fresh disk.
+/// Reads a journal for tables of these pieces from a disk with nothing pending, or begins one on a
+/// fresh disk.
 pub fn load<D: Disk>(alloc: Global, disk: &mut D, pieces: u8) -> Result<Frames, JournalRefusal>
-    requires table { IsTable pieces }
+    requires table { IsPieceCount pieces }
     requires settled { IsHonest D.TELLS → NothingPending (D.reads disk.old) (D.images disk.old) }
     ensures at_rest { IsHonest D.TELLS →
         IfOk result (λ f. IsAtRest D.reads D.images disk.new pieces f.gate
@@ -115,14 +114,15 @@ pub fn load<D: Disk>(alloc: Global, disk: &mut D, pieces: u8) -> Result<Frames, 
         IfOk result (λ f. HasPlaces pieces (D.reads disk.old) (map (λ p. p.at) f.payloads.items)) }
     ensures bound { IfOk result (λ f. (length f.payloads.items ≤ f.gate) × (f.gate < 2 ^ 62)) }
     ensures begun { IsHonest D.TELLS → IsFresh (D.reads disk.old) →
-        OnOk result (D.reads disk.new ≡ head pieces ++ 0 ∷ []) }
+        OnOk result (D.reads disk.new ≡ file_head pieces ++ 0 ∷ []) }
     ensures unwritten { IsHonest D.TELLS → 9 < length (D.reads disk.old) →
         (D.reads disk.new ≡ D.reads disk.old) ×
         NothingPending (D.reads disk.new) (D.images disk.new) }
     ensures settled { IsHonest D.TELLS →
         OnErr result (NothingPending (D.reads disk.new) (D.images disk.new) ⊎
         Rose (D.faults disk.old) (D.faults disk.new)) }
-    ensures refused { IsHonest D.TELLS → IfErr result (Explains (D.reads disk.old) pieces) }
+    ensures refused { IsHonest D.TELLS → IfErr result
+        (λ e. OnFalse (says_nothing_of_file e) (Explains (D.reads disk.old) pieces e)) }
     ensures crash { IsHonest D.TELLS → Leaves D.moment D.images_since disk.old disk.new
         (StaysOrFresh (D.images disk.old) (D.reads disk.old)) }
     ensures later { D.moment disk.old ≤ D.moment disk.new }

@@ -1,11 +1,12 @@
 //! Reading a journal from a disk, frame by frame.
 ghost use Rattle.std.specs.Prelude.{◌≡◌, ◌+◌, ◌-◌, ◌≤◌, ◌<◌, ◌^◌, length, take, drop, IfErr, IfNone, IfOk, IfSome, MatchBool, MatchOption};
+ghost use Rattle.std.specs.Bool.{OnFalse};
 ghost use Rattle.bench_disk.specs.Disk.{IsHonest};
 ghost use Rattle.shared_words.specs.Counts.{HasCause, Rose};
-ghost use Rattle.disk_journal.specs.Format.{IsTable};
+ghost use Rattle.disk_journal.specs.Format.{IsPieceCount};
 ghost use Rattle.bench_disk.specs.Runs.{OnlyLooks};
-ghost use Rattle.disk_journal.specs.Refusals.{HasHead};
-ghost use Rattle.disk_journal.specs.Rest.{AddsFrame, Begins, HoldsFrames, IsBrokenAt, IsClosed, IsDamage, IsWithin, LacksHead};
+ghost use Rattle.disk_journal.specs.Refusals.{HasHead, says_nothing_of_file};
+ghost use Rattle.disk_journal.specs.Rest.{AddsFrame, BeginsGate, HoldsFrames, IsBrokenAt, IsClosed, IsDamage, IsGateWithin, LacksHead};
 
 use crate::body::read_body;
 use crate::gate::{Gate, pieces_of};
@@ -24,7 +25,7 @@ pub struct Frames {
 /// Reads the head of a journal, and tells the pieces of its tables.
 pub fn read_head<D: Disk>(disk: &mut D) -> Result<u8, JournalRefusal>
     ensures head { IsHonest D.TELLS → IfOk result (λ pieces. HasHead pieces (D.reads disk.old)) }
-    ensures table { IfOk result IsTable }
+    ensures table { IfOk result IsPieceCount }
     ensures refused { IsHonest D.TELLS → IfErr result (LacksHead (D.reads disk.old)) }
     ensures looks { IsHonest D.TELLS → OnlyLooks D.reads D.images D.images_since D.moment disk.old
         disk.new }
@@ -45,8 +46,8 @@ pub fn read_head<D: Disk>(disk: &mut D) -> Result<u8, JournalRefusal>
 fn read_gate<D: Disk>(disk: &mut D, len: u64, gate: u64) -> Result<Gate, DiskFault>
     requires len { IsHonest D.TELLS → len ≡ length (D.reads disk.old) }
     requires within { gate ≤ len }
-    ensures begins { IsHonest D.TELLS → IfOk result (Begins (drop gate (D.reads disk.old))) }
-    ensures within { IfOk result (IsWithin (len - gate)) }
+    ensures begins { IsHonest D.TELLS → IfOk result (BeginsGate (drop gate (D.reads disk.old))) }
+    ensures within { IfOk result (IsGateWithin (len - gate)) }
     ensures looks { IsHonest D.TELLS → OnlyLooks D.reads D.images D.images_since D.moment disk.old
         disk.new }
     ensures later { D.moment disk.old ≤ D.moment disk.new }
@@ -70,8 +71,8 @@ fn fill<D: Disk>(disk: &mut D, at: u64, into: &mut [u8]) -> Result<bool, DiskFau
     Ok(disk.read_at(at, into)? == into.len())
 }
 
-/// Reads the frame at a gate's place, adds its payloads to those read, and tells the place of the next gate, or none
-/// where the gate is closed. The buffer is for its body.
+/// Reads the frame at a gate's place, adds its payloads to those read, and tells the place of the
+/// next gate, or none where the gate is closed. The buffer is for its body.
 fn read_frame<D: Disk>(
     alloc: Global,
     disk: &mut D,
@@ -92,7 +93,8 @@ fn read_frame<D: Disk>(
         (λ n. (gate < n) × (n ≤ len) × (length payloads.new.items + gate ≤ length payloads.old.items
         + n))) }
     ensures refused { IsHonest D.TELLS →
-        IfErr result (IsBrokenAt gate (drop gate (D.reads disk.old))) }
+        IfErr result (λ e. OnFalse (says_nothing_of_file e)
+        (IsBrokenAt gate (drop gate (D.reads disk.old)) e)) }
     ensures looks { IsHonest D.TELLS → OnlyLooks D.reads D.images D.images_since D.moment disk.old
         disk.new }
     ensures later { D.moment disk.old ≤ D.moment disk.new }
@@ -116,7 +118,8 @@ fn read_frame<D: Disk>(
     Ok(Some(gate + 9 + size))
 }
 
-/// Reads the frames of a journal on a disk of so many bytes, from behind its head to the first closed gate.
+/// Reads the frames of a journal on a disk of so many bytes, from behind its head to the first
+/// closed gate.
 pub fn read_frames<D: Disk>(
     alloc: Global,
     disk: &mut D,
@@ -130,7 +133,8 @@ pub fn read_frames<D: Disk>(
     ensures frames { IsHonest D.TELLS →
         IfOk result (λ f. HoldsFrames pieces (D.reads disk.old) f.gate f.payloads.items) }
     ensures bound { IfOk result (λ f. (length f.payloads.items ≤ f.gate) × (f.gate < len)) }
-    ensures refused { IsHonest D.TELLS → IfErr result (IsDamage pieces (D.reads disk.old)) }
+    ensures refused { IsHonest D.TELLS → IfErr result
+        (λ e. OnFalse (says_nothing_of_file e) (IsDamage pieces (D.reads disk.old) e)) }
     ensures looks { IsHonest D.TELLS → OnlyLooks D.reads D.images D.images_since D.moment disk.old
         disk.new }
     ensures later { D.moment disk.old ≤ D.moment disk.new }

@@ -17,7 +17,8 @@ pub enum JournalRefusal {
     /// The head is that of a journal for tables of other pieces.
     #[error("a journal for tables of {found} pieces, not of {asked}")]
     OtherTable { found: u8, asked: u8 },
-    /// At this place, counted from 0, a gate is due, and the file ends there or no sound frame stands behind it.
+    /// At this place, counted from 0, a gate is due, and the file ends there or no sound frame
+    /// stands behind it.
     #[error("the journal is damaged at byte {0}")]
     Damaged(u64),
     #[error("out of memory")]

@@ -1,6 +1,7 @@
-//! Journals on disks in memory and on files. Places and bytes are worked out from the format by hand.
+//! Journals on disks in memory and on files. Places and bytes are worked out from the format by
+//! hand.
 ghost use Rattle.std.specs.Prelude.{◌≡◌, ◌<◌, false, length, OnOk};
-ghost use Rattle.disk_journal.specs.Format.{IsTable};
+ghost use Rattle.disk_journal.specs.Format.{IsPieceCount};
 
 use crate::{Journal, JournalRefusal, Payload, Receipt, read_journal};
 use bench_disk::{Disk, FaultDisk, FileDisk, Fuse, FuseDisk, MemoryDisk, ShortDisk};
@@ -9,7 +10,8 @@ use std::fs;
 use std::process::Abort;
 use std::test::Fail;
 
-/// The payloads 01 and 02, committed one by one, for tables of two pieces. The gates stand at 8, 22 and 36.
+/// The payloads 01 and 02, committed one by one, for tables of two pieces. The gates stand at 8, 22
+/// and 36.
 const TWO: [u8; 37] = [
     0x44, 0x52, 0x42, 0x45, 0x4e, 0x43, 0x48, 2, 1, 0, 0, 0, 0, 0, 0, 0, 5, 0, 0, 0, 1, 0x01, 1, 0,
     0, 0, 0, 0, 0, 0, 5, 0, 0, 0, 1, 0x02, 0,
@@ -21,8 +23,8 @@ const THREE: [u8; 33] = [
     0, 0, 1, 0x02, 0, 0, 0, 1, 0x03, 0,
 ];
 
-/// Five payloads, of 1, 1, 2, 1 and 3 bytes, for tables of three pieces: one in the frame at 8, three in that at 22,
-/// one in that at 47. The closed gate stands at 63.
+/// Five payloads, of 1, 1, 2, 1 and 3 bytes, for tables of three pieces: one in the frame at 8,
+/// three in that at 22, one in that at 47. The closed gate stands at 63.
 const FIVE: [u8; 64] = [
     0x44, 0x52, 0x42, 0x45, 0x4e, 0x43, 0x48, 3, 1, 0, 0, 0, 0, 0, 0, 0, 5, 0, 0, 0, 1, 0xaa, 1, 0,
     0, 0, 0, 0, 0, 0, 16, 0, 0, 0, 1, 0xb1, 0, 0, 0, 2, 0xc1, 0xc2, 0, 0, 0, 1, 0xd1, 1, 0, 0, 0,
@@ -36,7 +38,7 @@ fn attach_to(
     bytes: &[u8],
     pieces: u8,
 ) -> Result<Result<usize, JournalRefusal>, Fail>
-    requires { IsTable pieces }
+    requires { IsPieceCount pieces }
 {
     match Journal::attach(alloc, MemoryDisk::of(alloc, bytes.to_vec(alloc)?)?, pieces) {
         Ok((journal, payloads)) => {
@@ -171,7 +173,8 @@ fn commits_what_is_staged(rt: HostRuntime) -> Result<(), Fail> {
     Ok(())
 }
 
-/// Whether some image that a crash leaves, of at least so many bytes, has two payloads, and whether some has three.
+/// Whether some image that a crash leaves, of at least so many bytes, has two payloads, and whether
+/// some has three.
 fn payloads_of_images(
     rt: &impl Abort,
     alloc: Global,
@@ -196,7 +199,8 @@ fn payloads_of_images(
     Ok((two, three))
 }
 
-/// Attaches, stages these payloads of one byte and commits them. The receipt's number, if there is one.
+/// Attaches, stages these payloads of one byte and commits them. The receipt's number, if there is
+/// one.
 fn commit_to<D: Disk + Drop>(
     rt: &impl Abort,
     alloc: Global,
@@ -212,13 +216,15 @@ fn commit_to<D: Disk + Drop>(
     Ok((number, journal.into_disk()))
 }
 
-/// A disk over a file in memory that holds these bytes, takes five at a call and does not tell them.
+/// A disk over a file in memory that holds these bytes, takes five at a call and does not tell
+/// them.
 fn quiet(alloc: Global, bytes: &[u8]) -> Result<ShortDisk<Fuse>, Fail> {
     let inner = MemoryDisk::of(alloc, bytes.to_vec(alloc)?)?;
     Ok(ShortDisk::new(inner, Fuse::new(u64::MAX), 5))
 }
 
-/// How many syncs a commit does of which so many calls are passed: the second call and the fourth are syncs.
+/// How many syncs a commit does of which so many calls are passed: the second call and the fourth
+/// are syncs.
 fn syncs_of(passed: u64) -> u64 {
     (passed >= 2) as u64 + (passed >= 4) as u64
 }
@@ -253,7 +259,8 @@ fn crash_leaves_what_was_acknowledged(rt: HostRuntime) -> Result<(), Fail> {
     Ok(())
 }
 
-/// Whether some image that a crash leaves has no payload, and whether some has three. None has any other number.
+/// Whether some image that a crash leaves has no payload, and whether some has three. None has any
+/// other number.
 fn none_or_three(rt: &impl Abort, alloc: Global, disk: &MemoryDisk) -> Result<(bool, bool), Fail> {
     let mut none = false;
     let mut three = false;
@@ -344,7 +351,8 @@ fn read_with_changed(place: usize, value: u8) -> Result<usize, JournalRefusal> {
         (63, _) => Ok(5),
         // The bytes of a payload.
         (21 | 35 | 40 | 41 | 46 | 60..=62, _) => Ok(5),
-        // A shorter body of the second frame, which ends behind its first or second payload; the next byte is 0.
+        // A shorter body of the second frame, which ends behind its first or second payload; the
+        // next byte is 0.
         (30, 5) => Ok(2),
         (30, 11) => Ok(3),
         // A longer payload in it, which ends where another one does.

@@ -9,7 +9,8 @@ use Rattle.draughts_board.specs.Rules.{first_square, last_square, after}
 use Rattle.draughts_board.proofs.Members.{Contains-head}
 use Rattle.draughts_board.specs.declared.resolution.ResolveRefusal.{ResolveRefusal}
 use Rattle.draughts_board.specs.declared.resolution.ResolveRefusal.TheVariants.{Illegal, Ambiguous, Memory}
-use Rattle.draughts_board.specs.Resolution.{is_written, lies_between, elsewhere, first_of, meaning, meaning_beside, UnlessMemory}
+use Rattle.draughts_board.specs.Resolution.{is_written, lies_between, elsewhere, first_of, meaning, meaning_beside, resolve_wants_memory}
+use Rattle.shared_words.specs.Answers.{Unless}
 
 -- ---- paths that are written so
 
@@ -97,7 +98,7 @@ meaning-among p (a ∷ paths) P each = by (first_of (elsewhere p (after p a) pat
     by None = each a (Contains-head a paths)
     by (Some b) = tt
 
-pub unless-memory : (r : Result (List ℕ) ResolveRefusal) (P : Type 0) → P → UnlessMemory r P
+pub unless-memory : (r : Result (List ℕ) ResolveRefusal) (P : Type 0) → P → Unless resolve_wants_memory r P
 unless-memory (Ok path) P h = h
 unless-memory (Err Illegal) P h = h
 unless-memory (Err (Ambiguous a b)) P h = h

@@ -84,7 +84,8 @@ pub record IsLawful (p : Board) : Type 0 where
 
 -- the same as a test
 abbrev pub is_lawful : Board → Bool
-is_lawful p = length p.cells == 32 && nat_le (pieces Black p.cells) 12 && nat_le (pieces White p.cells) 12 && all_allowed 1 p.cells
+is_lawful p = length p.cells == 32 && nat_le (pieces Black p.cells) 12 && nat_le
+    (pieces White p.cells) 12 && all_allowed 1 p.cells
 
 -- n is the least square with a man on its farthest row
 abbrev pub IsLeastMisplaced : List Cell → ℕ → Type 0
@@ -97,7 +98,10 @@ same_board p q = pointwise same_cell p.cells q.cells && same_side p.to_move q.to
 
 -- The start: Black on 1 to 12, White on 21 to 32, and Black moves first.
 abbrev pub start_board : Board
-start_board = record { cells = replicate 12 (Man Black) ++ replicate 8 Empty ++ replicate 12 (Man White); to_move = Black }
+start_board = record {
+  cells = replicate 12 (Man Black) ++ replicate 8 Empty ++ replicate 12 (Man White);
+  to_move = Black;
+}
 
 -- ---- the board turned by 180 degrees, with colours exchanged
 

@@ -5,4 +5,9 @@ use Rattle.draughts_board.specs.Game.{Game}
 
 -- the positions are the lawful boards, and a move leads to a successor
 abbrev pub draughts : Game Board
-draughts = record { mover = λ p. p.to_move; next = successors_of; pieces = piece_count; is_position = is_lawful }
+draughts = record {
+  mover = λ p. p.to_move;
+  next = successors_of;
+  pieces = piece_count;
+  is_position = is_lawful;
+}

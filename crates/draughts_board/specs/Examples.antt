@@ -26,11 +26,17 @@ with_pieces c (n ∷ ns) cells = put (with_pieces c ns cells) n c
 
 -- a position with men alone: the side to move, White's squares and Black's
 abbrev pub men : Side → List ℕ → List ℕ → Board
-men s white black = record { cells = with_pieces (Man White) white (with_pieces (Man Black) black bare); to_move = s }
+men s white black = record {
+  cells = with_pieces (Man White) white (with_pieces (Man Black) black bare);
+  to_move = s;
+}
 
 -- a position of White's men and Black's kings
 abbrev pub men_and_kings : Side → List ℕ → List ℕ → Board
-men_and_kings s white black = record { cells = with_pieces (Man White) white (with_pieces (King Black) black bare); to_move = s }
+men_and_kings s white black = record {
+  cells = with_pieces (Man White) white (with_pieces (King Black) black bare);
+  to_move = s;
+}
 
 -- B:W6,7,14,15:BK2, a king before four men, which it can go round both ways
 abbrev pub king_at_four : Board
@@ -83,14 +89,16 @@ man_to_lose = men Black (28 ∷ []) (20 ∷ [])
 -- ---- squares and boards
 
 pub record WorkedSquares : Type 0 where
-  -- Square 1 stands in row 0 and column 1, square 5 in row 1 and column 0, square 32 in row 7 and column 6.
+  -- Square 1 stands in row 0 and column 1, square 5 in row 1 and column 0, square 32 in row 7 and
+  -- column 6.
   pub row_of_1 : row 1 ≡ 0
   pub column_of_1 : column 1 ≡ 1
   pub row_of_5 : row 5 ≡ 1
   pub column_of_5 : column 5 ≡ 0
   pub row_of_32 : row 32 ≡ 7
   pub column_of_32 : column 32 ≡ 6
-  -- Square 18 has four near squares and four that are a jump away, 12 stands at the edge and 29 in a corner.
+  -- Square 18 has four near squares and four that are a jump away, 12 stands at the edge and 29 in
+  -- a corner.
   pub near_18 : filter (are_near 18) squares ≡ 14 ∷ 15 ∷ 22 ∷ 23 ∷ []
   pub jumps_18 : filter (are_jump_apart 18) squares ≡ 9 ∷ 11 ∷ 25 ∷ 27 ∷ []
   pub near_12 : filter (are_near 12) squares ≡ 8 ∷ 16 ∷ []
@@ -112,7 +120,8 @@ pub record WorkedBoards : Type 0 where
   pub black_king_on_29 : is_lawful (men_and_kings White [] (29 ∷ [])) ≡ true
   pub white_man_on_29 : is_lawful (men Black (29 ∷ []) []) ≡ true
   -- Thirteen pieces of one side are no position.
-  pub thirteen_men : is_lawful (men Black (20 ∷ 21 ∷ 22 ∷ 23 ∷ 24 ∷ 25 ∷ 26 ∷ 27 ∷ 28 ∷ 29 ∷ 30 ∷ 31 ∷ 32 ∷ []) []) ≡ false
+  pub thirteen_men : is_lawful (men Black (20 ∷ 21 ∷ 22 ∷ 23 ∷ 24 ∷ 25 ∷ 26 ∷ 27 ∷ 28 ∷ 29 ∷ 30 ∷ 31
+      ∷ 32 ∷ []) []) ≡ false
 
 -- ---- masks
 
@@ -134,29 +143,34 @@ pub record WorkedMasks : Type 0 where
 -- ---- captures
 
 pub record WorkedCaptures : Type 0 where
-  -- The king may go round the four men either way. Its starting square counts as empty, so it ends there.
+  -- The king may go round the four men either way. Its starting square counts as empty, so it ends
+  -- there.
   pub round_one_way : IsLegal king_at_four (2 ∷ 9 ∷ 18 ∷ 11 ∷ 2 ∷ [])
   pub round_other_way : IsLegal king_at_four (2 ∷ 11 ∷ 18 ∷ 9 ∷ 2 ∷ [])
-  pub round_all : legal_paths king_at_four ≡ (2 ∷ 9 ∷ 18 ∷ 11 ∷ 2 ∷ []) ∷ (2 ∷ 11 ∷ 18 ∷ 9 ∷ 2 ∷ []) ∷ []
+  pub round_all : legal_paths king_at_four ≡ (2 ∷ 9 ∷ 18 ∷ 11 ∷ 2 ∷ []) ∷ (2 ∷ 11 ∷ 18 ∷ 9 ∷ 2 ∷ [])
+      ∷ []
   -- A capture is carried on: it may not stop midway, where a further jump exists.
   pub round_half : ¬ IsLegal king_at_four (2 ∷ 9 ∷ 18 ∷ [])
   pub round_most : ¬ IsLegal king_at_four (2 ∷ 9 ∷ 18 ∷ 11 ∷ [])
-  -- A man goes forward only, so it stops on 18. The two paths end on the same square but jump different men.
+  -- A man goes forward only, so it stops on 18. The two paths end on the same square but jump
+  -- different men.
   pub forward_left : IsLegal man_at_four (2 ∷ 9 ∷ 18 ∷ [])
   pub forward_right : IsLegal man_at_four (2 ∷ 11 ∷ 18 ∷ [])
   pub forward_all : legal_paths man_at_four ≡ (2 ∷ 9 ∷ 18 ∷ []) ∷ (2 ∷ 11 ∷ 18 ∷ []) ∷ []
-  -- A man that jumps to its farthest row is crowned, and the move ends, though a king could jump on from there.
+  -- A man that jumps to its farthest row is crowned, and the move ends, though a king could jump on
+  -- from there.
   pub crowning_ends : IsLegal man_at_two (22 ∷ 31 ∷ [])
   pub crowning_goes_on : ¬ IsLegal man_at_two (22 ∷ 31 ∷ 24 ∷ [])
   pub crowning_all : legal_paths man_at_two ≡ (22 ∷ 31 ∷ []) ∷ []
-  -- No piece is jumped twice: the man on 6 stands on the board until the move ends, and cannot be jumped again on
-  -- the way back to 2.
+  -- No piece is jumped twice: the man on 6 stands on the board until the move ends, and cannot be
+  -- jumped again on the way back to 2.
   pub once_over : IsLegal king_at_one (2 ∷ 9 ∷ [])
   pub over_and_back : ¬ IsLegal king_at_one (2 ∷ 9 ∷ 2 ∷ [])
   -- A man does not jump backwards, of either side.
   pub black_jumps_back : ¬ IsLegal man_past_one (10 ∷ 1 ∷ [])
   pub white_jumps_back : ¬ IsLegal white_man_past_one (19 ∷ 28 ∷ [])
-  -- A side that can capture must capture: after 11-15 22-18 the one legal move is 15x22, and 8-11 is none.
+  -- A side that can capture must capture: after 11-15 22-18 the one legal move is 15x22, and 8-11
+  -- is none.
   pub must_capture : IsLegal third_ply (15 ∷ 22 ∷ [])
   pub may_not_step : ¬ IsLegal third_ply (8 ∷ 11 ∷ [])
   pub must_capture_all : legal_paths third_ply ≡ (15 ∷ 22 ∷ []) ∷ []
@@ -165,7 +179,8 @@ pub record WorkedCaptures : Type 0 where
 
 pub record WorkedSteps : Type 0 where
   -- the seven first moves of a game
-  pub first_moves : legal_paths start_board ≡ (9 ∷ 13 ∷ []) ∷ (9 ∷ 14 ∷ []) ∷ (10 ∷ 14 ∷ []) ∷ (10 ∷ 15 ∷ []) ∷ (11 ∷ 15 ∷ []) ∷ (11 ∷ 16 ∷ []) ∷ (12 ∷ 16 ∷ []) ∷ []
+  pub first_moves : legal_paths start_board ≡ (9 ∷ 13 ∷ []) ∷ (9 ∷ 14 ∷ []) ∷ (10 ∷ 14 ∷ [])
+      ∷ (10 ∷ 15 ∷ []) ∷ (11 ∷ 15 ∷ []) ∷ (11 ∷ 16 ∷ []) ∷ (12 ∷ 16 ∷ []) ∷ []
   pub first_move : IsLegal start_board (11 ∷ 15 ∷ [])
   -- A man steps forward only, of either side.
   pub black_steps : legal_paths man_past_one ≡ (10 ∷ 14 ∷ []) ∷ (10 ∷ 15 ∷ []) ∷ []
@@ -173,7 +188,8 @@ pub record WorkedSteps : Type 0 where
   pub white_steps : legal_paths white_man_past_one ≡ (19 ∷ 15 ∷ []) ∷ (19 ∷ 16 ∷ []) ∷ []
   pub white_steps_back : ¬ IsLegal white_man_past_one (19 ∷ 23 ∷ [])
   -- A king steps one place in all four directions.
-  pub king_steps : legal_paths king_alone ≡ (18 ∷ 14 ∷ []) ∷ (18 ∷ 15 ∷ []) ∷ (18 ∷ 22 ∷ []) ∷ (18 ∷ 23 ∷ []) ∷ []
+  pub king_steps : legal_paths king_alone ≡ (18 ∷ 14 ∷ []) ∷ (18 ∷ 15 ∷ []) ∷ (18 ∷ 22 ∷ [])
+      ∷ (18 ∷ 23 ∷ []) ∷ []
   -- A man that is blocked has no legal path.
   pub no_steps : legal_paths man_blocked ≡ []
 
@@ -182,12 +198,14 @@ pub record WorkedSteps : Type 0 where
 pub record WorkedAfter : Type 0 where
   -- Both ways round the four men leave W:W:BK2, which is the one successor.
   pub after_round : after king_at_four (2 ∷ 9 ∷ 18 ∷ 11 ∷ 2 ∷ []) ≡ men_and_kings White [] (2 ∷ [])
-  pub after_round_back : after king_at_four (2 ∷ 11 ∷ 18 ∷ 9 ∷ 2 ∷ []) ≡ men_and_kings White [] (2 ∷ [])
+  pub after_round_back : after king_at_four (2 ∷ 11 ∷ 18 ∷ 9 ∷ 2 ∷ [])
+      ≡ men_and_kings White [] (2 ∷ [])
   pub round_successors : successors_of king_at_four ≡ men_and_kings White [] (2 ∷ []) ∷ []
   -- The man's two paths from 2 to 18 leave W:W7,15:B18 and W:W6,14:B18, in the order of the paths.
   pub after_left : after man_at_four (2 ∷ 9 ∷ 18 ∷ []) ≡ men White (7 ∷ 15 ∷ []) (18 ∷ [])
   pub after_right : after man_at_four (2 ∷ 11 ∷ 18 ∷ []) ≡ men White (6 ∷ 14 ∷ []) (18 ∷ [])
-  pub forward_successors : successors_of man_at_four ≡ men White (7 ∷ 15 ∷ []) (18 ∷ []) ∷ men White (6 ∷ 14 ∷ []) (18 ∷ []) ∷ []
+  pub forward_successors : successors_of man_at_four ≡ men White (7 ∷ 15 ∷ []) (18 ∷ [])
+      ∷ men White (6 ∷ 14 ∷ []) (18 ∷ []) ∷ []
   -- A man that ends a capture or a step on its farthest row is a king: W:W27:BK31 and W:W:BK29.
   pub after_crowning : after man_at_two (22 ∷ 31 ∷ []) ≡ men_and_kings White (27 ∷ []) (31 ∷ [])
   pub after_seventh : after man_at_seventh (25 ∷ 29 ∷ []) ≡ men_and_kings White [] (29 ∷ [])
@@ -205,17 +223,20 @@ pub record WorkedWins : Type 0 where
   -- The king takes all four men, and White has no piece left.
   pub round_wins : WinsIn draughts Black 1 king_at_four
   pub round_value : HasValue draughts king_at_four BlackWins
-  -- Black's one step is 20-24, White takes that man with 28x19, and Black has no piece left: White wins in 2 plies.
+  -- Black's one step is 20-24, White takes that man with 28x19, and Black has no piece left: White
+  -- wins in 2 plies.
   pub losing_step : WinsIn draughts White 2 man_to_lose
 
 -- ---- what looking ahead shows
 
 -- Not draughts: two players who can only pass the move to and fro. A position is whose turn it is.
 abbrev pub shuttle : Game Side
-shuttle = record { mover = λ s. s; next = λ s. other s ∷ []; pieces = λ s. 1; is_position = λ s. true }
+shuttle =
+    record { mover = λ s. s; next = λ s. other s ∷ []; pieces = λ s. 1; is_position = λ s. true }
 
 pub record WorkedLooks : Type 0 where
-  -- Decided at sight is a position without a move, and one with at most as many pieces as the tables have.
+  -- Decided at sight is a position without a move, and one with at most as many pieces as the
+  -- tables have.
   pub blocked_at_sight : is_at_sight draughts 0 man_blocked ≡ true
   pub start_at_24 : is_at_sight draughts 24 start_board ≡ true
   pub start_at_23 : is_at_sight draughts 23 start_board ≡ false
@@ -224,11 +245,12 @@ pub record WorkedLooks : Type 0 where
   pub blocking_unseen : ¬ ShowsWin draughts 0 White 0 man_to_block
   -- What wins at sight is held at sight.
   pub blocked_held : ShowsHold draughts 0 White 0 [] man_blocked
-  -- A position that stands on the path already counts as held; the start, with nothing on the path, does not show it.
+  -- A position that stands on the path already counts as held; the start, with nothing on the path,
+  -- does not show it.
   pub start_again : ShowsHold draughts 0 White 0 (start_board ∷ []) start_board
   pub start_unseen : ¬ ShowsHold draughts 0 White 0 [] start_board
-  -- Two plies ahead the position of the shuttle stands again: both sides hold, and it is a draw. One ply ahead shows
-  -- nothing.
+  -- Two plies ahead the position of the shuttle stands again: both sides hold, and it is a draw.
+  -- One ply ahead shows nothing.
   pub shuttle_held : (s : Side) → ShowsHold shuttle 0 s 2 [] Black
   pub shuttle_unseen : ¬ ShowsHold shuttle 0 White 1 [] Black
   pub shuttle_value : HasValue shuttle Black Draw

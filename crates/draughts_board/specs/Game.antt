@@ -17,16 +17,20 @@ pub record Game (P : Type 0) : Type 0 where
 -- the players take turns, a move leads from a position to a position, and no move adds a piece
 pub record TakesTurns {P : Type 0} (game : Game P) : Type 0 where
   pub alternates : (p q : P) → Contains (game.next p) q → game.mover q ≡ other (game.mover p)
-  pub stays_position : (p q : P) → game.is_position p ≡ true → Contains (game.next p) q → game.is_position q ≡ true
-  pub pieces_fall : (p q : P) → game.is_position p ≡ true → Contains (game.next p) q → game.pieces q ≤ game.pieces p
+  pub stays_position : (p q : P) → game.is_position p ≡ true → Contains (game.next p) q
+      → game.is_position q ≡ true
+  pub pieces_fall : (p q : P) → game.is_position p ≡ true → Contains (game.next p) q
+      → game.pieces q ≤ game.pieces p
 
--- The side can see to it that the next position meets F: it is its turn and some move leads to F, or it is
--- the other side's turn and every move leads to F.
+-- The side can see to it that the next position meets F: it is its turn and some move leads to F,
+-- or it is the other side's turn and every move leads to F.
 pub data CanForce {P : Type 0} (game : Game P) (s : Side) (F : P → Type 0) (p : P) : Type 0 where
   by_move : (q : P) → game.mover p ≡ s → Contains (game.next p) q → F q → CanForce game s F p
-  by_every_reply : game.mover p ≡ other s → ((q : P) → Contains (game.next p) q → F q) → CanForce game s F p
+  by_every_reply : game.mover p ≡ other s → ((q : P) → Contains (game.next p) q → F q)
+      → CanForce game s F p
 
--- The side has a forced win in at most n plies. In 0 plies: the other side is to move and has no move.
+-- The side has a forced win in at most n plies. In 0 plies: the other side is to move and has no
+-- move.
 abbrev pub WinsIn : {P : Type 0} → Game P → Side → ℕ → P → Type 0
 WinsIn game s zero p = (game.mover p ≡ other s) × (game.next p ≡ [])
 WinsIn game s (suc n) p = WinsIn game s n p ⊎ CanForce game s (WinsIn game s n) p
@@ -58,7 +62,8 @@ ShowsWin game k s (suc d) p =
     ((is_at_sight game k p ≡ true) × Wins game s p)
     ⊎ ((is_at_sight game k p ≡ false) × CanForce game s (ShowsWin game k s d) p)
 
--- looking d plies ahead shows that the side holds, where a position that stands on the path already counts as held
+-- looking d plies ahead shows that the side holds, where a position that stands on the path already
+-- counts as held
 abbrev pub ShowsHold : {P : Type 0} → Game P → ℕ → Side → ℕ → List P → P → Type 0
 ShowsHold game k s zero path p = Contains path p ⊎ ((is_at_sight game k p ≡ true) × Holds game s p)
 ShowsHold game k s (suc d) path p =

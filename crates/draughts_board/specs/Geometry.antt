@@ -9,13 +9,15 @@ is_square n = nat_le 1 n && nat_le n 32
 
 -- all squares, in rising order
 unfoldable pub squares : List ℕ
-squares = 1 ∷ 2 ∷ 3 ∷ 4 ∷ 5 ∷ 6 ∷ 7 ∷ 8 ∷ 9 ∷ 10 ∷ 11 ∷ 12 ∷ 13 ∷ 14 ∷ 15 ∷ 16 ∷ 17 ∷ 18 ∷ 19 ∷ 20 ∷ 21 ∷ 22 ∷ 23 ∷ 24 ∷ 25 ∷ 26 ∷ 27 ∷ 28 ∷ 29 ∷ 30 ∷ 31 ∷ 32 ∷ []
+squares = 1 ∷ 2 ∷ 3 ∷ 4 ∷ 5 ∷ 6 ∷ 7 ∷ 8 ∷ 9 ∷ 10 ∷ 11 ∷ 12 ∷ 13 ∷ 14 ∷ 15 ∷ 16 ∷ 17 ∷ 18 ∷ 19 ∷ 20
+    ∷ 21 ∷ 22 ∷ 23 ∷ 24 ∷ 25 ∷ 26 ∷ 27 ∷ 28 ∷ 29 ∷ 30 ∷ 31 ∷ 32 ∷ []
 
 -- the row of a square, 0 (squares 1 to 4, Black's first) to 7 (squares 29 to 32, White's first)
 abbrev pub row : ℕ → ℕ
 row n = (n - 1) / 4
 
--- the column of a square, 0 to 7: dark squares lie in odd columns in even rows, and in even columns in odd rows
+-- the column of a square, 0 to 7: dark squares lie in odd columns in even rows, and in even columns
+-- in odd rows
 abbrev pub column : ℕ → ℕ
 column n = (if row n % 2 == 0 then 2 * ((n - 1) % 4) + 1 else 2 * ((n - 1) % 4))
 

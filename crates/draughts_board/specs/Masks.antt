@@ -55,7 +55,8 @@ are_apart masks = not (list_any (λ n. nat_lt 1 (count_by (λ m. stands_in m n) 
 abbrev pub cell_if : Bool → Bool → Bool → Bool → Cell
 cell_if black_man black_king white_man white_king =
     (if black_man then Man Black
-    else (if black_king then King Black else (if white_man then Man White else (if white_king then King White else Empty))))
+    else (if black_king then King Black else
+    (if white_man then Man White else (if white_king then King White else Empty))))
 
 -- what stands on square n
 abbrev pub cell_in : List ℕ → ℕ → Cell
@@ -69,7 +70,8 @@ cells_in masks = map (cell_in masks) squares
 abbrev pub board_in : List ℕ → Side → Board
 board_in masks s = record { cells = cells_in masks; to_move = s }
 
--- four masks of 32 bits that make a position: no two share a square, and their board keeps the rule on pieces
+-- four masks of 32 bits that make a position: no two share a square, and their board keeps the rule
+-- on pieces
 pub record MakePosition (black_men black_kings white_men white_kings : ℕ) (s : Side) : Type 0 where
   pub fits_black_men : black_men < 2 ^ 32
   pub fits_black_kings : black_kings < 2 ^ 32

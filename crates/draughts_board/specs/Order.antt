@@ -1,4 +1,5 @@
--- The order of positions: by what stands on square 1, then on square 2, and so on, and last by the side to move.
+-- The order of positions: by what stands on square 1, then on square 2, and so on, and last by the
+-- side to move.
 use Rattle.std.specs.Prelude.{◌≡◌, refl}
 use Rattle.std.specs.declared.cmp.Ordering.{Ordering}
 use Rattle.std.specs.Ordering.{is_eq, on, then_cmp, as_partial_cmp}
@@ -23,10 +24,12 @@ abbrev pub cell_cmp : Cell → Cell → Ordering
 cell_cmp = (cell_order.ghosts).cmp
 
 abbrev pub board_cmp : Board → Board → Ordering
-board_cmp = then_cmp (on (λ (p : Board). p.cells) (slice_cmp cell_cmp)) (on (λ (p : Board). p.to_move) side_cmp)
+board_cmp = then_cmp (on (λ (p : Board). p.cells) (slice_cmp cell_cmp))
+    (on (λ (p : Board). p.to_move) side_cmp)
 
 pub board_cmp-total : IsTotalOrder board_cmp
-board_cmp-total = then_total (on_total (λ (p : Board). p.cells) (lists_total cell_laws.total-law)) (on_total (λ (p : Board). p.to_move) side_laws.total-law)
+board_cmp-total = then_total (on_total (λ (p : Board). p.cells) (lists_total cell_laws.total-law))
+    (on_total (λ (p : Board). p.to_move) side_laws.total-law)
 
 side_ties : (s t : Side) → same_side s t ≡ is_eq (side_cmp s t)
 side_ties Black Black = refl
@@ -48,8 +51,10 @@ cell_ties (King s) (King t) = side_ties s t
 -- equal boards and no others are tied
 pub board_cmp-ties : (p q : Board) → same_board p q ≡ is_eq (board_cmp p q)
 board_cmp-ties p q =
-    both_tied (pointwise same_cell p.cells q.cells) (same_side p.to_move q.to_move) (slice_cmp cell_cmp p.cells q.cells) (side_cmp p.to_move q.to_move)
+    both_tied (pointwise same_cell p.cells q.cells) (same_side p.to_move q.to_move)
+    (slice_cmp cell_cmp p.cells q.cells) (side_cmp p.to_move q.to_move)
     (lists_ties cell_cmp cell_ties p.cells q.cells) (side_ties p.to_move q.to_move)
 
 pub board_cmp-partial : IsPartialOrder same_board (as_partial_cmp board_cmp)
-board_cmp-partial = partial_order_from_agreeing_total board_cmp board_cmp-total (λ p q. refl) board_cmp-ties
+board_cmp-partial =
+    partial_order_from_agreeing_total board_cmp board_cmp-total (λ p q. refl) board_cmp-ties

@@ -13,5 +13,6 @@ pub record IsPadded (squares : List ℕ) (len : ℕ) : Type 0 where
   pub rest : padded (take len squares) ≡ squares
   pub each : All IsSquare (take len squares)
 
-pub length-path : (squares : List ℕ) (len : ℕ) → IsPadded squares len → length (take len squares) ≡ len
+pub length-path : (squares : List ℕ) (len : ℕ) → IsPadded squares len
+    → length (take len squares) ≡ len
 length-path squares len h = omega (arith, length-take len squares, h.most, h.full)

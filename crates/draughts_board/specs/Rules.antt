@@ -61,7 +61,8 @@ all_but_last test (x ∷ z ∷ rest) = test x && all_but_last test (z ∷ rest)
 abbrev pub jumped : List ℕ → List ℕ
 jumped [] = []
 jumped (x ∷ []) = []
-jumped (x ∷ z ∷ rest) = (if are_jump_apart x z then between x z ∷ jumped (z ∷ rest) else jumped (z ∷ rest))
+jumped (x ∷ z ∷ rest) =
+    (if are_jump_apart x z then between x z ∷ jumped (z ∷ rest) else jumped (z ∷ rest))
 
 abbrev pub contains : List ℕ → ℕ → Bool
 contains xs y = list_any (λ x. x == y) xs
@@ -77,7 +78,8 @@ abbrev pub is_own : Board → ℕ → Bool
 is_own p x = is_square x && belongs p.to_move (cell_at p x)
 
 -- The piece that starts on `start` may jump from x to z: over an enemy piece, to an empty square.
--- Its starting square counts as empty during its capture (this project's choice among readings of the rules).
+-- Its starting square counts as empty during its capture (this project's choice among readings of
+-- the rules).
 abbrev pub is_jump : Board → ℕ → ℕ → ℕ → Bool
 is_jump p start x z =
     is_square z && are_jump_apart x z && may_go (cell_at p start) x z
@@ -86,21 +88,25 @@ is_jump p start x z =
 
 -- behind this path the capture may go on with a jump to z, over a piece not yet jumped
 abbrev pub goes_on : Board → List ℕ → ℕ → Bool
-goes_on p path z = is_jump p (first_square path) (last_square path) z && not (contains (jumped path) (between (last_square path) z))
+goes_on p path z = is_jump p (first_square path) (last_square path) z && not
+    (contains (jumped path) (between (last_square path) z))
 
 -- where the capture may go on to behind this path, in rising order
 abbrev pub further_jumps : Board → List ℕ → List ℕ
 further_jumps p path = filter (goes_on p path) squares
 
--- A capture: jumps of one of the mover's pieces, over no piece twice. A man that reaches its farthest row is
--- crowned and the move ends there. A capture is carried on until no further jump exists.
+-- A capture: jumps of one of the mover's pieces, over no piece twice. A man that reaches its
+-- farthest row is crowned and the move ends there. A capture is carried on until no further jump
+-- exists.
 pub record IsCapture (p : Board) (path : List ℕ) : Type 0 where
   pub long : 2 ≤ length path
   pub own : IsTrue (is_own p (first_square path))
   pub jumps : IsTrue (all_following (is_jump p (first_square path)) path)
   pub once : IsTrue (are_distinct (jumped path))
-  pub crowned_last : IsTrue (all_but_last (λ x. not (is_crowned_on (cell_at p (first_square path)) x)) path)
-  pub complete : IsTrue (is_crowned_on (cell_at p (first_square path)) (last_square path)) ⊎ (further_jumps p path ≡ [])
+  pub crowned_last : IsTrue (all_but_last (λ x. not
+      (is_crowned_on (cell_at p (first_square path)) x)) path)
+  pub complete : IsTrue (is_crowned_on (cell_at p (first_square path)) (last_square path))
+      ⊎ (further_jumps p path ≡ [])
 
 -- ---- steps
 
@@ -144,8 +150,8 @@ put cells n c = slice_set cells (n - 1) c
 abbrev pub at_rest : Cell → ℕ → Cell
 at_rest c z = (if is_crowned_on c z then crowned c else c)
 
--- The piece goes from the first square to the last, the pieces jumped are taken off, a man on its farthest
--- row becomes a king, and the turn passes.
+-- The piece goes from the first square to the last, the pieces jumped are taken off, a man on its
+-- farthest row becomes a king, and the turn passes.
 abbrev pub after : Board → List ℕ → Board
 after p path =
     let lifted = put p.cells (first_square path) Empty in
@@ -158,6 +164,8 @@ abbrev pub first_places : List Board → List Board
 first_places [] = []
 first_places (p ∷ ps) = p ∷ filter (λ q. not (same_board p q)) (first_places ps)
 
--- these are the successors: the positions after the legal paths in rising order, each at its first place only
+-- these are the successors: the positions after the legal paths in rising order, each at its first
+-- place only
 abbrev pub AreSuccessors : Board → List Board → Type 0
-AreSuccessors p next = (paths : List (List ℕ)) × (AreLegalPaths p paths × (next ≡ first_places (map (after p) paths)))
+AreSuccessors p next =
+    (paths : List (List ℕ)) × (AreLegalPaths p paths × (next ≡ first_places (map (after p) paths)))

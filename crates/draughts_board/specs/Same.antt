@@ -23,22 +23,28 @@ same_side-Decides s t = (λ e. absurd (false≢true e), λ e. (cc))
 
 pub same_cell-Decides : (a b : Cell) → Decides (same_cell a b) (a ≡ b)
 same_cell-Decides Empty Empty = (λ _. refl, λ _. refl)
-same_cell-Decides (Man s) (Man t) = (λ e. ap Man ((same_side-Decides s t).0 e), λ e. (same_side-Decides s t).1 cc)
-same_cell-Decides (King s) (King t) = (λ e. ap King ((same_side-Decides s t).0 e), λ e. (same_side-Decides s t).1 cc)
+same_cell-Decides (Man s) (Man t) =
+    (λ e. ap Man ((same_side-Decides s t).0 e), λ e. (same_side-Decides s t).1 cc)
+same_cell-Decides (King s) (King t) =
+    (λ e. ap King ((same_side-Decides s t).0 e), λ e. (same_side-Decides s t).1 cc)
 same_cell-Decides a b = (λ e. absurd (false≢true e), λ e. (cc))
 
 pub same_board-Decides : (p q : Board) → Decides (same_board p q) (p ≡ q)
 same_board-Decides p q =
     let cells = pointwise_decides same_cell-Decides p.cells q.cells in
     let mover = same_side-Decides p.to_move q.to_move in (
-      λ t. let c = cells.0 (first_so _ _ t) in let s = mover.0 (second_so _ _ t) in λ i. record { cells = c i; to_move = s i },
-      λ h. both_true (cells.1 (ap (λ (b : Board). b.cells) h)) (mover.1 (ap (λ (b : Board). b.to_move) h)),
+      λ t. let c = cells.0 (first_so _ _ t) in
+          let s = mover.0 (second_so _ _ t) in λ i. record { cells = c i; to_move = s i },
+      λ h. both_true (cells.1 (ap (λ (b : Board). b.cells) h))
+          (mover.1 (ap (λ (b : Board). b.to_move) h)),
     )
 
-pub equiv_from_decides : {K : Type 0} (E : K → K → Bool) → ((x y : K) → Decides (E x y) (x ≡ y)) → IsEquivalence E
+pub equiv_from_decides : {K : Type 0} (E : K → K → Bool) → ((x y : K) → Decides (E x y) (x ≡ y))
+    → IsEquivalence E
 equiv_from_decides E d = record {
   refl = λ x. (d x x).1 refl;
-  symm = λ x y. same_from_decides (E x y) (E y x) (d x y) ((λ e. sym ((d y x).0 e), λ e. (d y x).1 (sym e)));
+  symm = λ x y. same_from_decides (E x y) (E y x) (d x y)
+      ((λ e. sym ((d y x).0 e), λ e. (d y x).1 (sym e)));
   congr = λ x y z e. ap (λ w. E w z) ((d x y).0 e);
 }
 
@@ -59,5 +65,6 @@ hash_input_of p =
     ++ fed.u64 (paired (mask_of (Man White) p.cells) (mask_of (King White) p.cells))
     ++ (side_hash.ghosts).hash_input p.to_move
 
-pub hash_input_of-respects : (p q : Board) → same_board p q ≡ true → hash_input_of p ≡ hash_input_of q
+pub hash_input_of-respects : (p q : Board) → same_board p q ≡ true
+    → hash_input_of p ≡ hash_input_of q
 hash_input_of-respects p q e = ap hash_input_of ((same_board-Decides p q).0 e)

@@ -23,7 +23,8 @@ impl fmt::Display for Side {
 }
 
 impl fmt::Display for Move {
-    /// Its squares, with `x` between those of a capture and `-` between those of a step: `1x10x17`, `23-19`.
+    /// Its squares, with `x` between those of a capture and `-` between those of a step: `1x10x17`,
+    /// `23-19`.
     fn fmt<W: fmt::Write>(&self, f: &mut fmt::Formatter<W>) -> fmt::Result {
         let path = self.path();
         let between = if path[0].is_near(path[1]) { "-" } else { "x" };
@@ -45,7 +46,8 @@ fn letter(side: Side) -> &'static str {
     }
 }
 
-/// Writes a side's letter and its pieces in rising order of square, with commas between them and a `K` before each king.
+/// Writes a side's letter and its pieces in rising order of square, with commas between them and a
+/// `K` before each king.
 fn write_pieces<W: fmt::Write>(f: &mut fmt::Formatter<W>, p: &Position, side: Side) -> fmt::Result {
     write!(f, ":{}", letter(side))?;
     let mut comma = "";

@@ -1,5 +1,5 @@
-//! Worked examples of the definitions, proved by computation: each function does nothing, and its contract is a
-//! record of `specs/Examples.antt`, one field an example.
+//! Worked examples of the definitions, proved by computation: each function does nothing, and its
+//! contract is a record of `specs/Examples.antt`, one field an example.
 ghost use Rattle.draughts_board.specs.Examples.{WorkedSquares, WorkedBoards, WorkedMasks, WorkedCaptures, WorkedSteps, WorkedAfter, WorkedWins, WorkedLooks};
 
 /// Squares: rows, columns, near squares and jumps.
@@ -17,12 +17,14 @@ pub fn worked_masks()
     ensures { WorkedMasks }
 {}
 
-/// Captures: round four men and back, not stopped midway, ended by crowning, over no piece twice, compulsory.
+/// Captures: round four men and back, not stopped midway, ended by crowning, over no piece twice,
+/// compulsory.
 pub fn worked_captures()
     ensures { WorkedCaptures }
 {}
 
-/// Steps: the seven first moves of a game, men forward only, kings in all directions, a blocked man.
+/// Steps: the seven first moves of a game, men forward only, kings in all directions, a blocked
+/// man.
 pub fn worked_steps()
     ensures { WorkedSteps }
 {}

@@ -1,10 +1,10 @@
-//! The board of English draughts: squares, pieces, positions and moves; and, in `specs/`, the rules of play and
-//! who wins, which every other crate is proved against.
+//! The board of English draughts: squares, pieces, positions and moves; and, in `specs/`, the rules
+//! of play and who wins, which every other crate is proved against.
 //!
-//! A contract sees a square as its number from 1 to 32, a position as its 32 cells and the side to move
-//! (a `Board`), and a move as its path, a list of squares. Each position keeps the rule on pieces: at most 12
-//! a side, and no man on its farthest row. It is kept as four masks of 32 bits, which `masks` and `of_masks` give
-//! and take.
+//! A contract sees a square as its number from 1 to 32, a position as its 32 cells and the side to
+//! move (a `Board`), and a move as its path, a list of squares. Each position keeps the rule on
+//! pieces: at most 12 a side, and no man on its farthest row. It is kept as four masks of 32 bits,
+//! which `masks` and `of_masks` give and take.
 #![tactic(auto)]
 
 mod cells;

@@ -92,7 +92,8 @@ fn with_square(mask: u32, square: Square, keep: bool) -> u32
 /// The mask of a piece, where this cell is put on the square.
 #[inline]
 pub(crate) fn put_in(mask: u32, piece: Cell, square: Square, cell: Cell) -> u32
-    ensures put { IsMaskOf (λ n. if n == square then same_cell piece cell else stands_in mask n) result }
+    ensures put { IsMaskOf
+        (λ n. if n == square then same_cell piece cell else stands_in mask n) result }
     ensures square { IsSquare square }
 {
     with_square(mask, square, holds(cell, piece))

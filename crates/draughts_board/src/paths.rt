@@ -6,8 +6,9 @@ use std::marker::Model;
 
 /// A move: the squares that the piece stands on, from the first to the last, 2 to 13 of them.
 ///
-/// A step has two squares. A capture has one more than it jumps over pieces, so at most 13. A contract sees a move
-/// as its path, a list of square numbers. Moves are ordered by their paths, square by square.
+/// A step has two squares. A capture has one more than it jumps over pieces, so at most 13. A
+/// contract sees a move as its path, a list of square numbers. Moves are ordered by their paths,
+/// square by square.
 #[derive(Clone, Copy, Debug)]
 pub struct Move {
     // The path, and then square 1 in each place that is left.
@@ -27,15 +28,18 @@ impl Model for Move {
 
     ghost inverse = { λ path. record { squares = padded path; len = length path } };
 
-    ghost inverse_ok = { λ m h i. record { squares = h.rest i; len = length-path m.squares m.len h i } };
+    ghost inverse_ok = { λ m h i. record {
+      squares = h.rest i;
+      len = length-path m.squares m.len h i;
+    } };
 }
 
 impl Move {
     ghost use Rattle.std.specs.Prelude.{◌≡◌, ◌≤◌, ◌<◌, ◌⊎◌, ◌↔◌, ◌++◌, ◌∷◌, [], IsNone, IfSome, length, All};
     ghost use Rattle.draughts_board.specs.Geometry.{IsSquare};
 
-    /// The move with this path; none exactly where the path has not 2 to 13 squares. Whether it is legal depends
-    /// on the position.
+    /// The move with this path; none exactly where the path has not 2 to 13 squares. Whether it is
+    /// legal depends on the position.
     pub fn of(path: &[Square]) -> Option<Move>
         ensures none { IsNone result ↔ ((length path.now < 2) ⊎ (13 < length path.now)) }
         ensures some { IfSome result (λ m. m ≡ path.now) }
@@ -139,7 +143,8 @@ impl PartialOrd for Move {
 
     ghost partial_cmp = { as_partial_cmp (slice_cmp nat_cmp) };
 
-    ghost laws = { partial_order_from_own_ties (Prim.search (comparing, rules)) (Prim.search (comparing, rules)) };
+    ghost laws = { partial_order_from_own_ties (Prim.search (comparing, rules))
+        (Prim.search (comparing, rules)) };
 
     fn partial_cmp(&self, other: &Move) -> Option<Ordering> {
         Some(self.cmp(other))

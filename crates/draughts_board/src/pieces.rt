@@ -3,7 +3,8 @@ ghost use Rattle.std.specs.Prelude.{◌≡◌};
 
 /// A player, and the colour of its pieces.
 ///
-/// Black starts on squares 1 to 12 and moves first; its men go towards higher rows, White's towards lower ones.
+/// Black starts on squares 1 to 12 and moves first; its men go towards higher rows, White's towards
+/// lower ones.
 #[derive(Clone, Copy, PartialEq, Eq, PartialOrd, Ord, Hash, Debug)]
 pub enum Side {
     Black,

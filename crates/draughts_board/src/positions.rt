@@ -22,8 +22,9 @@ pub enum PlaceRefusal {
 
 /// A position of English draughts.
 ///
-/// A contract sees it as a `Board`: 32 cells, that of square n at place n - 1, and the side to move. Each position
-/// keeps the rule on pieces: at most 12 a side, no Black man on 29 to 32 and no White man on 1 to 4.
+/// A contract sees it as a `Board`: 32 cells, that of square n at place n - 1, and the side to
+/// move. Each position keeps the rule on pieces: at most 12 a side, no Black man on 29 to 32 and no
+/// White man on 1 to 4.
 #[derive(Clone, Copy, Debug)]
 pub struct Position {
     // Masks in which square n is the bit of value 2^(n - 1); no square stands in two of them.
@@ -44,13 +45,29 @@ impl Model for Position {
 
     ghost Value = { Board };
 
-    ghost view = { λ p. board_in (p.black_men ∷ p.black_kings ∷ p.white_men ∷ p.white_kings ∷ []) p.to_move };
+    ghost view = { λ p. board_in
+        (p.black_men ∷ p.black_kings ∷ p.white_men ∷ p.white_kings ∷ []) p.to_move };
 
-    ghost invariant = { λ p. MakePosition p.black_men p.black_kings p.white_men p.white_kings p.to_move };
+    ghost invariant = { λ p. MakePosition p.black_men p.black_kings p.white_men p.white_kings
+        p.to_move };
 
-    ghost inverse = { λ b. record { black_men = mask_of (Man Black) b.cells; black_kings = mask_of (King Black) b.cells; white_men = mask_of (Man White) b.cells; white_kings = mask_of (King White) b.cells; to_move = b.to_move } };
+    ghost inverse = { λ b. record {
+      black_men = mask_of (Man Black) b.cells;
+      black_kings = mask_of (King Black) b.cells;
+      white_men = mask_of (Man White) b.cells;
+      white_kings = mask_of (King White) b.cells;
+      to_move = b.to_move;
+    } };
 
-    ghost inverse_ok = { λ p h i. let back = masks-back p.black_men p.black_kings p.white_men p.white_kings p.to_move h in record { black_men = back.0 i; black_kings = back.1 i; white_men = back.2 i; white_kings = back.3 i; to_move = p.to_move } };
+    ghost inverse_ok = { λ p h i. let back =
+        masks-back p.black_men p.black_kings p.white_men p.white_kings p.to_move h in
+        record {
+          black_men = back.0 i;
+          black_kings = back.1 i;
+          white_men = back.2 i;
+          white_kings = back.3 i;
+          to_move = p.to_move;
+        } };
 }
 
 impl PartialEq for Position {
@@ -129,15 +146,18 @@ impl Position {
 
     /// The position with these cells, that of square n at place n - 1, and this side to move.
     ///
-    /// Refused as `TooMany` exactly where that side has more than 12 pieces (Black is tried first), and else as
-    /// `ManOnLastRow` exactly where this is the least square with a man on its farthest row.
+    /// Refused as `TooMany` exactly where that side has more than 12 pieces (Black is tried first),
+    /// and else as `ManOnLastRow` exactly where this is the least square with a man on its farthest
+    /// row.
     pub fn place(cells: [Cell; 32], to_move: Side) -> Result<Position, PlaceRefusal>
         ensures ok { IfOk result (λ p. p ≡ record { cells = cells; to_move = to_move }) }
-        ensures black { (result ≡ Err (PlaceRefusal.TooMany Side.Black)) ↔ (12 < pieces Side.Black cells) }
+        ensures black { (result ≡ Err (PlaceRefusal.TooMany Side.Black))
+            ↔ (12 < pieces Side.Black cells) }
         ensures white { (result ≡ Err (PlaceRefusal.TooMany Side.White))
             ↔ ((pieces Side.Black cells ≤ 12) × (12 < pieces Side.White cells)) }
         ensures man { (s : ℕ) → (result ≡ Err (PlaceRefusal.ManOnLastRow s))
-            ↔ ((pieces Side.Black cells ≤ 12) × (pieces Side.White cells ≤ 12) × IsLeastMisplaced cells s) }
+            ↔ ((pieces Side.Black cells ≤ 12) × (pieces Side.White cells ≤ 12)
+            × IsLeastMisplaced cells s) }
         ensures lawful { IsOk result ↔ IsLawful (record { cells = cells; to_move = to_move }) }
     {
         if count_of(&cells, Side::Black) > 12 {
@@ -152,8 +172,8 @@ impl Position {
         }
     }
 
-    /// The position with these cells, that of square n at place n - 1, where the caller knows that they keep the
-    /// rule on pieces.
+    /// The position with these cells, that of square n at place n - 1, where the caller knows that
+    /// they keep the rule on pieces.
     pub fn of_lawful(cells: [Cell; 32], to_move: Side) -> Position
         requires { IsLawful (record { cells = cells; to_move = to_move }) }
         ensures { result ≡ record { cells = cells; to_move = to_move } }
@@ -167,8 +187,8 @@ impl Position {
         }
     }
 
-    /// The masks of its pieces: Black's men, Black's kings, White's men and White's kings. Square n is the bit of value
-    /// 2^(n - 1).
+    /// The masks of its pieces: Black's men, Black's kings, White's men and White's kings. Square n
+    /// is the bit of value 2^(n - 1).
     #[inline]
     pub fn masks(&self) -> [u32; 4]
         ensures value { result ≡ masks_of self.now }
@@ -193,8 +213,8 @@ impl Position {
         black_men | black_kings | white_men | white_kings
     }
 
-    /// The position with these masks, where the caller knows that no two of them share a square and that their pieces
-    /// keep the rule.
+    /// The position with these masks, where the caller knows that no two of them share a square and
+    /// that their pieces keep the rule.
     #[inline]
     pub fn of_lawful_masks(masks: [u32; 4], to_move: Side) -> Position
         requires apart { IsTrue (are_apart masks) }
@@ -222,10 +242,11 @@ impl Position {
         }
     }
 
-    /// The position with these masks, in the order of `masks`, and this side to move; none exactly where a square
-    /// stands in two of them, or their pieces break the rule.
+    /// The position with these masks, in the order of `masks`, and this side to move; none exactly
+    /// where a square stands in two of them, or their pieces break the rule.
     pub fn of_masks(masks: [u32; 4], to_move: Side) -> Option<Position>
-        ensures some { IsSome result ↔ (IsTrue (are_apart masks) × IsLawful (board_in masks to_move)) }
+        ensures some { IsSome result ↔ (IsTrue (are_apart masks)
+            × IsLawful (board_in masks to_move)) }
         ensures value { IfSome result (λ p. p ≡ board_in masks to_move) }
         ensures masks { IfSome result (λ p. masks_of p ≡ masks) }
     {
@@ -236,8 +257,8 @@ impl Position {
         }
     }
 
-    /// The position where this stands on the square and this side is to move, where the caller knows that it keeps the
-    /// rule on pieces.
+    /// The position where this stands on the square and this side is to move, where the caller
+    /// knows that it keeps the rule on pieces.
     #[inline]
     pub fn with(&self, square: Square, cell: Cell, to_move: Side) -> Position
         requires { IsLawful (record { cells = put self.now.cells square cell; to_move = to_move }) }
@@ -252,10 +273,14 @@ impl Position {
         }
     }
 
-    /// The position without the piece on the square, if one stands there, and with the same side to move.
+    /// The position without the piece on the square, if one stands there, and with the same side to
+    /// move.
     #[inline]
     pub fn without(&self, square: Square) -> Position
-        ensures { result ≡ record { cells = put self.now.cells square Cell.Empty; to_move = self.now.to_move } }
+        ensures { result ≡ record {
+          cells = put self.now.cells square Cell.Empty;
+          to_move = self.now.to_move;
+        } }
     {
         self.with(square, Cell::Empty, self.to_move())
     }
@@ -328,8 +353,8 @@ impl Position {
         }
     }
 
-    /// The board turned by 180 degrees with the colours exchanged: what stood on square n stands in the other
-    /// colour on 33 - n, and the other side is to move.
+    /// The board turned by 180 degrees with the colours exchanged: what stood on square n stands in
+    /// the other colour on 33 - n, and the other side is to move.
     pub fn turned(&self) -> Position
         ensures { result ≡ turned self.now }
     {

@@ -1,4 +1,5 @@
-//! Moves as they are written: which moves are written so, and why a written one means no legal move.
+//! Moves as they are written: which moves are written so, and why a written one means no legal
+//! move.
 ghost use Rattle.std.specs.Prelude.{◌≡◌, ◌≤◌, ◌==◌, ◌&&◌, length};
 ghost use Rattle.draughts_board.specs.Rules.{first_square, last_square};
 ghost use Rattle.draughts_board.specs.Resolution.{lies_between, is_written};
@@ -14,8 +15,8 @@ pub enum ResolveRefusal {
     /// No legal move is written so.
     #[error("no legal move is written so")]
     Illegal,
-    /// Legal moves that lead to different positions are written so: the first of them, and the first that leads
-    /// elsewhere than that one.
+    /// Legal moves that lead to different positions are written so: the first of them, and the
+    /// first that leads elsewhere than that one.
     #[error("{0} and {1} are both written so, and lead to different positions")]
     Ambiguous(Move, Move),
     /// There was no memory for the legal moves.

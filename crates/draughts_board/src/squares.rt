@@ -3,8 +3,8 @@ use std::marker::Model;
 
 /// A dark square, by its number from 1 to 32.
 ///
-/// Row `r`, from 0 on Black's side to 7, holds the squares `4r + 1` to `4r + 4`. A contract sees a square as its
-/// number.
+/// Row `r`, from 0 on Black's side to 7, holds the squares `4r + 1` to `4r + 4`. A contract sees a
+/// square as its number.
 #[derive(Clone, Copy, PartialEq, Eq, PartialOrd, Ord, Hash, Debug)]
 pub struct Square {
     number: u8,
@@ -109,7 +109,8 @@ impl Square {
         self.row().abs_diff(to.row()) == 2 && self.column().abs_diff(to.column()) == 2
     }
 
-    /// The square that a jump from here to there passes over. Its row and column are the means of theirs.
+    /// The square that a jump from here to there passes over. Its row and column are the means of
+    /// theirs.
     pub fn between(self, to: Square) -> Square
         ensures { result ≡ between self to }
     {

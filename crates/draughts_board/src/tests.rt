@@ -158,7 +158,8 @@ fn thirteen_pieces_and_misplaced_men_are_refused(rt: HostRuntime) -> Result<(), 
     let mut cells = [Cell::Empty; 32];
     cells[0] = Cell::King(Side::White);
     assert!(rt; Position::place(cells, Side::White).is_ok());
-    // A Black man on 29 stands on its farthest row, and so does a White one on 4, which is the lesser square.
+    // A Black man on 29 stands on its farthest row, and so does a White one on 4, which is the
+    // lesser square.
     cells[28] = Cell::Man(Side::Black);
     let on_29 = PlaceRefusal::ManOnLastRow(Square::new(29).unwrap());
     assert!(rt; Position::place(cells, Side::Black) == Err(on_29));

@@ -1,4 +1,5 @@
--- The conditions that the code tests: what is left of a step or a jump once a table has named the square.
+-- The conditions that the code tests: what is left of a step or a jump once a table has named the
+-- square.
 use Rattle.std.specs.Prelude.{ℕ, Bool, ◌&&◌, ◌||◌, ◌==◌, not, List}
 use Rattle.draughts_board.specs.Geometry.{is_square, between}
 use Rattle.draughts_board.specs.Board.{Board, cell_at, belongs, other, is_empty}
@@ -17,4 +18,5 @@ is_open_jump p start x z =
 -- the same behind a path, over a piece that it has not jumped yet
 abbrev pub is_open_further : Board → List ℕ → ℕ → Bool
 is_open_further p path z =
-    is_open_jump p (first_square path) (last_square path) z && not (contains (jumped path) (between (last_square path) z))
+    is_open_jump p (first_square path) (last_square path) z && not
+    (contains (jumped path) (between (last_square path) z))

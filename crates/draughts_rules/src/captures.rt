@@ -51,7 +51,8 @@ fn add_captures(p: &CellBoard, from: Square, found: &mut Vec<Move>) -> Result<()
     requires lawful { IsLawful p.now }
     requires own { is_own p.now from ≡ true }
     ensures { OnOk result
-        (found.new.items ≡ found.old.items ++ (if starts p.now from then grown 12 p.now (from ∷ []) else [])) }
+        (found.new.items ≡ found.old.items
+        ++ (if starts p.now from then grown 12 p.now (from ∷ []) else [])) }
 {
     if can_jump(p, from) {
         grow(p, &SquareList::of(from), found)?;

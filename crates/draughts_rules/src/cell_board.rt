@@ -2,7 +2,8 @@
 use draughts_board::{Cell, Position, Side, Square};
 use std::marker::Model;
 
-/// What stands on each square, that of square n at place n - 1, and the side to move. A contract sees it as a position.
+/// What stands on each square, that of square n at place n - 1, and the side to move. A contract
+/// sees it as a position.
 #[derive(Drop)]
 pub(crate) struct CellBoard {
     cells: [Cell; 32],

@@ -13,8 +13,8 @@ use crate::square_list::SquareList;
 use draughts_board::Square;
 use draughts_board::path_ends::{first, last};
 
-/// The piece that starts on `start` may jump from one square to that of the number, which is a jump away; never
-/// where the number is that of no square.
+/// The piece that starts on `start` may jump from one square to that of the number, which is a jump
+/// away; never where the number is that of no square.
 #[inline]
 fn is_open_jump(p: &CellBoard, start: Square, from: Square, number: u8) -> bool
     ensures { result ≡ is_open_jump p.now start from number }
@@ -80,11 +80,13 @@ pub(crate) fn has_jumped(path: &[Square], over: Square) -> bool
     }
 }
 
-/// Adds the square of the number, which is a jump away from the end of the path, if the capture may go on to it.
+/// Adds the square of the number, which is a jump away from the end of the path, if the capture may
+/// go on to it.
 fn add_further(p: &CellBoard, path: &[Square], number: u8, jumps: &mut SquareList)
     requires some { 1 ≤ length path.now }
     requires room { length jumps.old < 13 }
-    ensures { jumps.new ≡ jumps.old ++ (if is_open_further p.now path.now number then number ∷ [] else []) }
+    ensures { jumps.new ≡ jumps.old
+        ++ (if is_open_further p.now path.now number then number ∷ [] else []) }
 {
     let here = last(path);
     if let Some(to) = Square::new(number) {
@@ -93,7 +95,8 @@ fn add_further(p: &CellBoard, path: &[Square], number: u8, jumps: &mut SquareLis
     }
 }
 
-/// Where the capture may go on to behind the path, over a piece that it has not yet jumped, in rising order.
+/// Where the capture may go on to behind the path, over a piece that it has not yet jumped, in
+/// rising order.
 pub(crate) fn further_jumps(p: &CellBoard, path: &[Square]) -> SquareList
     requires { 1 ≤ length path.now }
     ensures { result ≡ further_jumps p.now path.now }

@@ -1,9 +1,10 @@
-//! The rules of play of English draughts (WCDF): the legal moves of a position, and the positions that they
-//! lead to.
+//! The rules of play of English draughts (WCDF): the legal moves of a position, and the positions
+//! that they lead to.
 //!
-//! What the rules say stands in `specs/Rules.antt` of `draughts_board`, as relations on whole paths, which compute
-//! nothing. Each call here is proved to give exactly what those relations say: every legal move and no other, each
-//! once and in rising order of path; every successor, each once, in the order of the first move that gives it.
+//! What the rules say stands in `specs/Rules.antt` of `draughts_board`, as relations on whole
+//! paths, which compute nothing. Each call here is proved to give exactly what those relations say:
+//! every legal move and no other, each once and in rising order of path; every successor, each
+//! once, in the order of the first move that gives it.
 #![tactic(auto)]
 
 mod captures;

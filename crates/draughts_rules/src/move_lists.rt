@@ -27,8 +27,8 @@ fn moves_on(alloc: Global, p: &CellBoard) -> Result<Vec<Move>, AllocError>
 
 /// The legal moves, each once, in rising order of their paths, which are compared square by square.
 ///
-/// A side that can capture must (WCDF rules), so these are the captures where there is one, and else the steps. There
-/// is none where the player to move is blocked or has no pieces.
+/// A side that can capture must (WCDF rules), so these are the captures where there is one, and
+/// else the steps. There is none where the player to move is blocked or has no pieces.
 pub fn legal_moves(alloc: Global, p: &Position) -> Result<Vec<Move>, AllocError>
     ensures exact { IfOk result (λ moves. moves.items ≡ legal_paths p.now) }
     ensures rules { IfOk result (λ moves. AreLegalPaths p.now moves.items) }

@@ -5,8 +5,8 @@ ghost use Rattle.draughts_rules.specs.NearSquares.{neighbour_row, jump_row};
 
 use draughts_board::Square;
 
-/// The row of square n stands at place n - 1: the squares one row and one column from it in rising order, and then
-/// zeros.
+/// The row of square n stands at place n - 1: the squares one row and one column from it in rising
+/// order, and then zeros.
 static NEIGHBOURS: [[u8; 4]; 32] = [
     [5, 6, 0, 0],
     [6, 7, 0, 0],

@@ -24,8 +24,8 @@ fn take_jumped(p: &mut Position, path: &[Square])
     }
 }
 
-/// The position after a legal move: the piece stands on the path's last square, the pieces that it jumped over are
-/// gone, a man on its farthest row is a king, and the other side is to move.
+/// The position after a legal move: the piece stands on the path's last square, the pieces that it
+/// jumped over are gone, a man on its farthest row is a king, and the other side is to move.
 pub fn apply(p: &Position, m: &Move) -> Position
     requires { IsLegal p.now m.now }
     ensures { result ≡ after p.now m.now }
@@ -39,7 +39,8 @@ pub fn apply(p: &Position, m: &Move) -> Position
     cleared.with(to, piece, p.to_move().other())
 }
 
-/// The positions that the legal moves lead to, each once, in the order of the first move that gives it.
+/// The positions that the legal moves lead to, each once, in the order of the first move that gives
+/// it.
 pub fn successors(alloc: Global, p: &Position) -> Result<Vec<Position>, AllocError>
     ensures exact { IfOk result (λ next. next.items ≡ successors_of p.now) }
     ensures rules { IfOk result (λ next. AreSuccessors p.now next.items) }
@@ -68,7 +69,8 @@ fn first_to(p: &Position, next: &Position, moves: &[Move]) -> Option<Move>
     None
 }
 
-/// The first legal move, in rising order of path, that leads to `next`; none exactly where no legal move leads there.
+/// The first legal move, in rising order of path, that leads to `next`; none exactly where no legal
+/// move leads there.
 pub fn move_to(alloc: Global, p: &Position, next: &Position) -> Result<Option<Move>, AllocError>
     ensures exact { IfOk result (λ found. found ≡ first_to p.now next.now (legal_paths p.now)) }
     ensures some { IfOk result (λ found. IfSome found (λ path.

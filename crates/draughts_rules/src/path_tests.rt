@@ -48,13 +48,14 @@ fn is_crowned_last(piece: Cell, path: &[Square]) -> bool
 /// No square of the path but the last crowns the piece that starts it.
 fn crowns_only_last(p: &CellBoard, path: &[Square]) -> bool
     requires { 1 ≤ length path.now }
-    ensures { result ≡ all_but_last (λ x. not (is_crowned_on (cell_at p.now (first_square path.now)) x)) path.now }
+    ensures { result ≡ all_but_last
+        (λ x. not (is_crowned_on (cell_at p.now (first_square path.now)) x)) path.now }
 {
     is_crowned_last(p.at(first(path)), path)
 }
 
-/// The path is a capture, but for what may still have to follow it: its jumps are the mover's, over no piece twice, and
-/// only its last square may crown.
+/// The path is a capture, but for what may still have to follow it: its jumps are the mover's, over
+/// no piece twice, and only its last square may crown.
 fn is_capture_so_far(p: &CellBoard, path: &[Square]) -> bool
     requires { 1 ≤ length path.now }
     ensures { result ≡ is_capture_so_far p.now path.now }

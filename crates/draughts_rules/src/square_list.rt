@@ -2,7 +2,8 @@
 use draughts_board::Square;
 use std::marker::Model;
 
-/// At most 13 squares: as many as the longest capture has, and more than a side has pieces. A contract sees a list.
+/// At most 13 squares: as many as the longest capture has, and more than a side has pieces. A
+/// contract sees a list.
 #[derive(Drop)]
 pub(crate) struct SquareList {
     squares: [Square; 13],
@@ -63,7 +64,8 @@ impl SquareList {
         }
     }
 
-    /// Adds a square at the end, if it is to be kept. It is written in any case, so that nothing branches.
+    /// Adds a square at the end, if it is to be kept. It is written in any case, so that nothing
+    /// branches.
     #[inline]
     pub(crate) fn push_if(&mut self, square: Square, keep: bool)
         requires { length self.old < 13 }

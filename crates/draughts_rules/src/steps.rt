@@ -13,8 +13,8 @@ use crate::pieces::{may_go, own_squares};
 use draughts_board::{Move, Square};
 use std::alloc::{AllocError, Global};
 
-/// The piece on the one square may step to that of the number, which is near it; never where the number is that of no
-/// square.
+/// The piece on the one square may step to that of the number, which is near it; never where the
+/// number is that of no square.
 #[inline]
 fn is_open_step(p: &CellBoard, from: Square, number: u8) -> bool
     ensures { result ≡ is_open_step p.now from number }
@@ -57,7 +57,8 @@ fn can_any_step(p: &CellBoard, from: &[Square]) -> bool
 
 /// Some piece of the side to move has a step, whether or not a jump forbids it.
 pub(crate) fn has_step(p: &CellBoard) -> bool
-    ensures steps { result ≡ list_any (λ x. is_own p.now x && list_any (is_step p.now x) squares) squares }
+    ensures steps { result ≡ list_any
+        (λ x. is_own p.now x && list_any (is_step p.now x) squares) squares }
     ensures lawful { IsLawful p.now }
 {
     can_any_step(p, own_squares(p).as_slice())
@@ -73,7 +74,8 @@ fn add_step(
 ) -> Result<(), AllocError>
     ensures { OnOk result
         (found.new.items
-        ≡ found.old.items ++ (if is_open_step p.now from number then (from ∷ number ∷ []) ∷ [] else [])) }
+        ≡ found.old.items
+        ++ (if is_open_step p.now from number then (from ∷ number ∷ []) ∷ [] else [])) }
 {
     if let Some(to) = Square::new(number)
         && is_open_step(p, from, number)
@@ -95,8 +97,8 @@ fn add_steps(p: &CellBoard, from: Square, found: &mut Vec<Move>) -> Result<(), A
     Ok(())
 }
 
-/// The steps, in rising order, of the pieces on these squares, which are the mover's; whether or not a jump forbids
-/// them.
+/// The steps, in rising order, of the pieces on these squares, which are the mover's; whether or
+/// not a jump forbids them.
 pub(crate) fn steps(alloc: Global, p: &CellBoard, own: &[Square]) -> Result<Vec<Move>, AllocError>
     requires { own.now ≡ filter (is_own p.now) squares }
     ensures { IfOk result (λ v. v.items ≡ steps p.now) }

@@ -1,4 +1,5 @@
-//! Counts and positions from outside: the published numbers of lists of moves, and the rule book's hard cases.
+//! Counts and positions from outside: the published numbers of lists of moves, and the rule book's
+//! hard cases.
 use crate::{ResolveRefusal, apply, has_move, is_legal, legal_moves, move_to, resolve, successors};
 use draughts_board::{Cell, Move, PlaceRefusal, Position, Side, Square};
 use std::alloc::{AllocError, Global};
@@ -49,7 +50,8 @@ fn round_trip(piece: Cell) -> Result<Position, PlaceRefusal> {
     Position::place(cells, Side::Black)
 }
 
-/// A Black man on 22 that is crowned by a jump over the White man on 26, and another White man on 27.
+/// A Black man on 22 that is crowned by a jump over the White man on 26, and another White man on
+/// 27.
 fn crowning() -> Result<Position, PlaceRefusal> {
     let mut cells = [Cell::Empty; 32];
     cells[26 - 1] = WHITE_MAN;
@@ -77,7 +79,8 @@ fn king_jumps_round_to_its_start(rt: HostRuntime) -> Result<(), Fail> {
     let bare = Position::place(cells, Side::White)?;
     let next = successors(rt.alloc(), &p)?;
     assert_eq!(rt; next.as_slice(), [bare].as_slice());
-    // Both ways round lead there, and the lesser path is found; no move leads back to the position itself.
+    // Both ways round lead there, and the lesser path is found; no move leads back to the position
+    // itself.
     let found = move_to(rt.alloc(), &p, &bare)?.ok_or("no move")?;
     assert_eq!(rt;
         numbers(rt.alloc(), &found)?.as_slice(),

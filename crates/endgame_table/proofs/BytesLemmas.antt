@@ -6,7 +6,7 @@ use Rattle.std.specs.Int.{from_be_bytes, to_be_bytes, w32}
 use Rattle.std.proofs.lemmas.List.{length-append, take_at, drop_at, take_more, flat_map_more}
 use Rattle.std.proofs.lemmas.List.Elements.{All-head, All-tail}
 use Rattle.std.proofs.lemmas.Nat.{from_be_bytes-to_be_bytes_4}
-use Rattle.endgame_table.specs.Bytes.{head, number_bytes, bytes_of}
+use Rattle.endgame_table.specs.Bytes.{table_head, number_bytes, bytes_of}
 use Rattle.endgame_table.specs.Laws.{BytesTellApart}
 
 pub length-number_bytes : (n : ℕ) → length (number_bytes n) ≡ 4
@@ -54,4 +54,4 @@ pub bytes-more : (k : ℕ) (numbers : List ℕ) (i : ℕ) → i < length numbers
     → bytes_of k (take i numbers) ++ to_be_bytes w32 (slice_index numbers i) ≡ bytes_of k (take (i + 1) numbers)
 bytes-more k numbers i below =
     ap (λ bytes. bytes_of k (take i numbers) ++ bytes) (sym (number_bytes-is (slice_index numbers i)))
-    ∙ (flat_map_more number_bytes (head k) (take i numbers) (slice_index numbers i) ∙ ap (bytes_of k) (sym (take_more numbers i 0 below)))
+    ∙ (flat_map_more number_bytes (table_head k) (take i numbers) (slice_index numbers i) ∙ ap (bytes_of k) (sym (take_more numbers i 0 below)))

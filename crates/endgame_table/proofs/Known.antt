@@ -3,7 +3,7 @@ use Rattle.std.proofs.Common.{◌≡◌, ◌≢◌, ◌⊎◌, ℕ, suc, ◌<◌
 use Rattle.std.specs.Prelude.{Contains, slice_index, slice_index_or}
 use Rattle.std.proofs.lemmas.List.Elements.{All-contains, All-from_get_or, All-weaker}
 use Rattle.endgame_table.specs.Numbers.{no_position, AreBelow}
-use Rattle.endgame_table.specs.Rounds.{SomeTarget, EachTarget, win, loss, IsWon, IsNotWon, IsLost, IsNotLost, IsAfterLosses, kept, lost, left, IsAfterWins, stays, won, waits, AddsLosses, AddsWins, AreRows, IsStart, FitsTargets, is_win, is_loss, is_draw, IsFilled}
+use Rattle.endgame_table.specs.Rounds.{SomeTarget, EachTarget, win, loss, IsWonNumber, IsNotWon, IsLost, IsNotLost, IsAfterLosses, kept, lost, left, IsAfterWins, stays, won, waits, AddsLosses, AddsWins, AreRows, IsStart, FitsTargets, is_win, is_loss, is_draw, IsFilled}
 
 -- some target is lost at rank l, and none at a lower rank
 abbrev pub FirstLoss : ℕ → List ℕ → List ℕ → Type 0
@@ -125,14 +125,14 @@ module _ (rank : ℕ) (old new targets : List ℕ) (marked : (t : ℕ) → Conta
   won-below t m row (unknown is none some) e = absurd (omega arith)
 
   module _ (rows : List (List ℕ)) (known : (t : ℕ) → Contains targets t → IsKnown rank old (slice_index_or rows t []) (slice_index old t)) where
-    known-lost : (number : ℕ) → number ≡ 0 → IsKnown rank old targets number → EachTarget old targets IsWon → IsKnownBetween rank new targets (loss rank)
+    known-lost : (number : ℕ) → number ≡ 0 → IsKnown rank old targets number → EachTarget old targets IsWonNumber → IsKnownBetween rank new targets (loss rank)
     known-lost number is_zero (outside is) all = absurd (omega arith)
     known-lost number is_zero (known_win l below is first) all = absurd (omega arith)
     known-lost number is_zero (known_loss r below is each) all = absurd (omega arith)
     known-lost number is_zero (unknown is none (inl first)) all =
         known_loss' rank (omega arith) refl (all_won-losses rank (each all, inl first))
       where
-        each : EachTarget old targets IsWon → EachTarget old targets (λ n. (m : ℕ) × ((n ≡ win m) × (m < rank)))
+        each : EachTarget old targets IsWonNumber → EachTarget old targets (λ n. (m : ℕ) × ((n ≡ win m) × (m < rank)))
         each all t here = let w = all t here in (w.0, (w.1, won-below t w.0 (slice_index_or rows t []) (known t here) w.1))
     known-lost number is_zero (unknown is none (inr some)) all =
         let w = all some.0 some.1.0 in
@@ -142,7 +142,7 @@ module _ (rank : ℕ) (old new targets : List ℕ) (marked : (t : ℕ) → Conta
         let e : rank ≡ suc m = omega arith in
         known_loss' rank (omega arith) refl (all_won-losses rank (each all, inr (some.0, (some.1.0, (m, (w.1, e))))))
       where
-        each : EachTarget old targets IsWon → EachTarget old targets (λ n. (m : ℕ) × ((n ≡ win m) × (m < rank)))
+        each : EachTarget old targets IsWonNumber → EachTarget old targets (λ n. (m : ℕ) × ((n ≡ win m) × (m < rank)))
         each all t here = let w = all t here in (w.0, (w.1, won-below t w.0 (slice_index_or rows t []) (known t here) w.1))
 
     known-left : (number : ℕ) → number ≡ 0 → IsKnown rank old targets number → SomeTarget old targets IsNotWon → IsKnownBetween rank new targets 0

@@ -9,10 +9,10 @@ no_position = 4294967295
 
 -- the number of an answer, of the side to move: 0 is a draw, 2r + 1 a loss of rank r, and 2r + 2 a
 -- win of rank r
-abbrev pub number_of : Answer → ℕ
-number_of Draw = 0
-number_of (Loss r) = 2 * r + 1
-number_of (Win r) = 2 * r + 2
+abbrev pub answer_number : Answer → ℕ
+answer_number Draw = 0
+answer_number (Loss r) = 2 * r + 1
+answer_number (Win r) = 2 * r + 2
 
 -- the answer that a number stands for; that of no position stands for none
 unfoldable pub answer_of : ℕ → Option Answer

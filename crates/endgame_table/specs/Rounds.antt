@@ -16,8 +16,8 @@ abbrev pub loss : ℕ → ℕ
 loss r = 2 * r + 1
 
 -- the number of some win, and of none
-abbrev pub IsWon : ℕ → Type 0
-IsWon n = (m : ℕ) × (n ≡ win m)
+abbrev pub IsWonNumber : ℕ → Type 0
+IsWonNumber n = (m : ℕ) × (n ≡ win m)
 
 abbrev pub IsNotWon : ℕ → Type 0
 IsNotWon n = (m : ℕ) → n ≡ win m → ⊥
@@ -61,7 +61,7 @@ undecided numbers = count_by (λ n. n == 0) numbers
 -- target is won.
 pub data IsAfterLosses (rank : ℕ) (numbers targets : List ℕ) (before after : ℕ) : Type 0 where
   kept : before ≢ 0 → after ≡ before → IsAfterLosses rank numbers targets before after
-  lost : before ≡ 0 → EachTarget numbers targets IsWon → after ≡ loss rank
+  lost : before ≡ 0 → EachTarget numbers targets IsWonNumber → after ≡ loss rank
       → IsAfterLosses rank numbers targets before after
   left : before ≡ 0 → SomeTarget numbers targets IsNotWon → after ≡ 0
       → IsAfterLosses rank numbers targets before after

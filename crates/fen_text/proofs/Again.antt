@@ -9,7 +9,7 @@ use Rattle.draughts_board.specs.declared.pieces.Side.{Side}
 use Rattle.draughts_board.specs.declared.pieces.Side.TheVariants.{Black, White}
 use Rattle.fen_text.specs.declared.fault.Fault.{Fault}
 use Rattle.fen_text.specs.declared.fault.Fault.TheVariants.{Number}
-use Rattle.fen_text.specs.Grammar.{letter_of, Numeral, one, two, numeral_text, are_digits, value, IsSquareFrom, Item, mark, range_text, item_text, IsItem, comma, list_text, AreItems, Draft, stop_text, opening_text, turn_text, text_of, HasForm}
+use Rattle.fen_text.specs.Grammar.{letter_of, Numeral, one, two, numeral_text, are_digits, value, IsSquareFrom, Item, mark, range_text, item_text, IsItem, comma, list_text, AreItems, Draft, stop_text, opening_text, turn_text, draft_text, HasForm}
 use Rattle.std.specs.Char.{is_ascii_digit}
 use Rattle.fen_text.specs.Spelled.{Group, last_of, group_of, groups_of}
 use Rattle.fen_text.specs.Faults.{ends_before, lead_text, second_list, opening_front}
@@ -177,9 +177,9 @@ stopped : (mover : Side) (groups more : List Group) (stop : Bool) → after_seco
 stopped mover groups more true = refl
 stopped mover groups more false = refl
 
-pub form_again : (d : Draft) → AreItems d.first → AreItems d.second → form_at (text_of d) ≡ Ok (d.to_move, groups_of d)
+pub form_again : (d : Draft) → AreItems d.first → AreItems d.second → form_at (draft_text d) ≡ Ok (d.to_move, groups_of d)
 form_again d first second =
-    let parted : text_of d ≡ opening_front (second_list d.to_move d.colour d.first) ++ (list_text d.second ++ stop_text d.stop) =
+    let parted : draft_text d ≡ opening_front (second_list d.to_move d.colour d.first) ++ (list_text d.second ++ stop_text d.stop) =
     sym (append_assoc (opening_text d.to_move d.colour) (list_text d.first ++ turn_text d.colour) _ ∙ ap (λ t. opening_text d.to_move d.colour ++ t) (append_assoc (list_text d.first) (turn_text d.colour) _)) in
     ap form_at parted ∙ form_at-second d.to_move d.colour d.first (list_text d.second ++ stop_text d.stop) first
     ∙ ap (λ r. r >>= after_second d.to_move (map (group_of d.colour) d.first)) (list_again (other d.colour) d.second (stop_text d.stop) second (stop_closes d.stop))

@@ -13,15 +13,15 @@ use Rattle.fen_text.specs.declared.refusal.FenRefusal.TheVariants.{Twice, TooMan
 use Rattle.fen_text.specs.Spelled.{Group, NoneTwice, IsLeastTwice, cells_named, Spells, IsOver}
 use Rattle.fen_text.specs.Printed.{fen_of}
 use Rattle.fen_text.specs.Reading.{form_at}
-use Rattle.fen_text.specs.Refusal.{IsFault, refusal_at, of_place}
-use Rattle.fen_text.specs.Setup.{Holds}
+use Rattle.fen_text.specs.Refusal.{IsFenFault, refusal_at, of_place}
+use Rattle.fen_text.specs.Setup.{HoldsGroups}
 use Rattle.fen_text.proofs.Verdict.{Verdict, GroupsVerdict, decides, cells_are}
 use Rattle.fen_text.proofs.RoundTrip.{printed_spells}
 
 pub record Answers (text : List ℕ) (r : Result Board FenRefusal) : Type 0 where
   pub ok : (p : Board) → (r ≡ Ok p) ↔ Spells text p
   pub printed : (p : Board) → IsLawful p → text ≡ fen_of p → r ≡ Ok p
-  pub refused : (fault : FenRefusal) → (r ≡ Err fault) ↔ IsFault text fault
+  pub refused : (fault : FenRefusal) → (r ≡ Err fault) ↔ IsFenFault text fault
 
 answers : (text : List ℕ) (r : Result Board FenRefusal) → Verdict (length text) (form_at text) r → Answers text r
 answers text r v = record {
@@ -65,7 +65,7 @@ twice_is twice groups n h e = subst (λ o. MatchOption o (NoneTwice groups) (IsL
 none_twice : (twice : Option ℕ) (groups : List Group) → MatchOption twice (NoneTwice groups) (IsLeastTwice groups) → twice ≡ None → NoneTwice groups
 none_twice twice groups h e = subst (λ o. MatchOption o (NoneTwice groups) (IsLeastTwice groups)) e h
 
-module _ (text : List ℕ) (mover : Side) (cells : List Cell) (twice : Option ℕ) (groups : List Group) (read : form_at text ≡ Ok (mover, groups)) (held : Holds cells twice groups) where
+module _ (text : List ℕ) (mover : Side) (cells : List Cell) (twice : Option ℕ) (groups : List Group) (read : form_at text ≡ Ok (mover, groups)) (held : HoldsGroups cells twice groups) where
   pub held_twice : (n : ℕ) → twice ≡ Some n → Answers text (Err (Twice n))
   held_twice n e = twice_answers text mover groups read n (twice_is twice groups n held.twice e)
 

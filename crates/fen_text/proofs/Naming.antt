@@ -10,7 +10,7 @@ use Rattle.draughts_board.specs.declared.pieces.Side.{Side}
 use Rattle.draughts_board.specs.declared.pieces.Cell.{Cell}
 use Rattle.draughts_board.specs.declared.pieces.Cell.TheVariants.{Empty, Man, King}
 use Rattle.fen_text.specs.Spelled.{Group, piece_of, covers, times_named, NoneTwice, IsLeastTwice, cell_named}
-use Rattle.fen_text.specs.Setup.{Holds, cells_with, least_of, twice_with}
+use Rattle.fen_text.specs.Setup.{HoldsGroups, cells_with, lesser_square, twice_with}
 
 piece-is_no_gap : (side : Side) (king : Bool) → is_empty (piece_of side king) ≡ false
 piece-is_no_gap side true = refl
@@ -74,11 +74,11 @@ record NamesOneMore (old new : List Group) (n : ℕ) (piece : Cell) : Type 0 whe
   here : times_named n new ≡ times_named n old + 1
   cell_here : cell_named n new ≡ cond (is_empty (cell_named n old)) piece (cell_named n old)
 
-module _ (cells : List Cell) (twice : Option ℕ) (old new : List Group) (n : ℕ) (piece : Cell) (square : IsSquare n) (more : NamesOneMore old new n piece) (held : Holds cells twice old) where
+module _ (cells : List Cell) (twice : Option ℕ) (old new : List Group) (n : ℕ) (piece : Cell) (square : IsSquare n) (more : NamesOneMore old new n piece) (held : HoldsGroups cells twice old) where
   place_below : n - 1 < length cells
   place_below = let f = held.full in omega (arith, square.0, square.1, f)
 
-  on_empty : is_empty (get_or cells (n - 1) Empty) ≡ true → Holds (set cells (n - 1) piece) twice new
+  on_empty : is_empty (get_or cells (n - 1) Empty) ≡ true → HoldsGroups (set cells (n - 1) piece) twice new
   on_empty e =
       let named : is_empty (cell_named n old) ≡ true = sym (ap is_empty (held.cells n square)) ∙ e in
       let none = none_if_empty n old named in
@@ -110,7 +110,7 @@ module _ (cells : List Cell) (twice : Option ℕ) (old new : List Group) (n : �
             ];
           }
 
-  on_piece : is_empty (get_or cells (n - 1) Empty) ≡ false → Holds cells (Some (least_of n twice)) new
+  on_piece : is_empty (get_or cells (n - 1) Empty) ≡ false → HoldsGroups cells (Some (lesser_square n twice)) new
   on_piece e =
       let named : is_empty (cell_named n old) ≡ false = sym (ap is_empty (held.cells n square)) ∙ e in
       let some = some_if_not_empty n old named in
@@ -126,7 +126,7 @@ module _ (cells : List Cell) (twice : Option ℕ) (old new : List Group) (n : �
         twice = least twice held.twice two;
       }
     where
-      least : (again : Option ℕ) → MatchOption again (NoneTwice old) (IsLeastTwice old) → 2 ≤ times_named n new → IsLeastTwice new (least_of n again)
+      least : (again : Option ℕ) → MatchOption again (NoneTwice old) (IsLeastTwice old) → 2 ≤ times_named n new → IsLeastTwice new (lesser_square n again)
       least None h two = record {
         square = square;
         twice = two;
@@ -146,7 +146,7 @@ module _ (cells : List Cell) (twice : Option ℕ) (old new : List Group) (n : �
             })
           ]
 
-  holds_more : Holds (cells_with cells n piece) (twice_with cells twice n) new
+  holds_more : HoldsGroups (cells_with cells n piece) (twice_with cells twice n) new
   holds_more =
       elim (cases_Bool (is_empty (get_or cells (n - 1) Empty))) [
         | inl e ↦ rw e (on_empty e)
@@ -201,7 +201,7 @@ one_more groups side king a n least from =
 
 -- a group of which no square is named yet
 pub group_begins : (cells : List Cell) (twice : Option ℕ) (groups : List Group) (side : Side) (king : Bool) (a : ℕ) → 1 ≤ a
-    → Holds cells twice groups → Holds cells twice (groups ++ record { side = side; king = king; first = a; last = a - 1 } ∷ [])
+    → HoldsGroups cells twice groups → HoldsGroups cells twice (groups ++ record { side = side; king = king; first = a; last = a - 1 } ∷ [])
 unfolding part
 group_begins cells twice groups side king a least held =
     let g : Group = part side king a (a - 1) in
@@ -231,15 +231,15 @@ group_begins cells twice groups side king a least held =
 
 -- one more square of a group
 pub group_goes_on : (cells : List Cell) (twice : Option ℕ) (groups : List Group) (side : Side) (king : Bool) (a n : ℕ) → a ≤ n → IsSquare n
-    → Holds cells twice (groups ++ record { side = side; king = king; first = a; last = n - 1 } ∷ [])
-    → Holds (cells_with cells n (piece_of side king)) (twice_with cells twice n) (groups ++ record { side = side; king = king; first = a; last = n } ∷ [])
+    → HoldsGroups cells twice (groups ++ record { side = side; king = king; first = a; last = n - 1 } ∷ [])
+    → HoldsGroups (cells_with cells n (piece_of side king)) (twice_with cells twice n) (groups ++ record { side = side; king = king; first = a; last = n } ∷ [])
 unfolding part
 group_goes_on cells twice groups side king a n from square held =
     holds_more cells twice (groups ++ part side king a (n - 1) ∷ []) (groups ++ part side king a n ∷ []) n (piece_of side king) square (one_more groups side king a n square.0 from) held
 
 -- ---- nothing is named yet
 
-pub nothing_held : (cells : List Cell) → cells ≡ replicate 32 Empty → Holds cells None []
+pub nothing_held : (cells : List Cell) → cells ≡ replicate 32 Empty → HoldsGroups cells None []
 nothing_held cells e = record {
   full = ap length e;
   cells = λ m sq. rw e (get_or-replicate 32 (m - 1) Empty Empty (omega (arith, sq.0, sq.1)));

@@ -9,24 +9,24 @@ use Rattle.fen_text.specs.declared.fault.Fault.TheVariants.{Letter, Number, End}
 use Rattle.fen_text.specs.Grammar.{letter_of, Numeral, one, two, Item, list_text, AreItems, Draft, stop_text, opening_text, turn_text, HasForm}
 use Rattle.std.specs.Char.{is_ascii_digit}
 use Rattle.fen_text.specs.Spelled.{Group, group_of, groups_of}
-use Rattle.fen_text.specs.Faults.{Opening, first_list, second_list, opening_front, IsOpening, Started, nothing, king_mark, range_sign, started_text, least_started, Place, at_side, at_colon, at_colour, at_other_colour, at_list, in_item, behind_item, at_end, front, IsPlace, closing, carries_on, may_stand, may_end, ends_second, is_square_due, least_square, StandsWrong, NumberWrong, lead_text}
+use Rattle.fen_text.specs.Faults.{Introduction, first_list, second_list, opening_front, IsIntroduction, Started, nothing, king_mark, range_sign, started_text, least_started, FenPlace, at_side, at_colon, at_colour, at_other_colour, at_list, in_item, behind_item, at_end, text_before, IsPlace, closing, carries_on, may_stand, may_end, ends_second, is_square_due, least_square, StandsWrong, NumberWrong, lead_text}
 use Rattle.fen_text.specs.Reading.{◌>>=◌, byte_at, side_at, begins_item, list_at, without_stop, end_at, form_at}
 use Rattle.fen_text.proofs.Parts.{begins, stops, not_both}
 use Rattle.fen_text.proofs.Read.{SquareFails, too_short, no_digit, wrong_number, NoDigit, IsStarted}
 use Rattle.fen_text.proofs.ReadList.{ListEnds, no_item, behind_last, ListFails, ListRead, list_read}
 
 -- why a text cannot go on at a place, `rest` being what stands there
-abbrev pub PlaceFails : Place → List ℕ → Fault → Type 0
+abbrev pub PlaceFails : FenPlace → List ℕ → Fault → Type 0
 PlaceFails place rest End = (rest ≡ []) × (may_end place ≡ false)
 PlaceFails place rest (Letter left) = (left ≡ length rest) × (is_square_due place ≡ false) × StandsWrong place rest
 PlaceFails place rest (Number left) = (left ≡ length rest)
     × (((is_square_due place ≡ true) × StandsWrong place rest) ⊎ ((least : ℕ) × (least_square place ≡ Some least) × NumberWrong least rest))
 
 pub record TextFails (text : List ℕ) (f : Fault) : Type 0 where
-  pub place : Place
+  pub place : FenPlace
   pub rest : List ℕ
   pub sound : IsPlace place
-  pub parts : text ≡ front place ++ rest
+  pub parts : text ≡ text_before place ++ rest
   pub fails : PlaceFails place rest f
 
 -- ---- one byte
@@ -69,7 +69,7 @@ side_read (b ∷ behind) =
     ]
 
 -- a byte that was due at the place was not read
-byte_fails : (text : List ℕ) (place : Place) (rest : List ℕ) (f : Fault) (test : ℕ → Bool) → IsPlace place → text ≡ front place ++ rest → may_end place ≡ false → is_square_due place ≡ false
+byte_fails : (text : List ℕ) (place : FenPlace) (rest : List ℕ) (f : Fault) (test : ℕ → Bool) → IsPlace place → text ≡ text_before place ++ rest → may_end place ≡ false → is_square_due place ≡ false
     → ((b : ℕ) (behind : List ℕ) → rest ≡ b ∷ behind → test b ≡ false → may_stand place b ≡ false) → ByteFails test rest f → TextFails text f
 byte_fails text place rest End test is parts no_end no_square others (too_early e) = record { place = place; rest = rest; sound = is; parts = parts; fails = (e, no_end) }
 byte_fails text place rest (Number left) test is parts no_end no_square others e = elim e [ ]
@@ -83,20 +83,20 @@ byte_fails text place rest (Letter left) test is parts no_end no_square others (
 
 -- ---- a list
 
-stands_at_nothing : (rest : List ℕ) → NoDigit rest → begins 75 rest ≡ false → begins 32 rest ≡ false → (opening : Opening) (items : List Item) (more : ℕ) → StandsWrong (in_item opening items more nothing) rest
+stands_at_nothing : (rest : List ℕ) → NoDigit rest → begins 75 rest ≡ false → begins 32 rest ≡ false → (opening : Introduction) (items : List Item) (more : ℕ) → StandsWrong (in_item opening items more nothing) rest
 stands_at_nothing [] digit king blank opening items more = absurd digit
 stands_at_nothing (b ∷ behind) digit king blank opening items more = or_from _ _ (or_from _ _ digit king) blank
 
-stands_at_mark : (rest : List ℕ) → NoDigit rest → (opening : Opening) (items : List Item) (more : ℕ) → StandsWrong (in_item opening items more king_mark) rest
+stands_at_mark : (rest : List ℕ) → NoDigit rest → (opening : Introduction) (items : List Item) (more : ℕ) → StandsWrong (in_item opening items more king_mark) rest
 stands_at_mark [] digit opening items more = absurd digit
 stands_at_mark (b ∷ behind) digit opening items more = digit
 
-stands_at_range : (king : Bool) (first : Numeral) (rest : List ℕ) → NoDigit rest → (opening : Opening) (items : List Item) (more : ℕ) → StandsWrong (in_item opening items more (range_sign king first)) rest
+stands_at_range : (king : Bool) (first : Numeral) (rest : List ℕ) → NoDigit rest → (opening : Introduction) (items : List Item) (more : ℕ) → StandsWrong (in_item opening items more (range_sign king first)) rest
 stands_at_range king first [] digit opening items more = absurd digit
 stands_at_range king first (b ∷ behind) digit opening items more = digit
 
 -- the square that is due in an item was not read
-square_fails : (opening : Opening) (items : List Item) (more : ℕ) (started : Started) (rest : List ℕ) (f : Fault) → SquareFails (least_started started) rest f
+square_fails : (opening : Introduction) (items : List Item) (more : ℕ) (started : Started) (rest : List ℕ) (f : Fault) → SquareFails (least_started started) rest f
     → (started ≡ nothing → begins 75 rest ≡ false) → (started ≡ nothing → begins 32 rest ≡ false) → PlaceFails (in_item opening items more started) rest f
 square_fails opening items more started rest End (too_short e) king blank = (e, refl)
 square_fails opening items more started rest (Letter left) e king blank = elim e [ ]
@@ -105,8 +105,8 @@ square_fails opening items more king_mark rest (Number left) (no_digit e) king b
 square_fails opening items more (range_sign k first) rest (Number left) (no_digit e) king blank = (refl, inl (refl, stands_at_range k first rest e opening items more))
 square_fails opening items more started rest (Number left) (wrong_number e) king blank = (refl, inr (least_started started, refl, e))
 
-in_item_parts : (opening : Opening) (items : List Item) (more : ℕ) (started : Started) (rest : List ℕ)
-    → opening_front opening ++ (lead_text items more ++ (started_text started ++ rest)) ≡ front (in_item opening items more started) ++ rest
+in_item_parts : (opening : Introduction) (items : List Item) (more : ℕ) (started : Started) (rest : List ℕ)
+    → opening_front opening ++ (lead_text items more ++ (started_text started ++ rest)) ≡ text_before (in_item opening items more started) ++ rest
 in_item_parts opening items more started rest =
     sym (append_assoc (opening_front opening) (lead_text items more ++ started_text started) rest ∙ ap (λ t. opening_front opening ++ t) (append_assoc (lead_text items more) (started_text started) rest))
 
@@ -115,13 +115,13 @@ begins_byte [] begin digit king = digit
 begins_byte (b ∷ behind) begin digit king = not_both _ begin (or_from _ _ king digit)
 
 -- a list's first item has not begun, so its number is wrong
-first_number_fails : (text : List ℕ) (opening : Opening) (rest : List ℕ) (f : Fault) → IsOpening opening → text ≡ opening_front opening ++ rest → begins_item rest ≡ true → begins 75 rest ≡ false → SquareFails 1 rest f → TextFails text f
+first_number_fails : (text : List ℕ) (opening : Introduction) (rest : List ℕ) (f : Fault) → IsIntroduction opening → text ≡ opening_front opening ++ rest → begins_item rest ≡ true → begins 75 rest ≡ false → SquareFails 1 rest f → TextFails text f
 first_number_fails text opening rest End is parts begin king (too_short e) = absurd (not_both _ begin (ap begins_item e))
 first_number_fails text opening rest (Letter left) is parts begin king e = elim e [ ]
 first_number_fails text opening rest (Number left) is parts begin king (no_digit e) = absurd (begins_byte rest begin e king)
 first_number_fails text opening rest (Number left) is parts begin king (wrong_number e) = record { place = at_list opening; rest = rest; sound = is; parts = parts; fails = (refl, inr (1, refl, e)) }
 
-item_text_fails : (text : List ℕ) (opening : Opening) (bytes : List ℕ) (f : Fault) → IsOpening opening → text ≡ opening_front opening ++ bytes → begins_item bytes ≡ true
+item_text_fails : (text : List ℕ) (opening : Introduction) (bytes : List ℕ) (f : Fault) → IsIntroduction opening → text ≡ opening_front opening ++ bytes → begins_item bytes ≡ true
     → (items : List Item) (more : ℕ) (started : Started) (rest : List ℕ) → AreItems items → IsStarted started → bytes ≡ lead_text items more ++ (started_text started ++ rest)
     → SquareFails (least_started started) rest f → (started ≡ nothing → begins 75 rest ≡ false) → (started ≡ nothing → begins 32 rest ≡ false) → TextFails text f
 item_text_fails text opening bytes f is parts begin [] more nothing rest all sound bytes_are fails king blank =
@@ -148,7 +148,7 @@ item_text_fails text opening bytes f is parts begin items more (range_sign k fir
   fails = square_fails opening items more (range_sign k first) rest f fails king blank;
 }
 
-list_fails : (text : List ℕ) (opening : Opening) (bytes : List ℕ) (f : Fault) → IsOpening opening → text ≡ opening_front opening ++ bytes → ListFails bytes f → TextFails text f
+list_fails : (text : List ℕ) (opening : Introduction) (bytes : List ℕ) (f : Fault) → IsIntroduction opening → text ≡ opening_front opening ++ bytes → ListFails bytes f → TextFails text f
 list_fails text opening bytes f is parts e =
     item_text_fails text opening bytes f is parts e.begins e.fails.items e.fails.more e.fails.started e.fails.rest e.fails.sound e.fails.sound_start e.fails.parts e.fails.fails e.fails.no_king e.fails.no_blank
 
@@ -161,10 +161,10 @@ no_carry first (Some (one a)) b behind e = not-true _ e
 no_carry first (Some (two x y)) b behind e = refl
 
 -- the place behind a list: only what closes the list may stand there
-record ListPlace (text : List ℕ) (opening : Opening) (rest : List ℕ) : Type 0 where
-  place : Place
+record ListPlace (text : List ℕ) (opening : Introduction) (rest : List ℕ) : Type 0 where
+  place : FenPlace
   sound : IsPlace place
-  parts : text ≡ front place ++ rest
+  parts : text ≡ text_before place ++ rest
   ends : may_end place ≡ ends_second opening
   no_square : is_square_due place ≡ false
   others : (b : ℕ) (behind : List ℕ) → rest ≡ b ∷ behind → (b == closing opening) ≡ false → may_stand place b ≡ false
@@ -172,7 +172,7 @@ record ListPlace (text : List ℕ) (opening : Opening) (rest : List ℕ) : Type 
 begins_no_item : (rest : List ℕ) (b : ℕ) (behind : List ℕ) → rest ≡ b ∷ behind → begins_item rest ≡ false → (is_ascii_digit b || b == 75) ≡ false
 begins_no_item rest b behind e none = (let h : (b == 75 || is_ascii_digit b) ≡ false = sym (ap begins_item e) ∙ none in let p = or_parts (b == 75) (is_ascii_digit b) h in or_from (is_ascii_digit b) (b == 75) p.1 p.0)
 
-list_place : (text : List ℕ) (opening : Opening) (items : List Item) (rest : List ℕ) → IsOpening opening → text ≡ opening_front opening ++ (list_text items ++ rest) → ListEnds items rest → ListPlace text opening rest
+list_place : (text : List ℕ) (opening : Introduction) (items : List Item) (rest : List ℕ) → IsIntroduction opening → text ≡ opening_front opening ++ (list_text items ++ rest) → ListEnds items rest → ListPlace text opening rest
 list_place text opening items rest is parts (no_item e none) = record {
   place = at_list opening;
   sound = is;

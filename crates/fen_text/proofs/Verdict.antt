@@ -13,9 +13,9 @@ use Rattle.fen_text.specs.declared.fault.Fault.TheVariants.{Letter, Number, End}
 use Rattle.fen_text.specs.declared.refusal.FenRefusal.{FenRefusal}
 use Rattle.fen_text.specs.declared.refusal.FenRefusal.TheVariants.{BadLetter, BadSquare, Twice, TooMany, ManOnLastRow, Truncated}
 use Rattle.fen_text.specs.Spelled.{Group, NoneTwice, IsLeastTwice, cell_named, cells_named, Spells, IsOver}
-use Rattle.fen_text.specs.Faults.{front}
+use Rattle.fen_text.specs.Faults.{text_before}
 use Rattle.fen_text.specs.Reading.{form_at}
-use Rattle.fen_text.specs.Refusal.{IsFault, refusal_at, IsWithin}
+use Rattle.fen_text.specs.Refusal.{IsFenFault, refusal_at, IsFaultWithin}
 use Rattle.fen_text.proofs.Lists.{squares_at, squares-length}
 use Rattle.fen_text.proofs.Parts.{not_both}
 use Rattle.fen_text.proofs.Again.{text_again}
@@ -26,7 +26,7 @@ use Rattle.fen_text.proofs.ReadForm.{TextFails, FormRead, FormFound, form_read}
 
 abbrev pub Outcome : List ℕ → Result Board FenRefusal → Type 0
 Outcome text (Ok p) = Spells text p
-Outcome text (Err fault) = IsFault text fault
+Outcome text (Err fault) = IsFenFault text fault
 
 -- what the groups of a text that has the form lead to
 pub record IsNamed (mover : Side) (groups : List Group) (p : Board) : Type 0 where
@@ -57,22 +57,22 @@ Verdict len (Err f) r = r ≡ Err (refusal_at len f)
 
 -- ---- from what the contract says to what was read
 
-at_place : (text front rest : List ℕ) → text ≡ front ++ rest → length text - length rest ≡ length front
-at_place text front rest e = (let l = ap length e ∙ length-append front rest in omega (arith, l))
+at_place : (text text_before rest : List ℕ) → text ≡ text_before ++ rest → length text - length rest ≡ length text_before
+at_place text text_before rest e = (let l = ap length e ∙ length-append text_before rest in omega (arith, l))
 
 to_verdict : (text : List ℕ) (r : Result Board FenRefusal) → Outcome text r → Verdict (length text) (form_at text) r
 to_verdict text (Ok p) h = subst (λ x. Verdict (length text) x (Ok p)) (sym (text_again text h.draft h.form)) (record { once = h.once; lawful = h.lawful; to_move = h.to_move; cells = h.cells })
 to_verdict text (Err (BadLetter at)) h =
     let read : form_at text ≡ Err (Letter (length h.rest)) = ap form_at h.spelled ∙ letter_refused h.place h.rest h.sound h.letter h.wrong in
-    let here : at ≡ length text - length h.rest = h.here ∙ sym (at_place text (front h.place) h.rest h.spelled) in
+    let here : at ≡ length text - length h.rest = h.here ∙ sym (at_place text (text_before h.place) h.rest h.spelled) in
     subst (λ x. Verdict (length text) x (Err (BadLetter at))) (sym read) (ap (λ k. Err (BadLetter k)) here)
 to_verdict text (Err (BadSquare at)) h =
-    let refused : form_at (front h.place ++ h.rest) ≡ Err (Number (length h.rest)) = elim h.wrong [
+    let refused : form_at (text_before h.place ++ h.rest) ≡ Err (Number (length h.rest)) = elim h.wrong [
       | inl w ↦ square_refused h.place h.rest h.sound w.0 w.1
       | inr w ↦ number_refused h.place h.rest w.0 h.sound w.1 w.2
     ] in
     let read : form_at text ≡ Err (Number (length h.rest)) = ap form_at h.spelled ∙ refused in
-    let here : at ≡ length text - length h.rest = h.here ∙ sym (at_place text (front h.place) h.rest h.spelled) in
+    let here : at ≡ length text - length h.rest = h.here ∙ sym (at_place text (text_before h.place) h.rest h.spelled) in
     subst (λ x. Verdict (length text) x (Err (BadSquare at))) (sym read) (ap (λ k. Err (BadSquare k)) here)
 to_verdict text (Err (Twice n)) h = subst (λ x. Verdict (length text) x (Err (Twice n))) (sym (text_again text h.draft h.form)) h.twice
 to_verdict text (Err (TooMany side)) h = subst (λ x. Verdict (length text) x (Err (TooMany side))) (sym (text_again text h.draft h.form)) (h.once, h.over)
@@ -81,13 +81,13 @@ to_verdict text (Err Truncated) h = subst (λ x. Verdict (length text) x (Err Tr
 
 -- ---- and back
 
-place_left : (text front rest : List ℕ) (left : ℕ) → left ≡ length rest → text ≡ front ++ rest → length text - left ≡ length front
-place_left text front rest left is e = (let l = at_place text front rest e in omega (arith, l, is))
+place_left : (text text_before rest : List ℕ) (left : ℕ) → left ≡ length rest → text ≡ text_before ++ rest → length text - left ≡ length text_before
+place_left text text_before rest left is e = (let l = at_place text text_before rest e in omega (arith, l, is))
 
 fault_outcome : (text : List ℕ) (f : Fault) → TextFails text f → Outcome text (Err (refusal_at (length text) f))
-fault_outcome text (Letter left) h = record { place = h.place; rest = h.rest; sound = h.sound; spelled = h.parts; here = place_left text (front h.place) h.rest left h.fails.0 h.parts; letter = h.fails.1; wrong = h.fails.2 }
-fault_outcome text (Number left) h = record { place = h.place; rest = h.rest; sound = h.sound; spelled = h.parts; here = place_left text (front h.place) h.rest left h.fails.0 h.parts; wrong = h.fails.1 }
-fault_outcome text End h = record { place = h.place; sound = h.sound; spelled = h.parts ∙ ap (λ t. front h.place ++ t) h.fails.0 ∙ append-nil (front h.place); due = h.fails.1 }
+fault_outcome text (Letter left) h = record { place = h.place; rest = h.rest; sound = h.sound; spelled = h.parts; here = place_left text (text_before h.place) h.rest left h.fails.0 h.parts; letter = h.fails.1; wrong = h.fails.2 }
+fault_outcome text (Number left) h = record { place = h.place; rest = h.rest; sound = h.sound; spelled = h.parts; here = place_left text (text_before h.place) h.rest left h.fails.0 h.parts; wrong = h.fails.1 }
+fault_outcome text End h = record { place = h.place; sound = h.sound; spelled = h.parts ∙ ap (λ t. text_before h.place ++ t) h.fails.0 ∙ append-nil (text_before h.place); due = h.fails.1 }
 
 groups_outcome : (text : List ℕ) (mover : Side) (groups : List Group) (r : Result Board FenRefusal) → FormFound text mover groups → GroupsVerdict mover groups r → Outcome text r
 groups_outcome text mover groups (Ok p) found v = record { draft = found.draft; form = found.form; once = subst NoneTwice (sym found.groups_are) v.once; lawful = v.lawful; to_move = v.to_move ∙ sym found.mover_is; cells = v.cells ∙ ap cells_named (sym found.groups_are) }
@@ -206,12 +206,12 @@ decides text r s v = (
 
 -- ---- what the reader holds
 
-pub fault_within : (text : List ℕ) (f : Fault) → form_at text ≡ Err f → IsWithin (length text) f
+pub fault_within : (text : List ℕ) (f : Fault) → form_at text ≡ Err f → IsFaultWithin (length text) f
 fault_within text f e = bound f (subst (FormRead text) e (form_read text))
   where
-    bound : (g : Fault) → TextFails text g → IsWithin (length text) g
-    bound (Letter left) h = (let l = ap length h.parts ∙ length-append (front h.place) h.rest in omega (arith, l, h.fails.0))
-    bound (Number left) h = (let l = ap length h.parts ∙ length-append (front h.place) h.rest in omega (arith, l, h.fails.0))
+    bound : (g : Fault) → TextFails text g → IsFaultWithin (length text) g
+    bound (Letter left) h = (let l = ap length h.parts ∙ length-append (text_before h.place) h.rest in omega (arith, l, h.fails.0))
+    bound (Number left) h = (let l = ap length h.parts ∙ length-append (text_before h.place) h.rest in omega (arith, l, h.fails.0))
     bound End h = tt
 
 -- the cells that are as named square by square

@@ -9,7 +9,7 @@ use Rattle.fen_text.specs.declared.fault.Fault.TheVariants.{Letter, Number, End}
 use Rattle.fen_text.specs.Grammar.{letter_of, Numeral, one, two, numeral_text, are_digits, value, Item, mark, IsItem, comma, list_text, AreItems, opening_text}
 use Rattle.std.specs.Char.{is_ascii_digit}
 use Rattle.fen_text.specs.Spelled.{Group, group_of}
-use Rattle.fen_text.specs.Faults.{lead_text, Opening, first_list, second_list, opening_front, IsOpening, Started, nothing, king_mark, range_sign, started_text, HasStarted, least_started, Place, at_side, at_colon, at_colour, at_other_colour, at_list, in_item, behind_item, at_end, front, IsPlace, closing, carries_on, may_end, is_square_due, least_square, StandsWrong, NumberWrong}
+use Rattle.fen_text.specs.Faults.{lead_text, Introduction, first_list, second_list, opening_front, IsIntroduction, Started, nothing, king_mark, range_sign, started_text, HasStarted, least_started, FenPlace, at_side, at_colon, at_colour, at_other_colour, at_list, in_item, behind_item, at_end, text_before, IsPlace, closing, carries_on, may_end, is_square_due, least_square, StandsWrong, NumberWrong}
 use Rattle.fen_text.specs.Reading.{◌>>=◌, byte_at, side_at, square_at, king_at, last_at, item_at, items_at, begins_item, list_at, end_at, form_at}
 use Rattle.fen_text.proofs.Items.{then_items, items_at-step, with_front}
 use Rattle.fen_text.proofs.Parts.{begins, digit_below, digit_above, stops, stops_at_end, ends_at_range}
@@ -87,11 +87,11 @@ first_begins (range_sign king first) rest has = ap begins_item (range_parts king
 
 -- ---- lists
 
-abbrev pub colour_of : Opening → Side
+abbrev pub colour_of : Introduction → Side
 colour_of (first_list mover colour) = colour
 colour_of (second_list mover colour items) = other colour
 
-list_fails : (opening : Opening) (rest : List ℕ) (f : Fault) → IsOpening opening → list_at (colour_of opening) rest ≡ Err f → form_at (opening_front opening ++ rest) ≡ Err f
+list_fails : (opening : Introduction) (rest : List ℕ) (f : Fault) → IsIntroduction opening → list_at (colour_of opening) rest ≡ Err f → form_at (opening_front opening ++ rest) ≡ Err f
 list_fails (first_list mover colour) rest f is e = form_at-first mover colour rest ∙ ap (λ r. r >>= after_first mover colour) e
 list_fails (second_list mover colour items) rest f is e = form_at-second mover colour items rest is ∙ ap (λ r. r >>= after_second mover (map (group_of colour) items)) e
 
@@ -102,19 +102,19 @@ lead_begins : (items : List Item) (blanks : ℕ) (started : Started) (rest : Lis
 lead_begins [] blanks started rest all has = first_begins started rest has
 lead_begins (i ∷ items) blanks started rest all has = ap begins_item (append_assoc (list_text (i ∷ items)) (comma blanks) (started_text started ++ rest)) ∙ list_begins i items _ all.0
 
-in_item_fails : (opening : Opening) (items : List Item) (blanks : ℕ) (started : Started) (rest : List ℕ) (f : Fault) → IsPlace (in_item opening items blanks started) → is_ready started rest ≡ true
-    → square_at (least_started started) rest ≡ Err f → form_at (front (in_item opening items blanks started) ++ rest) ≡ Err f
+in_item_fails : (opening : Introduction) (items : List Item) (blanks : ℕ) (started : Started) (rest : List ℕ) (f : Fault) → IsPlace (in_item opening items blanks started) → is_ready started rest ≡ true
+    → square_at (least_started started) rest ≡ Err f → form_at (text_before (in_item opening items blanks started) ++ rest) ≡ Err f
 in_item_fails opening items blanks started rest f is ready e =
     let side = colour_of opening in
     let tail : List ℕ = started_text started ++ rest in
-    let parted : front (in_item opening items blanks started) ++ rest ≡ opening_front opening ++ (lead_text items blanks ++ tail) =
+    let parted : text_before (in_item opening items blanks started) ++ rest ≡ opening_front opening ++ (lead_text items blanks ++ tail) =
     append_assoc (opening_front opening) (lead_text items blanks ++ started_text started) rest ∙ ap (λ t. opening_front opening ++ t) (append_assoc (lead_text items blanks) (started_text started) rest) in
     let item : items_at side tail ≡ Err f = first_item_fails side tail f (item_fails side items started rest f is.2 ready e) in
     let whole : items_at side (lead_text items blanks ++ tail) ≡ Err f = items_before side items blanks tail is.1 (started_begins items started rest is.2 ready) ∙ ap (with_front (map (group_of side) items)) item in
     ap form_at parted ∙ list_fails opening (lead_text items blanks ++ tail) f is.0 (list_at-items side (lead_text items blanks ++ tail) (lead_begins items blanks started rest is.1 is.2) ∙ whole)
 
 -- a list was read, and a byte stands behind it that does not close it
-not_closed : (opening : Opening) (rest : List ℕ) (groups : List Group) (b : ℕ) (behind : List ℕ) → IsOpening opening → list_at (colour_of opening) rest ≡ Ok (groups, b ∷ behind) → (b == closing opening) ≡ false
+not_closed : (opening : Introduction) (rest : List ℕ) (groups : List Group) (b : ℕ) (behind : List ℕ) → IsIntroduction opening → list_at (colour_of opening) rest ≡ Ok (groups, b ∷ behind) → (b == closing opening) ≡ false
     → form_at (opening_front opening ++ rest) ≡ Err (Letter (suc (length behind)))
 unfolding byte_at
 not_closed (first_list mover colour) rest groups b behind is read wrong =
@@ -133,10 +133,10 @@ snoc_begins : (items : List Item) (item : Item) (rest : List ℕ) → AreItems i
 snoc_begins [] item rest all is = list_begins item [] rest is
 snoc_begins (i ∷ items) item rest all is = list_begins i (items ++ item ∷ []) rest all.0
 
-behind_parts : (opening : Opening) (items : List Item) (item : Item) (rest : List ℕ) → front (behind_item opening items item) ++ rest ≡ opening_front opening ++ (list_text (items ++ item ∷ []) ++ rest)
+behind_parts : (opening : Introduction) (items : List Item) (item : Item) (rest : List ℕ) → text_before (behind_item opening items item) ++ rest ≡ opening_front opening ++ (list_text (items ++ item ∷ []) ++ rest)
 behind_parts opening items item rest = append_assoc (opening_front opening) (list_text (items ++ item ∷ [])) rest
 
-behind_read : (opening : Opening) (items : List Item) (item : Item) (rest : List ℕ) → IsPlace (behind_item opening items item) → stops item.first item.last rest ≡ true → begins 44 rest ≡ false
+behind_read : (opening : Introduction) (items : List Item) (item : Item) (rest : List ℕ) → IsPlace (behind_item opening items item) → stops item.first item.last rest ≡ true → begins 44 rest ≡ false
     → list_at (colour_of opening) (list_text (items ++ item ∷ []) ++ rest) ≡ Ok (map (group_of (colour_of opening)) (items ++ item ∷ []), rest)
 behind_read opening items item rest is ends none =
     list_at-items (colour_of opening) (list_text (items ++ item ∷ []) ++ rest) (snoc_begins items item rest is.1 is.2) ∙ items_again (colour_of opening) items item rest is.1 is.2 ends none
@@ -144,23 +144,23 @@ behind_read opening items item rest is ends none =
 -- ---- a byte that may not stand there, and no square is due
 
 other_colour_due : (mover colour : Side) (items : List Item) (rest : List ℕ) → AreItems items
-    → form_at (front (at_other_colour mover colour items) ++ rest) ≡ (byte_at (letter_of (other colour)) rest >>= λ second. list_at (other colour) second >>= after_second mover (map (group_of colour) items))
+    → form_at (text_before (at_other_colour mover colour items) ++ rest) ≡ (byte_at (letter_of (other colour)) rest >>= λ second. list_at (other colour) second >>= after_second mover (map (group_of colour) items))
 unfolding byte_at
 other_colour_due mover colour items rest all =
-    let parted : front (at_other_colour mover colour items) ++ rest ≡ opening_text mover colour ++ (list_text items ++ (58 ∷ rest)) =
+    let parted : text_before (at_other_colour mover colour items) ++ rest ≡ opening_text mover colour ++ (list_text items ++ (58 ∷ rest)) =
     append_assoc (opening_text mover colour) (list_text items ++ 58 ∷ []) rest ∙ ap (λ t. opening_text mover colour ++ t) (append_assoc (list_text items) (58 ∷ []) rest) in
     ap form_at parted ∙ form_at-first mover colour (list_text items ++ (58 ∷ rest)) ∙ ap (λ r. r >>= after_first mover colour) (list_again colour items (58 ∷ rest) all refl)
 
 end_due : (mover colour : Side) (first second : List Item) (rest : List ℕ) → AreItems first → AreItems second
-    → form_at (front (at_end mover colour first second) ++ rest) ≡ (end_at rest >>= λ over. Ok (mover, map (group_of colour) first ++ map (group_of (other colour)) second))
+    → form_at (text_before (at_end mover colour first second) ++ rest) ≡ (end_at rest >>= λ over. Ok (mover, map (group_of colour) first ++ map (group_of (other colour)) second))
 end_due mover colour first second rest all_first all_second =
-    let opening : Opening = second_list mover colour first in
-    let parted : front (at_end mover colour first second) ++ rest ≡ opening_front opening ++ (list_text second ++ (46 ∷ rest)) =
+    let opening : Introduction = second_list mover colour first in
+    let parted : text_before (at_end mover colour first second) ++ rest ≡ opening_front opening ++ (list_text second ++ (46 ∷ rest)) =
     append_assoc (opening_front opening) (list_text second ++ 46 ∷ []) rest ∙ ap (λ t. opening_front opening ++ t) (append_assoc (list_text second) (46 ∷ []) rest) in
     ap form_at parted ∙ form_at-second mover colour first (list_text second ++ (46 ∷ rest)) all_first
     ∙ ap (λ r. r >>= after_second mover (map (group_of colour) first)) (list_again (other colour) second (46 ∷ rest) all_second refl)
 
-pub letter_refused : (place : Place) (rest : List ℕ) → IsPlace place → is_square_due place ≡ false → StandsWrong place rest → form_at (front place ++ rest) ≡ Err (Letter (length rest))
+pub letter_refused : (place : FenPlace) (rest : List ℕ) → IsPlace place → is_square_due place ≡ false → StandsWrong place rest → form_at (text_before place ++ rest) ≡ Err (Letter (length rest))
 unfolding form_at byte_at side_at
 letter_refused place [] is due wrong = absurd wrong
 letter_refused at_side (b ∷ behind) is due wrong = (let p = or_parts _ _ wrong in let x : (b == 66) ≡ false = p.0 in let y : (b == 87) ≡ false = p.1 in rw (x, y) refl)
@@ -186,7 +186,7 @@ letter_refused (at_end mover colour first second) (b ∷ behind) is due wrong = 
 
 -- ---- a square is due
 
-pub square_refused : (place : Place) (rest : List ℕ) → IsPlace place → is_square_due place ≡ true → StandsWrong place rest → form_at (front place ++ rest) ≡ Err (Number (length rest))
+pub square_refused : (place : FenPlace) (rest : List ℕ) → IsPlace place → is_square_due place ≡ true → StandsWrong place rest → form_at (text_before place ++ rest) ≡ Err (Number (length rest))
 square_refused place [] is due wrong = absurd wrong
 square_refused (in_item opening items blanks nothing) (b ∷ behind) is due wrong =
     let p = or_parts _ _ wrong in
@@ -215,7 +215,7 @@ number_ready (range_sign king first) least rest wrong = refl
 some_is : (x y : ℕ) → Some x ≡ Some y → x ≡ y
 some_is x y e = cc
 
-pub number_refused : (place : Place) (rest : List ℕ) (least : ℕ) → IsPlace place → least_square place ≡ Some least → NumberWrong least rest → form_at (front place ++ rest) ≡ Err (Number (length rest))
+pub number_refused : (place : FenPlace) (rest : List ℕ) (least : ℕ) → IsPlace place → least_square place ≡ Some least → NumberWrong least rest → form_at (text_before place ++ rest) ≡ Err (Number (length rest))
 number_refused (at_list opening) rest least is due wrong =
     let side = colour_of opening in
     let one_least : NumberWrong 1 rest = subst (λ k. NumberWrong k rest) (sym (some_is 1 least due)) wrong in
@@ -244,17 +244,17 @@ list_then_end : (mover colour : Side) (rest : List ℕ) (groups : List Group) �
 unfolding byte_at
 list_then_end mover colour rest groups read = form_at-first mover colour rest ∙ ap (λ r. r >>= after_first mover colour) read
 
-pub end_refused : (place : Place) → IsPlace place → may_end place ≡ false → form_at (front place) ≡ Err End
+pub end_refused : (place : FenPlace) → IsPlace place → may_end place ≡ false → form_at (text_before place) ≡ Err End
 unfolding form_at byte_at side_at
 end_refused at_side is due = refl
 end_refused (at_colon Black) is due = refl
 end_refused (at_colon White) is due = refl
 end_refused (at_colour Black) is due = refl
 end_refused (at_colour White) is due = refl
-end_refused (at_other_colour mover colour items) is due = ap form_at (sym (append-nil (front (at_other_colour mover colour items)))) ∙ other_colour_due mover colour items [] is
+end_refused (at_other_colour mover colour items) is due = ap form_at (sym (append-nil (text_before (at_other_colour mover colour items)))) ∙ other_colour_due mover colour items [] is
 end_refused (at_list (first_list mover colour)) is due = ap form_at (sym (append-nil (opening_text mover colour))) ∙ list_then_end mover colour [] [] (list_at-none colour [] refl)
 end_refused (at_list (second_list mover colour items)) is due = absurd (let h : true ≡ false = due in cc)
-end_refused (in_item opening items blanks started) is due = ap form_at (sym (append-nil (front (in_item opening items blanks started)))) ∙ in_item_fails opening items blanks started [] End is (ready_at_end started) (no_more (least_started started))
+end_refused (in_item opening items blanks started) is due = ap form_at (sym (append-nil (text_before (in_item opening items blanks started)))) ∙ in_item_fails opening items blanks started [] End is (ready_at_end started) (no_more (least_started started))
 end_refused (behind_item (first_list mover colour) items item) is due =
     let text : List ℕ = list_text (items ++ item ∷ []) in
     let read : list_at colour text ≡ Ok (map (group_of colour) (items ++ item ∷ []), []) = ap (list_at colour) (sym (append-nil text)) ∙ behind_read (first_list mover colour) items item [] is (stops_at_end item.first item.last) refl in

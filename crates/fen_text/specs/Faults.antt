@@ -9,9 +9,9 @@ use Rattle.std.specs.Char.{is_ascii_digit}
 -- ---- places
 
 -- everything up to a letter of colour: up to the first, or up to the second
-pub data Opening : Type 0 where
-  first_list : Side → Side → Opening
-  second_list : Side → Side → List Item → Opening
+pub data Introduction : Type 0 where
+  first_list : Side → Side → Introduction
+  second_list : Side → Side → List Item → Introduction
 
 -- how far an item has come: nothing of it stands yet, or its `K`, or its first square and the `-`
 -- of a range
@@ -20,27 +20,27 @@ pub data Started : Type 0 where
   king_mark : Started
   range_sign : Bool → Numeral → Started
 
-pub data Place : Type 0 where
+pub data FenPlace : Type 0 where
   -- at the beginning, where the side letter is due
-  at_side : Place
+  at_side : FenPlace
   -- behind the side letter
-  at_colon : Side → Place
+  at_colon : Side → FenPlace
   -- behind the first `:`
-  at_colour : Side → Place
+  at_colour : Side → FenPlace
   -- behind the second `:`
-  at_other_colour : Side → Side → List Item → Place
+  at_other_colour : Side → Side → List Item → FenPlace
   -- behind a letter of colour
-  at_list : Opening → Place
+  at_list : Introduction → FenPlace
   -- in an item, behind the items before it and a comma with so many blanks
-  in_item : Opening → List Item → ℕ → Started → Place
+  in_item : Introduction → List Item → ℕ → Started → FenPlace
   -- behind an item, and the items before it
-  behind_item : Opening → List Item → Item → Place
+  behind_item : Introduction → List Item → Item → FenPlace
   -- behind the full stop
-  at_end : Side → Side → List Item → List Item → Place
+  at_end : Side → Side → List Item → List Item → FenPlace
 
 -- ---- the text before a place
 
-abbrev pub opening_front : Opening → List ℕ
+abbrev pub opening_front : Introduction → List ℕ
 opening_front (first_list to_move colour) = opening_text to_move colour
 opening_front (second_list to_move colour items) =
     opening_text to_move colour ++ (list_text items ++ turn_text colour)
@@ -55,22 +55,23 @@ abbrev pub lead_text : List Item → ℕ → List ℕ
 lead_text [] blanks = []
 lead_text (i ∷ items) blanks = list_text (i ∷ items) ++ comma blanks
 
-abbrev pub front : Place → List ℕ
-front at_side = []
-front (at_colon to_move) = letter_of to_move ∷ []
-front (at_colour to_move) = letter_of to_move ∷ 58 ∷ []
-front (at_other_colour to_move colour items) =
+abbrev pub text_before : FenPlace → List ℕ
+text_before at_side = []
+text_before (at_colon to_move) = letter_of to_move ∷ []
+text_before (at_colour to_move) = letter_of to_move ∷ 58 ∷ []
+text_before (at_other_colour to_move colour items) =
     opening_text to_move colour ++ (list_text items ++ 58 ∷ [])
-front (at_list opening) = opening_front opening
-front (in_item opening items blanks started) =
+text_before (at_list opening) = opening_front opening
+text_before (in_item opening items blanks started) =
     opening_front opening ++ (lead_text items blanks ++ started_text started)
-front (behind_item opening items item) = opening_front opening ++ list_text (items ++ item ∷ [])
-front (at_end to_move colour first second) =
+text_before (behind_item opening items item) =
+    opening_front opening ++ list_text (items ++ item ∷ [])
+text_before (at_end to_move colour first second) =
     opening_front (second_list to_move colour first) ++ (list_text second ++ 46 ∷ [])
 
-abbrev pub IsOpening : Opening → Type 0
-IsOpening (first_list to_move colour) = Unit {0}
-IsOpening (second_list to_move colour items) = AreItems items
+abbrev pub IsIntroduction : Introduction → Type 0
+IsIntroduction (first_list to_move colour) = Unit {0}
+IsIntroduction (second_list to_move colour items) = AreItems items
 
 -- a list's first item is no longer due once it has not begun: the list may be empty
 abbrev pub HasStarted : List Item → Started → Type 0
@@ -79,21 +80,21 @@ HasStarted items king_mark = Unit {0}
 HasStarted items (range_sign king first) = IsSquareFrom 1 first
 
 -- all that stands before the place keeps to the grammar
-abbrev pub IsPlace : Place → Type 0
+abbrev pub IsPlace : FenPlace → Type 0
 IsPlace at_side = Unit {0}
 IsPlace (at_colon to_move) = Unit {0}
 IsPlace (at_colour to_move) = Unit {0}
 IsPlace (at_other_colour to_move colour items) = AreItems items
-IsPlace (at_list opening) = IsOpening opening
+IsPlace (at_list opening) = IsIntroduction opening
 IsPlace (in_item opening items blanks started) =
-    IsOpening opening × AreItems items × HasStarted items started
-IsPlace (behind_item opening items item) = IsOpening opening × AreItems items × IsItem item
+    IsIntroduction opening × AreItems items × HasStarted items started
+IsPlace (behind_item opening items item) = IsIntroduction opening × AreItems items × IsItem item
 IsPlace (at_end to_move colour first second) = AreItems first × AreItems second
 
 -- ---- what may stand at a place
 
 -- what may stand behind a list: the second `:`, or the full stop
-abbrev pub closing : Opening → ℕ
+abbrev pub closing : Introduction → ℕ
 closing (first_list to_move colour) = 58
 closing (second_list to_move colour items) = 46
 
@@ -112,7 +113,7 @@ may_begin nothing b = is_ascii_digit b || b == 75 || b == 32
 may_begin king_mark b = is_ascii_digit b
 may_begin (range_sign king first) b = is_ascii_digit b
 
-abbrev pub may_stand : Place → ℕ → Bool
+abbrev pub may_stand : FenPlace → ℕ → Bool
 may_stand at_side b = b == 66 || b == 87
 may_stand (at_colon to_move) b = b == 58
 may_stand (at_colour to_move) b = b == 66 || b == 87
@@ -124,11 +125,11 @@ may_stand (behind_item opening items item) b =
 may_stand (at_end to_move colour first second) b = false
 
 -- the text may end behind the second list and behind the full stop
-abbrev pub ends_second : Opening → Bool
+abbrev pub ends_second : Introduction → Bool
 ends_second (first_list to_move colour) = false
 ends_second (second_list to_move colour items) = true
 
-abbrev pub may_end : Place → Bool
+abbrev pub may_end : FenPlace → Bool
 may_end at_side = false
 may_end (at_colon to_move) = false
 may_end (at_colour to_move) = false
@@ -139,7 +140,7 @@ may_end (behind_item opening items item) = ends_second opening
 may_end (at_end to_move colour first second) = true
 
 -- a square is due in an item, and nowhere else: a list may be empty
-abbrev pub is_square_due : Place → Bool
+abbrev pub is_square_due : FenPlace → Bool
 is_square_due at_side = false
 is_square_due (at_colon to_move) = false
 is_square_due (at_colour to_move) = false
@@ -155,7 +156,7 @@ least_started nothing = 1
 least_started king_mark = 1
 least_started (range_sign king first) = value first
 
-abbrev pub least_square : Place → Option ℕ
+abbrev pub least_square : FenPlace → Option ℕ
 least_square at_side = None
 least_square (at_colon to_move) = None
 least_square (at_colour to_move) = None
@@ -168,7 +169,7 @@ least_square (at_end to_move colour first second) = None
 -- ---- faults
 
 -- a byte that may not stand at the place
-abbrev pub StandsWrong : Place → List ℕ → Type 0
+abbrev pub StandsWrong : FenPlace → List ℕ → Type 0
 StandsWrong place [] = ⊥
 StandsWrong place (b ∷ behind) = may_stand place b ≡ false
 
@@ -188,29 +189,29 @@ pub record NumberWrong (least : ℕ) (rest : List ℕ) : Type 0 where
   pub wrong : (value number < least) ⊎ (32 < value number)
 
 -- the text breaks off at a place where it may not end
-pub record IsTruncated (text : List ℕ) : Type 0 where
-  pub place : Place
+pub record IsTruncatedFen (text : List ℕ) : Type 0 where
+  pub place : FenPlace
   pub sound : IsPlace place
-  pub spelled : text ≡ front place
+  pub spelled : text ≡ text_before place
   pub due : may_end place ≡ false
 
 -- the byte at `at` may not stand there, and no square is due there
 pub record IsBadLetter (text : List ℕ) (at : ℕ) : Type 0 where
-  pub place : Place
+  pub place : FenPlace
   pub rest : List ℕ
   pub sound : IsPlace place
-  pub spelled : text ≡ front place ++ rest
-  pub here : at ≡ length (front place)
+  pub spelled : text ≡ text_before place ++ rest
+  pub here : at ≡ length (text_before place)
   pub letter : is_square_due place ≡ false
   pub wrong : StandsWrong place rest
 
 -- a square is due at `at` and the byte there may not stand there, or a number stands there that may
 -- not
 pub record IsBadSquare (text : List ℕ) (at : ℕ) : Type 0 where
-  pub place : Place
+  pub place : FenPlace
   pub rest : List ℕ
   pub sound : IsPlace place
-  pub spelled : text ≡ front place ++ rest
-  pub here : at ≡ length (front place)
+  pub spelled : text ≡ text_before place ++ rest
+  pub here : at ≡ length (text_before place)
   pub wrong : ((is_square_due place ≡ true) × StandsWrong place rest)
       ⊎ ((least : ℕ) × (least_square place ≡ Some least) × NumberWrong least rest)

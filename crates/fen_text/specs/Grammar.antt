@@ -103,8 +103,8 @@ opening_text to_move colour = letter_of to_move ∷ 58 ∷ letter_of colour ∷ 
 abbrev pub turn_text : Side → List ℕ
 turn_text colour = 58 ∷ letter_of (other colour) ∷ []
 
-abbrev pub text_of : Draft → List ℕ
-text_of d =
+abbrev pub draft_text : Draft → List ℕ
+draft_text d =
     opening_text d.to_move d.colour
     ++ (list_text d.first ++ (turn_text d.colour ++ (list_text d.second ++ stop_text d.stop)))
 
@@ -112,4 +112,4 @@ text_of d =
 pub record HasForm (text : List ℕ) (d : Draft) : Type 0 where
   pub first : AreItems d.first
   pub second : AreItems d.second
-  pub spelled : text ≡ text_of d
+  pub spelled : text ≡ draft_text d

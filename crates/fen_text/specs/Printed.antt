@@ -5,7 +5,7 @@ use Rattle.draughts_board.specs.declared.pieces.Side.{Side}
 use Rattle.draughts_board.specs.declared.pieces.Side.TheVariants.{Black, White}
 use Rattle.draughts_board.specs.declared.pieces.Cell.{Cell}
 use Rattle.draughts_board.specs.declared.pieces.Cell.TheVariants.{Empty, Man, King}
-use Rattle.fen_text.specs.Grammar.{Numeral, one, two, Item, item_text, Draft, text_of}
+use Rattle.fen_text.specs.Grammar.{Numeral, one, two, Item, item_text, Draft, draft_text}
 
 -- the number in decimal, with no 0 in front
 abbrev pub decimal : ℕ → Numeral
@@ -45,4 +45,4 @@ printed p = record {
 
 -- the printed FEN
 unfoldable pub fen_of : Board → List ℕ
-fen_of p = text_of (printed p)
+fen_of p = draft_text (printed p)

@@ -16,8 +16,8 @@ pub fn spelled_tells_apart()
     ensures { SpelledTellsApart }
 {}
 
-/// A printed FEN has only digits and the bytes `,`, `:`, `B`, `K` and `W`: it may stand in a line, between blanks
-/// and between quotes.
+/// A printed FEN has only digits and the bytes `,`, `:`, `B`, `K` and `W`: it may stand in a line,
+/// between blanks and between quotes.
 pub fn printed_is_plain()
     ensures { PrintedIsPlain }
 {}

@@ -1,9 +1,10 @@
 //! FEN, the text of a position: read whole, and printed in one spelling.
 //!
-//! `B:W16,19:B12` is Black to move, with White men on 16 and 19 and a Black man on 12; `K` before a square stands
-//! for a king. The grammar stands in `specs/Grammar.antt`. Reading accepts every spelling in it of a position that
-//! keeps the rule on pieces, and refuses everything else with the first fault and its place; printing gives one
-//! spelling, and what was printed is read back as the same position.
+//! `B:W16,19:B12` is Black to move, with White men on 16 and 19 and a Black man on 12; `K` before a
+//! square stands for a king. The grammar stands in `specs/Grammar.antt`. Reading accepts every
+//! spelling in it of a position that keeps the rule on pieces, and refuses everything else with the
+//! first fault and its place; printing gives one spelling, and what was printed is read back as the
+//! same position.
 #![tactic(auto)]
 
 mod fault;

@@ -69,8 +69,8 @@ fn push_list(text: &mut ArrayString<104>, p: &Position, side: Side)
 
 /// The printed FEN of a position: the side to move, `:W`, White's pieces, `:B`, Black's pieces.
 ///
-/// A side's pieces stand in rising order of square with commas between, and `K` before a king's. There are no
-/// blanks, no ranges and no full stop. A side without pieces has none: `W:W:BK2`.
+/// A side's pieces stand in rising order of square with commas between, and `K` before a king's.
+/// There are no blanks, no ranges and no full stop. A side without pieces has none: `W:W:BK2`.
 #[tactic(auto, unfolding(crate::specs::Printed::fen_of))]
 pub fn print_fen(p: &Position) -> ArrayString<104>
     ensures text { result.bytes ≡ fen_of p.now }

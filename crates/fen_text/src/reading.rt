@@ -4,7 +4,7 @@ ghost use Rattle.std.specs.Option.{option_map};
 ghost use Rattle.draughts_board.specs.Board.{Board, IsLawful};
 ghost use Rattle.fen_text.specs.Spelled.{Spells};
 ghost use Rattle.fen_text.specs.Printed.{fen_of};
-ghost use Rattle.fen_text.specs.Refusal.{IsFault, IsWithin, refusal_at};
+ghost use Rattle.fen_text.specs.Refusal.{IsFenFault, IsFaultWithin, refusal_at};
 ghost use Rattle.fen_text.specs.declared.refusal.FenRefusal.{FenRefusal};
 ghost use Rattle.fen_text.specs.Reading.{Gives, byte_at, side_at, second_digit, square_at, king_at, last_at};
 ghost use Rattle.fen_text.specs.Reading.{item_at, without_blanks, after_comma, items_at, list_at, without_stop};
@@ -220,7 +220,7 @@ fn form(text: &[u8]) -> Result<(Side, Setup), Fault>
 
 /// The refusal that answers a fault in a text of this length.
 fn refusal_of(fault: Fault, len: usize) -> FenRefusal
-    requires { IsWithin len fault }
+    requires { IsFaultWithin len fault }
     ensures { result ≡ refusal_at len fault }
 {
     match fault {
@@ -232,14 +232,14 @@ fn refusal_of(fault: Fault, len: usize) -> FenRefusal
 
 /// The position that a FEN spells.
 ///
-/// Every spelling of the grammar is read: either order of the lists, ranges, `K` before an item, blanks behind a
-/// comma, a 0 before a square of one digit, and a full stop at the end. Squares are numbered 1 to 32 and places
-/// are bytes from 0. No memory is taken.
+/// Every spelling of the grammar is read: either order of the lists, ranges, `K` before an item,
+/// blanks behind a comma, a 0 before a square of one digit, and a full stop at the end. Squares are
+/// numbered 1 to 32 and places are bytes from 0. No memory is taken.
 ///
-/// The first place that cannot go on is answered: `BadLetter`, `BadSquare` or `Truncated`. Of a text that has the
-/// form, the least square that is named more than once is answered as `Twice`; else a side with more than 12
-/// pieces as `TooMany`, Black counted first; else the least square with a man on its farthest row as
-/// `ManOnLastRow`.
+/// The first place that cannot go on is answered: `BadLetter`, `BadSquare` or `Truncated`. Of a
+/// text that has the form, the least square that is named more than once is answered as `Twice`;
+/// else a side with more than 12 pieces as `TooMany`, Black counted first; else the least square
+/// with a man on its farthest row as `ManOnLastRow`.
 pub fn read_fen(text: &[u8]) -> Result<Position, FenRefusal>
     // What is read is what the text spells.
     ensures ok { (p : Board) → (result ≡ Ok p) ↔ Spells text.now p }
@@ -248,7 +248,7 @@ pub fn read_fen(text: &[u8]) -> Result<Position, FenRefusal>
     ensures printed { (p : Board) → IsLawful p → text.now ≡ fen_of p → result ≡ Ok p }
 
     // Each refusal comes exactly where the text has that fault.
-    ensures refused { (fault : FenRefusal) → (result ≡ Err fault) ↔ IsFault text.now fault }
+    ensures refused { (fault : FenRefusal) → (result ≡ Err fault) ↔ IsFenFault text.now fault }
 {
     let (to_move, setup) = match form(text) {
         Ok(found) => found,

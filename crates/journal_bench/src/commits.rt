@@ -80,7 +80,8 @@ pub fn tell<D: Disk + Drop>(
     let (_, payloads) = read_journal(rt.alloc(), &mut disk)?;
     let read = payloads.len();
     println!(rt;
-        "{place}, {at_once} of {size} bytes at a time: {number} payloads, {calls} calls, {bytes} bytes, {read} read back"
+        "{place}, {at_once} of {size} bytes at a time: {number} payloads, \
+        {calls} calls, {bytes} bytes, {read} read back"
     )?;
     Ok(())
 }

@@ -1,10 +1,10 @@
 //! Commits payloads to a journal, 1, 4 and 64 at a time.
 //!
-//! Without words it does so in memory and on a file in the folder that it runs in, and prints how many payloads stand
-//! in the journal, how many calls the disk had, how many bytes it holds and how many payloads are read back; then it
-//! commits one payload of a megabyte. With the words `time PATH` it prints commits and payloads a second on a file at
-//! that path and in memory, and beside them how often a second the same bytes are written and synced there without a
-//! journal.
+//! Without words it does so in memory and on a file in the folder that it runs in, and prints how
+//! many payloads stand in the journal, how many calls the disk had, how many bytes it holds and how
+//! many payloads are read back; then it commits one payload of a megabyte. With the words `time
+//! PATH` it prints commits and payloads a second on a file at that path and in memory, and beside
+//! them how often a second the same bytes are written and synced there without a journal.
 #![tactic(auto)]
 
 mod commits;

@@ -25,7 +25,8 @@ fn time_commits<D: Disk + Drop>(rt: &HostRuntime, disk: D, at_once: usize) -> Re
     Ok(start.elapsed(rt)?.as_micros())
 }
 
-/// Microseconds that so many writes of a frame's size take on a disk, one behind another and each with a sync.
+/// Microseconds that so many writes of a frame's size take on a disk, one behind another and each
+/// with a sync.
 fn time_writes<D: Disk + Drop>(rt: &HostRuntime, disk: D, size: usize) -> Result<u128> {
     let mut disk = disk;
     let bytes = payload_of(rt.alloc(), size)?;
@@ -44,7 +45,8 @@ fn tell(rt: &HostRuntime, place: &str, at_once: usize, journal: u128, bare: u128
     let payloads = commits.saturating_mul(at_once as u128);
     let writes = per_second(COMMITS, bare);
     println!(rt;
-        "{place}, {at_once} at a time: {commits} commits/s, {payloads} payloads/s; bare: {writes} writes with a sync/s"
+        "{place}, {at_once} at a time: {commits} commits/s, {payloads} payloads/s; \
+        bare: {writes} writes with a sync/s"
     )?;
     Ok(())
 }

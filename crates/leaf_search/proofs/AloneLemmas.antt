@@ -11,7 +11,7 @@ use Rattle.strategy_certificate.specs.declared.certificates.Part.TheVariants as 
 use Rattle.strategy_certificate.specs.declared.certificates.Certificate.{Certificate}
 use Rattle.strategy_certificate.specs.Certificates.{claim_of, due_claims, IsGoodPart, IsGoodBy}
 use Rattle.certificate_checker.specs.declared.refusals.CheckRefusal.{CheckRefusal}
-use Rattle.certificate_checker.specs.Refusals.{is_memory}
+use Rattle.certificate_checker.specs.Refusals.{check_wants_memory}
 
 due_alone : (one : Part) → map claim_of (one ∷ []) ≡ due_claims (claim_of one)
 due_alone (part.Win list) = refl
@@ -32,8 +32,8 @@ not_accepted : (c d : Certificate) (r : CheckRefusal) → ◌≡◌ {A = CheckAn
 not_accepted c d r h = cc
 
 -- what is refused though it is good is refused for want of memory
-pub refused_for_memory : (c d : Certificate) (r : CheckRefusal) → OnFalse (is_memory r) (◌≡◌ {A = CheckAnswer} (Err (d, r)) (Ok c)) → is_memory r ≡ true
-refused_for_memory c d r h = by (is_memory r) h
+pub refused_for_memory : (c d : Certificate) (r : CheckRefusal) → OnFalse (check_wants_memory r) (◌≡◌ {A = CheckAnswer} (Err (d, r)) (Ok c)) → check_wants_memory r ≡ true
+refused_for_memory c d r h = by (check_wants_memory r) h
   where
     by : (b : Bool) → OnFalse b (◌≡◌ {A = CheckAnswer} (Err (d, r)) (Ok c)) → b ≡ true
     by true h = refl

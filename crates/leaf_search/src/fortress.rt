@@ -7,11 +7,15 @@ ghost use Rattle.leaf_search.specs.Search.{Proves};
 mod choice;
 mod growth;
 
-use crate::fortress::growth::Growth;
+use crate::fortress::choice::CORNER_WEIGHTS;
+use crate::fortress::growth::{Growing, Growth};
 use certificate_checker::{CheckRefusal, Proved, check};
 use draughts_board::{Position, Side};
 use std::alloc::{AllocError, Global};
 use strategy_certificate::{Certificate, Claim, HoldPart, Oracle, Part, PartList};
+
+/// A set of fewer positions is not begun anew: one larger set finds more for the same work.
+const WORTH_ANOTHER: usize = 4_000;
 
 /// The certificate that the side holds by this part, where the checker accepts it.
 fn accept<O: Oracle>(
@@ -38,8 +42,8 @@ fn accept<O: Oracle>(
     }
 }
 
-/// A certificate that the side holds the position, by a closed set that is found among at most `most` positions. None
-/// where none is found, which tells nothing of the position.
+/// A certificate that the side holds the position, by a closed set that is found among at most `most` positions, in one of
+/// a few attempts. None where none is found, which tells nothing of the position.
 pub fn prove_fortress<O: Oracle>(
     alloc: Global,
     p: &Position,
@@ -49,12 +53,21 @@ pub fn prove_fortress<O: Oracle>(
 ) -> Result<Option<Proved>, AllocError>
     ensures { IfOk result (λ found. IfSome found (Proves (O.piece_limit oracle.now) p.now (claim.Hold side))) }
 {
-    let mut growth = Growth::new(alloc, side);
-    growth.demand(p)?;
-    let closed = growth.close(alloc, most, oracle)?;
-    if !closed {
-        return Ok(None);
+    for corner_weight in &CORNER_WEIGHTS {
+        let mut growth = Growth::new(alloc, side, *corner_weight);
+        growth.demand(p)?;
+        match growth.close(alloc, most, oracle)? {
+            Growing::Closed => {
+                let part = growth.part(alloc, oracle)?;
+                return accept(alloc, p, side, part, oracle);
+            }
+            Growing::Refuted => return Ok(None),
+            Growing::GivenUp => {
+                if most < WORTH_ANOTHER {
+                    return Ok(None);
+                }
+            }
+        }
     }
-    let part = growth.part(alloc, oracle)?;
-    accept(alloc, p, side, part, oracle)
+    Ok(None)
 }

@@ -1,6 +1,6 @@
 //! The search of a leaf.
 ghost use Rattle.std.specs.Prelude.{◌≡◌, ◌≤◌, [], All, IfOk, MatchOption, true, false, ℕ};
-ghost use Rattle.certificate_checker.specs.Refusals.{is_memory};
+ghost use Rattle.certificate_checker.specs.Refusals.{check_wants_memory};
 ghost use Rattle.draughts_board.specs.Board.{Board, other};
 ghost use Rattle.draughts_board.specs.Draughts.{draughts};
 ghost use Rattle.draughts_board.specs.Game.{is_at_sight, ShowsWin, ShowsHold};
@@ -30,7 +30,7 @@ const FAR_FROM_TABLES: u8 = 7;
 
 /// The want of memory that a refusal is.
 fn want_of_memory(refusal: &CheckRefusal) -> AllocError
-    requires { is_memory refusal.now ≡ true }
+    requires { check_wants_memory refusal.now ≡ true }
 {
     match refusal {
         CheckRefusal::Memory(error) => *error,
@@ -87,8 +87,9 @@ fn prove_win<O: Oracle>(
     Ok(Some(proved))
 }
 
-/// How many positions are looked through for a closed set at most, by the depth of the search; none where the position has
-/// many pieces more than the tables. So a certificate has no more entries than that, some 100 bytes each in a journal.
+/// How many positions are looked through for a closed set at most in each attempt, by the depth of the search; none where the
+/// position has many pieces more than the tables. So a certificate has no more entries than that, some 100 bytes each in a
+/// journal.
 fn most_positions(p: &Position, depth: u8, table_pieces: u8) -> usize {
     let pieces = p.count(Side::Black) + p.count(Side::White);
     if pieces.saturating_sub(table_pieces) >= FAR_FROM_TABLES {

@@ -9,7 +9,7 @@ use Rattle.std.proofs.lemmas.Bool.{cases_Bool, or_from, or_parts, eqb-true, eq-e
 use Rattle.std.proofs.lemmas.Option.{same_Some}
 use Rattle.lease_table.specs.declared.leases.Row.{Row}
 use Rattle.lease_table.specs.Rows.{is_live_row, has_id, is_of, row_with, without, without_node, marked}
-use Rattle.lease_table.specs.Tables.{rows_of, IsTable}
+use Rattle.lease_table.specs.Tables.{rows_of, IsLeaseTable}
 use Rattle.lease_table.specs.declared.leases.Lease.{Lease}
 
 abbrev Keyed : List (ℕ × Row) → Type 0
@@ -247,15 +247,15 @@ swept_free limit node now later rows le =
 
 -- ---- what is kept of a table
 
-pub still_table : (test : Row → Bool) (es kept : List (ℕ × Row)) (ns : List (ℕ × ℕ)) → IsTable es ns → IsDistinct eqb (keys_of kept) → kept ≡ filter (λ e. test e.1) es → IsTable kept ns
+pub still_table : (test : Row → Bool) (es kept : List (ℕ × Row)) (ns : List (ℕ × ℕ)) → IsLeaseTable es ns → IsDistinct eqb (keys_of kept) → kept ≡ filter (λ e. test e.1) es → IsLeaseTable kept ns
 still_table test es kept ns table unique same = record {
   unique = unique;
   keyed = subst (AllByRecursion (λ (e : ℕ × Row). e.0 ≡ e.1.lease.id)) (sym same) (each_filtered test (λ e. e.0 ≡ e.1.lease.id) es table.keyed);
   noted = subst (AllByRecursion (λ (e : ℕ × Row). lookup (eqb e.1.lease.node) ns ≡ Some e.0)) (sym same) (each_filtered test (λ e. lookup (eqb e.1.lease.node) ns ≡ Some e.0) es table.noted);
 }
 
-pub marked_table : (id : ℕ) (kept : Bool) (es new : List (ℕ × Row)) (row : Row) (ns : List (ℕ × ℕ)) → IsTable es ns → IsDistinct eqb (keys_of new) → lookup (eqb id) es ≡ Some row
-    → new ≡ insert_entry eqb es id (record row { kept = kept }) → IsTable new ns
+pub marked_table : (id : ℕ) (kept : Bool) (es new : List (ℕ × Row)) (row : Row) (ns : List (ℕ × ℕ)) → IsLeaseTable es ns → IsDistinct eqb (keys_of new) → lookup (eqb id) es ≡ Some row
+    → new ≡ insert_entry eqb es id (record row { kept = kept }) → IsLeaseTable new ns
 marked_table id kept es new row ns table unique known same =
     let v : Row = record row { kept = kept } in
     let own : id ≡ row.lease.id = each_found (λ e. e.0 ≡ e.1.lease.id) id es row table.keyed known in
@@ -266,8 +266,8 @@ marked_table id kept es new row ns table unique known same =
       noted = subst (AllByRecursion (λ (e : ℕ × Row). lookup (eqb e.1.lease.node) ns ≡ Some e.0)) (sym same) (each_inserted (λ e. lookup (eqb e.1.lease.node) ns ≡ Some e.0) id v es table.noted noted);
     }
 
-pub given_table : (node now : ℕ) (lease : Lease) (es new : List (ℕ × Row)) (ns : List (ℕ × ℕ)) → IsTable es ns → IsDistinct eqb (keys_of new) → lease.id ≡ now → lease.node ≡ node
-    → new ≡ filter (λ e. not (is_of node e.1)) es ++ (now, record { lease = lease; kept = false }) ∷ [] → IsTable new (insert_entry eqb ns node now)
+pub given_table : (node now : ℕ) (lease : Lease) (es new : List (ℕ × Row)) (ns : List (ℕ × ℕ)) → IsLeaseTable es ns → IsDistinct eqb (keys_of new) → lease.id ≡ now → lease.node ≡ node
+    → new ≡ filter (λ e. not (is_of node e.1)) es ++ (now, record { lease = lease; kept = false }) ∷ [] → IsLeaseTable new (insert_entry eqb ns node now)
 given_table node now lease es new ns table unique number of_node same =
     let row : Row = record { lease = lease; kept = false } in
     let rest = filter (λ e. not (is_of node e.1)) es in

@@ -4,8 +4,9 @@ use Rattle.std.specs.List.{list_any}
 use Rattle.std.specs.Option.{option_map_or}
 use Rattle.lease_table.specs.declared.leases.Row.{Row}
 
--- a table of leases: for how many leases one lasts, and the rows that stand, in the order in which they were given
-pub record Table : Type 0 where
+-- a table of leases: for how many leases one lasts, and the rows that stand, in the order in which
+-- they were given
+pub record LeaseRows : Type 0 where
   pub limit : ℕ
   pub rows : List Row
 
@@ -28,21 +29,28 @@ abbrev pub row_with : ℕ → List Row → Option Row
 row_with id rows = find (has_id id) rows
 
 -- the lease with this number lives
-abbrev pub is_live : Table → ℕ → ℕ → Bool
+abbrev pub is_live : LeaseRows → ℕ → ℕ → Bool
 is_live t id now = option_map_or (is_live_row t.limit now) (row_with id t.rows) false
 
 -- the lease with this number is kept
-abbrev pub is_kept : Table → ℕ → Bool
+abbrev pub is_kept : LeaseRows → ℕ → Bool
 is_kept t id = option_map_or (λ row. row.kept) (row_with id t.rows) false
 
+-- the first row that is not kept, and the first that lives and is not
+abbrev pub first_unkept : List Row → Option Row
+first_unkept rows = find (λ row. not row.kept) rows
+
+abbrev pub first_waiting : LeaseRows → ℕ → Option Row
+first_waiting t now = find (λ row. is_live_row t.limit now row && not row.kept) t.rows
+
 -- a lease of this node lives
-abbrev pub is_leased : Table → ℕ → ℕ → Bool
+abbrev pub is_leased : LeaseRows → ℕ → ℕ → Bool
 is_leased t node now = list_any (λ row. is_of node row && is_live_row t.limit now row) t.rows
 
 -- ---- changes
 
 -- the rows that live
-abbrev pub live_rows : Table → ℕ → List Row
+abbrev pub live_rows : LeaseRows → ℕ → List Row
 live_rows t now = filter (is_live_row t.limit now) t.rows
 
 -- without the row with this number, and without those of this node

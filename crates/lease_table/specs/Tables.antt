@@ -8,7 +8,7 @@ abbrev pub rows_of : List (ℕ × Row) → List Row
 rows_of = map (λ e. e.1)
 
 -- each row stands under its number, no two under one, and is that of its node's last number
-pub record IsTable (rows : List (ℕ × Row)) (nodes : List (ℕ × ℕ)) : Type 0 where
+pub record IsLeaseTable (rows : List (ℕ × Row)) (nodes : List (ℕ × ℕ)) : Type 0 where
   pub unique : IsDistinct eqb (keys_of rows)
   pub keyed : AllByRecursion (λ e. e.0 ≡ e.1.lease.id) rows
   pub noted : AllByRecursion (λ e. lookup (eqb e.1.lease.node) nodes ≡ Some e.0) rows

@@ -20,8 +20,9 @@ impl Row {
 
 /// The leases that were given and have not ended, in the order in which they were given.
 ///
-/// A contract sees the limit and the list of rows. A lease is looked up by its number, or by its node, in one step; to
-/// count the live ones, to end one and to sweep goes over the rows that stand.
+/// A contract sees the limit and the list of rows. A lease is looked up by its number, or by its
+/// node, in one step; to count the live ones, to end one and to sweep goes over the rows that
+/// stand.
 #[derive(Drop)]
 pub struct Leases {
     limit: u32,
@@ -31,22 +32,23 @@ pub struct Leases {
 }
 
 impl Model for Leases {
-    ghost use Rattle.lease_table.specs.Rows.{Table};
-    ghost use Rattle.lease_table.specs.Tables.{IsTable, rows_of};
+    ghost use Rattle.lease_table.specs.Rows.{LeaseRows};
+    ghost use Rattle.lease_table.specs.Tables.{IsLeaseTable, rows_of};
 
-    ghost Value = { Table };
+    ghost Value = { LeaseRows };
 
     ghost view = { λ t. record { limit = t.limit; rows = rows_of t.rows.entries } };
 
-    ghost invariant = { λ t. IsTable t.rows.entries t.nodes.entries };
+    ghost invariant = { λ t. IsLeaseTable t.rows.entries t.nodes.entries };
 }
 
 impl Leases {
     ghost use Rattle.std.specs.Prelude.{◌++◌, ◌∷◌, [], ◌↔◌, true, false, length, count_by, None, OnOk, OnErr, IsErr, IfErr};
     ghost use Rattle.std.specs.Option.{option_map};
-    ghost use Rattle.lease_table.specs.Rows.{is_live, is_kept, is_leased, is_live_row, live_rows, row_with, without, without_node, marked};
+    ghost use Rattle.lease_table.specs.Rows.{is_live, is_kept, is_leased, is_live_row, first_waiting, live_rows, row_with, without, without_node, marked};
 
-    /// A table without leases, each of which is to last for so many leases given: 1 to 1,000,000,000.
+    /// A table without leases, each of which is to last for so many leases given: 1 to
+    /// 1,000,000,000.
     pub fn new(alloc: Global, limit: u32) -> Leases
         ensures { result ≡ record { limit = limit; rows = [] } }
     {
@@ -111,12 +113,29 @@ impl Leases {
             .count()
     }
 
-    /// Gives a lease. A row of its node that ran out is dropped. After want of memory the table is as it was.
+    /// The number of the first lease that lives at this number and is not kept; none where there is
+    /// no such lease. Goes over the rows that stand.
+    pub fn first_waiting(&self, now: u128) -> Option<LeaseId>
+        ensures { result ≡ option_map (λ row. row.lease.id) (first_waiting self.now now) }
+    {
+        let limit = self.limit;
+        let row = self
+            .rows
+            .values()
+            .find(|row| row.is_live(limit, now) && !row.kept)?;
+        Some(row.lease.id)
+    }
+
+    /// Gives a lease. A row of its node that ran out is dropped. After want of memory the table is
+    /// as it was.
     pub fn give(&mut self, lease: Lease, now: u128) -> Result<(), AllocError>
         requires number { lease.id ≡ now }
         requires new { row_with now self.old.rows ≡ None }
         requires free { is_leased self.old lease.node now ≡ false }
-        ensures ok { OnOk result (self.new ≡ record self.old { rows = without_node lease.node self.old.rows ++ record { lease = lease; kept = false } ∷ [] }) }
+        ensures ok { OnOk result (self.new ≡ record self.old {
+          rows = without_node lease.node self.old.rows
+              ++ record { lease = lease; kept = false } ∷ [];
+        }) }
         ensures err { OnErr result (self.new ≡ self.old) }
     {
         self.rows.reserve(1)?;
@@ -136,7 +155,9 @@ impl Leases {
     pub fn keep(&mut self, id: LeaseId, now: u128) -> Result<(), Stale>
         ensures stale { IsErr result ↔ (is_live self.old id now ≡ false) }
         ensures which { IfErr result (λ stale. stale ≡ record { 0 = id }) }
-        ensures ok { OnOk result (self.new ≡ record self.old { rows = marked id true self.old.rows }) }
+        ensures ok { OnOk result (self.new ≡ record self.old {
+          rows = marked id true self.old.rows;
+        }) }
         ensures err { OnErr result (self.new ≡ self.old) }
     {
         let Some(row) = self.rows.get(&id.number()).copied() else {
@@ -194,7 +215,8 @@ ghost use Rattle.lease_table.specs.Rows.{is_of};
 
 /// Drops the rows of a node, of which there are none unless it is known.
 fn drop_rows_of(rows: &mut IndexMap<u128, Row>, node: u64, known: bool)
-    requires { known ≡ false → filter (λ e. not (is_of node e.1)) rows.old.entries ≡ rows.old.entries }
+    requires { known ≡ false → filter (λ e. not (is_of node e.1)) rows.old.entries
+        ≡ rows.old.entries }
     ensures entries { rows.new.entries ≡ filter (λ e. not (is_of node e.1)) rows.old.entries }
     ensures room { spare rows.old ≤ spare rows.new }
 {

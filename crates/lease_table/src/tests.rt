@@ -1,4 +1,5 @@
-//! Leases of a table that lets one last for two leases given, worked by hand; and many events beside a plain list.
+//! Leases of a table that lets one last for two leases given, worked by hand; and many events
+//! beside a plain list.
 ghost use Rattle.std.specs.Prelude.{◌≡◌};
 
 use crate::{Lease, LeaseId, Leases, Stale};
@@ -22,7 +23,8 @@ fn lease(id: u64, node: u64) -> Lease
     }
 }
 
-/// Gives the lease of this number for the node, unless the number was given or the node is leased: then false.
+/// Gives the lease of this number for the node, unless the number was given or the node is leased:
+/// then false.
 fn give(table: &mut Leases, id: u64, node: u64) -> Result<bool, Fail> {
     let now = u128::from(id);
     if table.row(LeaseId::new(now)).is_some() || table.leased(node, now) {
@@ -32,7 +34,8 @@ fn give(table: &mut Leases, id: u64, node: u64) -> Result<bool, Fail> {
     Ok(true)
 }
 
-/// Gives the leases 1 of node 7 and 2 of node 8, in a table in which a lease lasts for two leases given.
+/// Gives the leases 1 of node 7 and 2 of node 8, in a table in which a lease lasts for two leases
+/// given.
 fn with_two(alloc: Global) -> Result<Leases, Fail> {
     let mut table = Leases::new(alloc, 2);
     let _ = give(&mut table, 1, 7)?;

@@ -1,4 +1,5 @@
-//! The two generators side by side, over positions with kings and long captures that a seeded program makes.
+//! The two generators side by side, over positions with kings and long captures that a seeded
+//! program makes.
 ghost use Rattle.draughts_board.specs.Rules.{IsLegal};
 
 use draughts_board::path_ends::{first, last};
@@ -72,7 +73,8 @@ fn mean_the_same(alloc: Global, p: &Position, m: &Move) -> bool {
         && whole == swift_moves::resolve(alloc, p, from, middle, to)
 }
 
-/// Both generators lead to the same position by the legal move, and back from it to the same first move.
+/// Both generators lead to the same position by the legal move, and back from it to the same first
+/// move.
 fn lead_the_same(alloc: Global, p: &Position, m: &Move) -> Result<bool, AllocError>
     requires { IsLegal p.now m.now }
 {
@@ -112,7 +114,8 @@ fn longest(moves: &[Move]) -> usize {
     moves.iter().map(|m| m.path().len()).max().unwrap_or(0)
 }
 
-/// Compares the generators on the positions that so many states make, one after another from the seed.
+/// Compares the generators on the positions that so many states make, one after another from the
+/// seed.
 pub fn compare(alloc: Global, seed: u64, states: u32) -> Result<Compared, AllocError> {
     let mut state = seed;
     let mut done = Compared {

@@ -15,7 +15,8 @@ pub enum CountError {
     Memory(#[from] AllocError),
 }
 
-/// How many lists of n legal moves there are from the position. The last moves are counted, and not made.
+/// How many lists of n legal moves there are from the position. The last moves are counted, and not
+/// made.
 pub fn count(generator: Generator, alloc: Global, p: &Position, n: u32) -> Result<u64, CountError>
     ensures { IfOk result (λ lists. lists ≡ lists_of n p.now) }
 {

@@ -1,7 +1,8 @@
-//! Counts the lists of n legal moves from the start position by either move generator, for n from 1 to 7: a measure of the
-//! moves a second, and a test, since these numbers are published for English draughts. Then both generators are compared
-//! on positions with kings and long captures. With a generator's name, `plain` or `swift`, and a number as words, only that
-//! generator counts, to that number.
+//! Counts the lists of n legal moves from the start position by either move generator, for n from 1
+//! to 7: a measure of the moves a second, and a test, since these numbers are published for English
+//! draughts. Then both generators are compared on positions with kings and long captures. With a
+//! generator's name, `plain` or `swift`, and a number as words, only that generator counts, to that
+//! number.
 #![tactic(auto)]
 
 mod compare;

@@ -11,7 +11,7 @@ use Rattle.endgame_table.specs.Bytes.{number_bytes, bytes_of}
 use Rattle.endgame_table.specs.Entries.{IsTable}
 use Rattle.endgame_table.specs.Numbers.{no_position}
 use Rattle.endgame_table.proofs.Filled.{count-most}
-use Rattle.table_checker.specs.Faults.{IsTableFault, is_memory}
+use Rattle.table_checker.specs.Faults.{IsTableFault, table_wants_memory}
 use Rattle.table_checker.specs.declared.refusal.TableRefusal.{TableRefusal}
 use Rattle.table_checker.specs.declared.refusal.TableRefusal.TheVariants as table
 use Rattle.table_checker.proofs.ByteLemmas.{length-bytes_of}
@@ -104,14 +104,14 @@ table_is_short k numbers bytes table is =
     omega arith
 
 -- why bytes were refused
-pub table_refused : (bytes : List ℕ) (r : TableRefusal) → OnFalse (is_memory r) (IsTableFault bytes r) → IsAnswerFault TableCheck bytes (of_table r)
+pub table_refused : (bytes : List ℕ) (r : TableRefusal) → OnFalse (table_wants_memory r) (IsTableFault bytes r) → IsAnswerFault TableCheck bytes (of_table r)
 table_refused bytes table.BadHead h = inr (table.BadHead, (refl, h))
 table_refused bytes (table.WrongLength found due) h = inr (table.WrongLength found due, (refl, h))
 table_refused bytes (table.BadEntry index kept) h = inr (table.BadEntry index kept, (refl, h))
 table_refused bytes (table.Memory error) h = inl refl
 
 -- the bytes of a table are refused for want of memory alone
-pub table_accepted : (bytes : List ℕ) (r : TableRefusal) → OnFalse (is_memory r) (IsTableFault bytes r)
+pub table_accepted : (bytes : List ℕ) (r : TableRefusal) → OnFalse (table_wants_memory r) (IsTableFault bytes r)
     → (k : ℕ) × ((numbers : List ℕ) × (IsTable k numbers × (bytes ≡ bytes_of k numbers))) → of_table r ≡ refusal.Memory
 table_accepted bytes table.BadHead h good = absurd (faulty_bytes_are_no_table bytes table.BadHead h good.0 good.1.0 good.1.1.0 good.1.1.1)
 table_accepted bytes (table.WrongLength found due) h good = absurd (faulty_bytes_are_no_table bytes (table.WrongLength found due) h good.0 good.1.0 good.1.1.0 good.1.1.1)

@@ -6,11 +6,11 @@ use Rattle.bench_edges.specs.declared.words.Command.TheVariants.{Verify}
 use Rattle.draughts_board.specs.Board.{Board}
 use Rattle.strategy_certificate.specs.declared.claims.Claim.{Claim}
 use Rattle.strategy_certificate.specs.declared.certificates.Certificate.{Certificate}
-use Rattle.certificate_checker.specs.Refusals.{IsRefusal, is_memory as is_check_memory}
+use Rattle.certificate_checker.specs.Refusals.{IsRefusal, check_wants_memory as is_check_memory}
 use Rattle.certificate_checker.specs.declared.refusals.CheckRefusal.{CheckRefusal}
 use Rattle.certificate_checker.specs.declared.refusals.CheckRefusal.TheVariants as check
 use Rattle.certificate_text.specs.Text.{ReadsAs}
-use Rattle.certificate_text.specs.Refusals.{IsTextRefusal, is_memory}
+use Rattle.certificate_text.specs.Refusals.{IsTextRefusal, text_wants_memory}
 use Rattle.certificate_text.specs.declared.refusal.TextRefusal.{TextRefusal}
 use Rattle.certificate_text.specs.declared.refusal.TextRefusal.TheVariants as text
 use Rattle.endgame_table.specs.Entries.{IsTable, answers}
@@ -24,7 +24,7 @@ use Rattle.opening_bench.specs.Verifying.{IsCheckedFault}
 
 -- ---- want of memory
 
-pub text_refused : (source : List ℕ) (r : TextRefusal) → OnFalse (is_memory r) (IsTextRefusal source r) → IsAnswerFault Verify source (of_text r)
+pub text_refused : (source : List ℕ) (r : TextRefusal) → OnFalse (text_wants_memory r) (IsTextRefusal source r) → IsAnswerFault Verify source (of_text r)
 text_refused source (text.BadLine n) h = inr (inl (text.BadLine n, (refl, h)))
 text_refused source (text.BadFen n) h = inr (inl (text.BadFen n, (refl, h)))
 text_refused source (text.Doubled n) h = inr (inl (text.Doubled n, (refl, h)))
@@ -35,7 +35,7 @@ text_refused source (text.Memory error) h = inl refl
 no_certificate : (c : Certificate) (r : TextRefusal) → ◌≡◌ {A = Result Certificate TextRefusal} (Err r) (Ok c) → ⊥
 no_certificate c r h = cc
 
-pub text_only : (c : Certificate) (r : TextRefusal) → OnFalse (is_memory r) (◌≡◌ {A = Result Certificate TextRefusal} (Err r) (Ok c)) → of_text r ≡ refusal.Memory
+pub text_only : (c : Certificate) (r : TextRefusal) → OnFalse (text_wants_memory r) (◌≡◌ {A = Result Certificate TextRefusal} (Err r) (Ok c)) → of_text r ≡ refusal.Memory
 text_only c (text.BadLine n) h = absurd (no_certificate c (text.BadLine n) h)
 text_only c (text.BadFen n) h = absurd (no_certificate c (text.BadFen n) h)
 text_only c (text.Doubled n) h = absurd (no_certificate c (text.Doubled n) h)

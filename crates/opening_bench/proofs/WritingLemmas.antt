@@ -1,5 +1,5 @@
 -- What is written, of an output and of a refusal.
-use Rattle.std.proofs.Common.{◌≡◌, ◌≢◌, ℕ, ◌<◌, inl, inr, Bool, List, [], ◌++◌, Option, None, sym, subst, arith, length, take, drop, length-drop}
+use Rattle.std.proofs.Common.{◌≡◌, ℕ, ◌<◌, inl, inr, Bool, List, [], ◌++◌, Option, sym, subst, arith, length, take, drop, length-drop}
 use Rattle.std.specs.Prelude.{Result, Ok, Err, OnOk, OnErr}
 use Rattle.std.specs.Io.KnownBytes.{Appends}
 use Rattle.std.proofs.lemmas.List.{append-nil, take-append-drop}
@@ -10,11 +10,9 @@ use Rattle.bench_edges.specs.declared.status.Status.TheVariants.{Done, Unsolved,
 use Rattle.opening_report.specs.Lines.{IsLine}
 use Rattle.opening_report.specs.Refusals.{refusal_text}
 use Rattle.opening_report.specs.Report.{ValuesAreTrue, SaysNoRoot}
-use Rattle.draughts_board.proofs.Members.{Contains-nil}
 use Rattle.opening_report.specs.declared.refusals.Refusal.{Refusal}
 use Rattle.opening_report.proofs.ReportLemmas.{no_root-is_true, refusal_says_no_root}
 use Rattle.opening_bench.specs.Bench.{Finishes, TakesFront, TakesLine, TakesOutput, WritesOnly}
-use Rattle.opening_bench.specs.Solving.{UnsolvedAreOpen}
 
 -- ---- the line of a refusal
 
@@ -39,15 +37,6 @@ line_says_none r before after fb fa line (inr part) = (part.1.0, (part.1.1.1.1.1
 
 pub line_values : (r : Refusal) (before after : Option (List ℕ)) (faults_before faults_after : ℕ) → IsLine (refusal_text r) → TakesLine r before after faults_before faults_after → WritesOnly before after ValuesAreTrue
 line_values r before after fb fa line taken = (let none = line_says_none r before after fb fa line taken in (none.0, (none.1.0, no_root-is_true none.0 none.1.1)))
-
-pub line_unsolved : (k d : ℕ) (r : Refusal) (before after : Option (List ℕ)) (faults_before faults_after : ℕ) → IsLine (refusal_text r) → TakesLine r before after faults_before faults_after
-    → WritesOnly before after (UnsolvedAreOpen k d)
-line_unsolved k d r before after fb fa line taken = (
-    let none = line_says_none r before after fb fa line taken in (
-      none.0,
-      (none.1.0, λ n p small lawful has. absurd (Contains-nil (record { position = p; value = None }) (none.1.1 n p None small lawful has))),
-    )
-    )
 
 -- ---- an output
 
@@ -74,7 +63,3 @@ output_whole text settled before after Input f h = absurd f
 output_whole text settled before after Disk f h = absurd f
 output_whole text settled before after Journal f h = absurd f
 output_whole text settled before after Read f h = absurd f
-
--- no output is answered as bad input
-pub output_is_not_input : (text : List ℕ) (settled : Bool) (before after : Option (List ℕ)) (status : Status) → TakesOutput status text settled before after → status ≢ Input
-output_is_not_input text settled before after status h e = subst (λ s. TakesOutput s text settled before after) e h

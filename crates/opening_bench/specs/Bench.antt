@@ -5,7 +5,7 @@ use Rattle.shared_words.specs.Counts.{Rose}
 use Rattle.bench_edges.specs.KnownBytes.{ConsumesAtMost, ConsumesJust}
 use Rattle.bench_edges.specs.Words.{Says, IsRefusedAt}
 use Rattle.bench_edges.specs.declared.status.Status.{Status}
-use Rattle.bench_edges.specs.declared.status.Status.TheVariants.{Done, Unsolved, Words, Input, Memory, Read, Write}
+use Rattle.bench_edges.specs.declared.status.Status.TheVariants.{Done, Unsolved, Words, Input, Disk, Journal, Memory, Read, Write}
 use Rattle.bench_edges.specs.declared.words.Command.{Command}
 use Rattle.bench_edges.specs.declared.words.Command.TheVariants.{Solve}
 use Rattle.bench_edges.specs.declared.words.Options.{Options}
@@ -15,6 +15,7 @@ use Rattle.opening_report.specs.declared.refusals.Refusal.TheVariants as refusal
 use Rattle.opening_report.specs.Report.{StandsOnce}
 use Rattle.opening_report.specs.Refusals.{refusal_text}
 use Rattle.opening_bench.specs.Commands.{source_limit, Answers, HasFault}
+use Rattle.opening_bench.specs.Disks.{ShowsDisk, HasDiskFault}
 use Rattle.opening_bench.specs.Solving.{OpeningsOf}
 
 -- ---- statuses
@@ -36,16 +37,40 @@ Finishes status = ⊥
 abbrev pub Refuses : Status → Type 0
 Refuses Words = Unit {0}
 Refuses Input = Unit {0}
+Refuses Disk = Unit {0}
+Refuses Journal = Unit {0}
 Refuses Memory = Unit {0}
 Refuses Read = Unit {0}
 Refuses status = ⊥
 
+-- the run came behind its source: to what it has to write, or to a refusal by the disk
+abbrev pub ComesToDisk : Status → Type 0
+ComesToDisk Disk = Unit {0}
+ComesToDisk Journal = Unit {0}
+ComesToDisk status = Reports status
+
 -- the status of a refused run
 abbrev pub status_of : Refusal → Status
 status_of (refusal.Words at) = Words
+status_of refusal.Disk = Disk
+status_of refusal.NotAJournal = Journal
+status_of (refusal.OtherTable found asked) = Journal
+status_of (refusal.Damaged at) = Journal
 status_of refusal.Memory = Memory
 status_of refusal.Read = Read
 status_of other = Input
+
+-- a refusal that comes before the disk is used: of the words, or of the source
+abbrev pub ComesBeforeDisk : Refusal → Type 0
+ComesBeforeDisk refusal.TooManyRoots = ⊥
+ComesBeforeDisk (refusal.NoRoot n) = ⊥
+ComesBeforeDisk (refusal.UnsettledRoot n) = ⊥
+ComesBeforeDisk refusal.Disk = ⊥
+ComesBeforeDisk refusal.NotAJournal = ⊥
+ComesBeforeDisk (refusal.OtherTable found asked) = ⊥
+ComesBeforeDisk (refusal.Damaged at) = ⊥
+ComesBeforeDisk refusal.Memory = ⊥
+ComesBeforeDisk other = Unit {0}
 
 -- ---- what a sink takes
 
@@ -55,8 +80,8 @@ TakesFront before after text =
     (front : List ℕ) × ((back : List ℕ) × ((text ≡ front ++ back) × ((0 < length back)
     × Appends before after front)))
 
--- With status 0 the text leaves nothing unsettled, with status 1 it does; either way the sink took it whole. With status
--- 8 it took a front of it.
+-- With status 0 the text leaves nothing unsettled, with status 1 it does; either way the sink took
+-- it whole. With status 8 it took a front of it.
 abbrev pub TakesOutput : Status → List ℕ → Bool → Option (List ℕ) → Option (List ℕ) → Type 0
 TakesOutput Done text settled before after = (settled ≡ true) × Appends before after text
 TakesOutput Unsolved text settled before after = (settled ≡ false) × Appends before after text
@@ -79,31 +104,16 @@ WritesOnly before after P = (written : List ℕ) × (Appends before after writte
 abbrev pub ReadsSource : Command → Type 0
 ReadsSource command = IsSome (source_limit command)
 
--- The bytes are those of the source, where it tells them, and they are no more than may be.
+-- The bytes are those of the source that the command reads, where it tells them, and they are no
+-- more than may be.
 pub record IsInput (command : Command) (source : Option (List ℕ)) (bytes : List ℕ) : Type 0 where
-  pub same : IfSome source (λ told. bytes ≡ told)
+  pub same : ReadsSource command → IfSome source (λ told. bytes ≡ told)
   pub fits : IfSome (source_limit command) (λ limit. length bytes ≤ limit)
 
--- What a run does that comes to what it has to write: it writes a text that answers its source.
-pub record Does (command : Command) (source before after : Option (List ℕ)) (status : Status)
-    : Type 0 where
-  pub input : List ℕ
-  pub is_input : IsInput command source input
-  pub text : List ℕ
-  pub settled : Bool
-  pub answers : Answers command input text settled
-  pub taken : TakesOutput status text settled before after
-
--- the same by the words
-abbrev pub DoesAsSaid : List (List ℕ) → Option (List ℕ) → Option (List ℕ) → Option (List ℕ)
-    → Status → Type 0
-DoesAsSaid words source before after status =
-    (command : Command) × (Says words command × Does command source before after status)
-
--- Each position of the openings of the source stands in exactly one `root` line.
-abbrev pub HoldsOpenings : List (List ℕ) → Option (List ℕ) → List ℕ → Type 0
-HoldsOpenings words source written =
-    (options : Options) → Says words (Solve options)
+-- Each position of the openings of the source of `solve` stands in exactly one `root` line.
+abbrev pub HoldsOpenings : Command → Option (List ℕ) → List ℕ → Type 0
+HoldsOpenings command source written =
+    (options : Options) → command ≡ Solve options
     → IfSome source (λ text. (openings : List Opening) → OpeningsOf options.plies text openings
     → (opening : Opening) → Contains openings opening → StandsOnce written opening.position)
 
@@ -118,7 +128,8 @@ pub record IsTooLong (command : Command) (source rest : Option (List ℕ)) (befo
   pub past : ConsumesJust (limit + 1) source rest
   pub counted : after ≡ before
 
--- A fault of the source stands, which is no longer than may be and was read to its end. No fault of reading was counted.
+-- A fault of the source stands, which is no longer than may be and was read to its end. No fault of
+-- reading was counted.
 pub record IsWrong (command : Command) (source rest : Option (List ℕ)) (before after : ℕ)
     (r : Refusal) : Type 0 where
   pub input : List ℕ
@@ -134,28 +145,61 @@ IsCutShort command source rest before after r =
     ⊎ (((r ≡ refusal.Read) × (ReadsSource command × Rose before after))
     ⊎ ((r ≡ refusal.TooLong) × IsTooLong command source rest before after))
 
--- Why a command was refused: its run was cut short, or its source is wrong.
-abbrev pub IsCommandRefusal : Command → Option (List ℕ) → Option (List ℕ) → ℕ → ℕ → Refusal → Type 0
-IsCommandRefusal command source rest before after r =
-    IsCutShort command source rest before after r ⊎ IsWrong command source rest before after r
-
--- The cause of a refusal: words that are not in the grammar, or why their command was refused.
-abbrev pub HasCause : List (List ℕ) → Option (List ℕ) → Option (List ℕ) → ℕ → ℕ → Refusal → Type 0
-HasCause words source rest before after r =
-    ((at : ℕ) × ((r ≡ refusal.Words at) × IsRefusedAt words at))
-    ⊎ ((command : Command) × (Says words command
-    × IsCommandRefusal command source rest before after r))
-
--- What a refused run does: there is a cause, its status is that of the cause, and the one line that it writes says so.
-pub record IsRefused (words : List (List ℕ)) (source rest : Option (List ℕ))
-    (read_before read_after : ℕ) (before after : Option (List ℕ))
-    (written_before written_after : ℕ) (status : Status) : Type 0 where
-  pub refusal : Refusal
-  pub cause : HasCause words source rest read_before read_after refusal
-  pub status_is : status_of refusal ≡ status
-  pub line : TakesLine refusal before after written_before written_after
-
 -- Of its source the command took no more than may be, and one byte.
 abbrev pub TakesAtMost : Command → Option (List ℕ) → Option (List ℕ) → Type 0
 TakesAtMost command source rest =
     IfSome (source_limit command) (λ limit. ConsumesAtMost (limit + 1) source rest)
+
+-- Why a run is refused, by its cause: there is one, the status is that of the refusal, the one line
+-- that it writes says so, and where the disk was not used it is handed back as it was.
+pub record IsRefused {D : Type 0} (IsCause : Refusal → Type 0) (old new : D)
+    (before after : Option (List ℕ)) (written_before written_after : ℕ) (status : Status)
+    : Type 0 where
+  pub refusal : Refusal
+  pub cause : IsCause refusal
+  pub status_is : status_of refusal ≡ status
+  pub line : TakesLine refusal before after written_before written_after
+  pub unused : ComesBeforeDisk refusal → new ≡ old
+
+-- ---- of the disk at entry, and of the disk that is handed back
+
+module _ {D : Type 0} (tells : Bool) (reads : D → List ℕ) (images : D → List ℕ → Type 0)
+    (images_since : D → ℕ → List ℕ → Type 0) (moment faults : D → ℕ) where
+  -- What a run does that comes to what it has to write: it writes a text that answers its source
+  -- and shows what is on its disk.
+  pub record Does (command : Command) (source before after : Option (List ℕ)) (old new : D)
+      (status : Status) : Type 0 where
+    pub input : List ℕ
+    pub is_input : IsInput command source input
+    pub text : List ℕ
+    pub settled : Bool
+    pub answers : Answers command input text settled
+    pub shows : ShowsDisk tells reads images images_since moment faults
+        command input old new text settled
+    pub taken : TakesOutput status text settled before after
+
+  -- The disk refuses a command whose source, if it reads one, was read to its end. No fault of
+  -- reading was counted.
+  pub record IsRefusedByDisk (command : Command) (source rest : Option (List ℕ))
+      (before after : ℕ) (old new : D) (r : Refusal) : Type 0 where
+    pub input : List ℕ
+    pub is_input : IsInput command source input
+    pub fault : HasDiskFault tells reads images images_since moment faults command input old new r
+    pub end : ReadsSource command → IsAtEnd rest
+    pub counted : after ≡ before
+
+  -- Why a command is refused: its run was cut short, its source is wrong, or its disk refuses it.
+  abbrev pub IsCommandRefusal : Command → Option (List ℕ) → Option (List ℕ) → ℕ → ℕ → D → D
+      → Refusal → Type 0
+  IsCommandRefusal command source rest before after old new r =
+      IsCutShort command source rest before after r
+      ⊎ (IsWrong command source rest before after r
+      ⊎ IsRefusedByDisk command source rest before after old new r)
+
+  -- .. by the words: they are not in the grammar, or their command is refused
+  abbrev pub IsRefusalByWords : List (List ℕ) → Option (List ℕ) → Option (List ℕ) → ℕ → ℕ → D → D
+      → Refusal → Type 0
+  IsRefusalByWords words source rest before after old new r =
+      ((at : ℕ) × ((r ≡ refusal.Words at) × IsRefusedAt words at))
+      ⊎ ((command : Command) × (Says words command
+      × IsCommandRefusal command source rest before after old new r))

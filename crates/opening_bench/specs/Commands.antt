@@ -1,8 +1,12 @@
--- Three words by command say all that a command is: how long its source may be, which text answers which source, and
--- which fault of its source stands. A new command has a case in each.
+-- Three words by command say all that a command is to its source: how long it may be, which text
+-- answers it, and which fault of it stands. A new command has a case in each.
 use Rattle.std.specs.Prelude.{◌≡◌, ℕ, Bool, true, List, Option, Some, None}
 use Rattle.bench_edges.specs.declared.words.Command.{Command}
-use Rattle.bench_edges.specs.declared.words.Command.TheVariants.{Solve, Verify, MakeTable, TableCheck}
+use Rattle.bench_edges.specs.declared.words.Command.TheVariants.{Solve, Report, Certify, Verify, MakeTable, TableCheck}
+use Rattle.certificate_text.specs.Text.{ReadsAs}
+use Rattle.strategy_certificate.specs.declared.certificates.Certificate.{Certificate}
+use Rattle.journal_looks.specs.Looks.{IsTrueReport}
+use Rattle.strategy_certificate.specs.Certificates.{IsGood}
 use Rattle.opening_report.specs.declared.refusals.Refusal.{Refusal}
 use Rattle.opening_bench.specs.declared.commands.solve.TheConstants.{GAMES_LIMIT}
 use Rattle.opening_bench.specs.declared.commands.table_check.TheConstants.{TABLE_LIMIT}
@@ -14,13 +18,22 @@ use Rattle.opening_bench.specs.Verifying.{IsVerifiedOf, HasCertificateFault}
 -- how many bytes its source has at most; none where it reads no source
 abbrev pub source_limit : Command → Option ℕ
 source_limit (Solve options) = Some GAMES_LIMIT
+source_limit Report = None
+source_limit (Certify root) = None
 source_limit Verify = Some CERTIFICATE_LIMIT
 source_limit (MakeTable pieces) = None
 source_limit TableCheck = Some TABLE_LIMIT
 
--- this text answers this source, and every root has a value, or (false) some has none
+-- the text is that of a good certificate, so that its claim is true
+abbrev pub IsCertificateText : List ℕ → Type 0
+IsCertificateText text = (c : Certificate) × (ReadsAs text c × IsGood c)
+
+-- This text answers this source, whatever the disk tells. Where nothing can be unsettled, all is
+-- settled.
 abbrev pub Answers : Command → List ℕ → List ℕ → Bool → Type 0
-Answers (Solve options) source text settled = IsReportOn options source text settled
+Answers (Solve options) source text settled = IsReportOn options source text
+Answers Report source text settled = IsTrueReport text
+Answers (Certify root) source text settled = IsCertificateText text × (settled ≡ true)
 Answers Verify source text settled = IsVerifiedOf source text × (settled ≡ true)
 Answers (MakeTable pieces) source text settled = AreTableBytes pieces text × (settled ≡ true)
 Answers TableCheck source text settled = IsSoundOf source text × (settled ≡ true)
@@ -28,6 +41,8 @@ Answers TableCheck source text settled = IsSoundOf source text × (settled ≡ t
 -- nothing answers this source, for this fault
 abbrev pub HasFault : Command → List ℕ → Refusal → Type 0
 HasFault (Solve options) source r = HasGamesFault options.plies source r
+HasFault Report source r = ⊥
+HasFault (Certify root) source r = ⊥
 HasFault Verify source r = HasCertificateFault source r
 HasFault (MakeTable pieces) source r = ⊥
 HasFault TableCheck source r = HasTableFault source r

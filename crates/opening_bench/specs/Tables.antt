@@ -15,7 +15,8 @@ abbrev pub AreTableBytes : ℕ → List ℕ → Type 0
 AreTableBytes pieces bytes =
     (numbers : List ℕ) × (IsTable pieces numbers × (bytes ≡ bytes_of pieces numbers))
 
--- The text says what a source is: the bytes of a sound table; the text names its pieces and how many entries it has.
+-- The text says what a source is: the bytes of a sound table; the text names its pieces and how
+-- many entries it has.
 pub record IsSoundOf (source text : List ℕ) : Type 0 where
   pub pieces : ℕ
   pub numbers : List ℕ

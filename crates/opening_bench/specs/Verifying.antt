@@ -14,8 +14,9 @@ use Rattle.opening_report.specs.declared.refusals.Refusal.{Refusal}
 
 -- ---- what is written
 
--- The text says what a source shows: the source is the text of a certificate that is good by the table that it names,
--- so that its claim is true of its position by the definition of who wins; the text says both.
+-- The text says what a source shows: the source is the text of a certificate that is good by the
+-- table that it names, so that its claim is true of its position by the definition of who wins; the
+-- text says both.
 pub record IsVerifiedOf (source text : List ℕ) : Type 0 where
   pub certificate : Certificate
   pub spelled : ReadsAs source certificate

@@ -1,9 +1,11 @@
-//! Runs of `verify` with the objects in memory. The texts and what is due were worked out by hand from the format, and
-//! from the rules of play: 23-19 leaves the man on 12 without a move, and 15x24 takes the king on 19.
+//! Runs of `verify` with the objects in memory. The texts and what is due were worked out by hand
+//! from the format, and from the rules of play: 23-19 leaves the man on 12 without a move, and
+//! 15x24 takes the king on 19.
 ghost use Rattle.std.specs.Prelude.{IfOk};
 ghost use Rattle.certificate_text.specs.Text.{IsPrinted};
 
 use crate::bench::bench;
+use bench_disk::MemoryDisk;
 use bench_edges::{MemorySink, MemorySource, Status};
 use certificate_checker::{CheckRefusal, check};
 use certificate_text::{print_certificate, read_certificate};
@@ -21,8 +23,8 @@ const BLOCKING: &[u8] =
       W:W16,23:B12 1 23-19\nB:W16,19:B12 0\nend\n";
 
 /// Black's king takes one of two, and then neither side wins.
-const DRAWN: &[u8] =
-    b"certificate 1\ntable 2\nposition B:WK1,K19:BK15\nclaim draw\nhold black 1\nB:WK1,K19:BK15 15x24\n\
+const DRAWN: &[u8] = b"certificate 1\ntable 2\nposition B:WK1,K19:BK15\nclaim draw\nhold black 1\n\
+    B:WK1,K19:BK15 15x24\n\
       hold white 1\nB:WK1,K19:BK15\nend\n";
 
 /// The same, but the rank of the first entry is not above that of the second.
@@ -44,7 +46,8 @@ fn expect(
 ) -> Result<(), Fail> {
     let mut source = MemorySource::new(Vec::from_slice(alloc, text)?, Vec::new(alloc));
     let mut sink = MemorySink::new(alloc, Vec::new(alloc));
-    let ended = bench(alloc, &["-", "verify"], &mut source, &mut sink);
+    let disk = MemoryDisk::new(alloc);
+    let (ended, _disk) = bench(alloc, &["-", "verify"], &mut source, &mut sink, disk);
     assert_eq!(rt; ended, status);
     assert_eq!(rt; sink.bytes(), line);
     assert_eq!(rt; source.left().len(), 0);
@@ -139,7 +142,8 @@ fn the_refusals_of_the_text(rt: HostRuntime) -> Result<(), Fail> {
             "refused input certificate bad-fen 3\n",
         ),
         (
-            "certificate 1\ntable 2\nposition W:W16,23:B12\nclaim white-wins\nwin white 2\nB:W16,19:B12 0\nB:W16,19:B12 0\nend\n",
+            "certificate 1\ntable 2\nposition W:W16,23:B12\nclaim white-wins\nwin white 2\n\
+            B:W16,19:B12 0\nB:W16,19:B12 0\nend\n",
             "refused input certificate doubled 7\n",
         ),
     ] {
@@ -167,17 +171,17 @@ fn a_certificate_that_cannot_be_read(rt: HostRuntime) -> Result<(), Fail> {
     let bytes = Vec::from_slice(rt.alloc(), BLOCKING)?;
     let mut source = MemorySource::new(bytes, vec![in rt.alloc(); 0]?);
     let mut sink = MemorySink::new(rt.alloc(), Vec::new(rt.alloc()));
-    assert_eq!(rt;
-        bench(rt.alloc(), &["-", "verify"], &mut source, &mut sink),
-        Status::Read
-    );
+    let disk = MemoryDisk::new(rt.alloc());
+    let (ended, _disk) = bench(rt.alloc(), &["-", "verify"], &mut source, &mut sink, disk);
+    assert_eq!(rt; ended, Status::Read);
     assert_eq!(rt; sink.bytes(), b"refused read\n".as_slice());
     Ok(())
 }
 
 // ---- the checker by itself
 
-/// Checks the certificate of this text by the table of two pieces, and gives it back with its refusal, if there is one.
+/// Checks the certificate of this text by the table of two pieces, and gives it back with its
+/// refusal, if there is one.
 fn checked(
     rt: &impl Abort,
     alloc: Global,

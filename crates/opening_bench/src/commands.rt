@@ -1,5 +1,6 @@
-//! The commands, each in its file: from the bytes of its source to what is written.
-pub mod showing;
+//! The commands, each in its file: from its source and its disk to what is written.
+pub mod certify;
+pub mod report;
 pub mod solve;
 pub mod table;
 pub mod table_check;

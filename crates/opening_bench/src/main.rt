@@ -1,14 +1,19 @@
 //! `opening_bench`: what openings of English draughts are worth, proved.
 //!
-//! The program reads games, searches the position after each opening, and writes what the certificates found there show
-//! of its value. [`bench`] does all of it, over any source and any sink, and promises what it writes; `main` only gives it the words,
-//! standard input and standard output, and answers `--help` and `--version` itself.
+//! The program reads games, works on their openings on a journal that keeps what is found, and
+//! writes what the certificates found there show of their values. [`run`] does all of it, over any
+//! source, any sink and any disk, and promises what it writes and what it leaves; `main` only gives
+//! it the words, standard input, standard output and the journal's file, and answers `--help` and
+//! `--version` itself.
 #![tactic(auto)]
 
 mod bench;
 #[cfg(test)]
 mod certificate_tests;
 mod commands;
+#[cfg(test)]
+mod journal_tests;
+mod looking;
 mod output;
 mod reading;
 #[cfg(test)]
@@ -16,52 +21,72 @@ mod table_tests;
 #[cfg(test)]
 mod tests;
 
-pub use bench::bench as run;
+pub use bench::{bench as run, bench_quiet};
+use bench_disk::{Disk, FileDisk, MemoryDisk};
 use bench_edges::{Status, StdSink, StdSource, write_all};
 use std::process::ExitCode;
 use std::{env, io};
 
-/// The exit status where the words cannot be had for another cause than want of memory. No call answers it.
+/// The exit status where the words cannot be had for another cause than want of memory. No call
+/// answers it.
 const NO_WORDS: u8 = 9;
 
 /// What `--help` writes.
 const USAGE: &str = "opening_bench: what openings of English draughts are worth, proved.
 
 Usage:
-  opening_bench PATH solve [--depth N] [--pieces K] [--plies N] < GAMES.pdn
+  opening_bench PATH solve [OPTIONS] < GAMES.pdn
+  opening_bench PATH report
+  opening_bench PATH certify N > CERTIFICATE
   opening_bench PATH verify < CERTIFICATE
   opening_bench PATH table K > TABLE
   opening_bench PATH table-check < TABLE
   opening_bench --help
   opening_bench --version
 
-PATH       the journal's; no journal is kept yet, and `-` will do
---depth N  how many plies are looked ahead, 0 to 12 (4 where it is not given)
---pieces K how many pieces the endgame table has at most, 2 or 3 (2 where it is not given)
---plies N  how many plies of each game are its opening, 0 to 200 (200 where it is not given)
-
+PATH       the journal's file, which is made where it is missing; `-` is a journal in memory, which
+           ends with the run. `verify`, `table` and `table-check` do not use it
+N          the number of a root, as `report` writes it
 K          how many pieces an endgame table has at most, 2 or 3
 
-`solve`: the games are PDN, of at most 16777216 bytes and 4096 games. Written are a line
-`root NUMBER FEN VALUE` for each distinct position after an opening, VALUE being black-wins,
-white-wins, draw or unsolved, and a line that counts them. `verify` reads the text of a certificate,
-of at most 268435456 bytes, fills the endgame table that it names, and writes `verified FEN CLAIM`
-where the certificate is good, or else why it is not. `table` writes the bytes of the endgame table
-of K pieces. `table-check` reads such bytes, at most 4194304, and writes `sound table K entries E`
-where each entry is right, or else which is not.
+Options of `solve`:
+--depth N  how many plies are looked ahead, 0 to 12 (4 where it is not given)
+--pieces K how many pieces the endgame table has at most (2 where it is not given); a journal keeps
+           the number that it began with
+--plies N  how many plies of each game are its opening, 0 to 200 (200 where it is not given)
+--budget N how many records of work the run adds at most, 0 to 1000000 (1000 where it is not given)
+--lease N  how many leases later a lease of a position runs out, 1 to 1000000000 (1000000 where it
+           is not given); with one worker it decides nothing
+
+`solve`: the games are PDN, of at most 16777216 bytes and 4096 games. Each distinct position after
+an opening becomes a root of the journal, behind those that it has. The run goes on with what the
+journal holds, until each root has a value or the budget is spent, and writes a line
+`root NUMBER FEN VALUE` for each root, VALUE being black-wins, white-wins, draw or unsolved, and a
+line that counts them. What is found is in the journal before the next position is looked at: a run
+that is stopped, by Ctrl-C too, loses the position that it was looking at and no more, and the next
+one goes on from there. Only one program may use a journal at a time.
+
+`report` writes these lines again for what the journal holds, and writes nothing to it. `certify`
+writes the certificate of the value of root N. `verify` reads the text of a certificate, of at most
+268435456 bytes, fills the endgame table that it names, and writes `verified FEN CLAIM` where the
+certificate is good, or else why it is not. `table` writes the bytes of the endgame table of K
+pieces. `table-check` reads such bytes, at most 4194304, and writes `sound table K entries E` where
+each entry is right, or else which is not.
 
 Exit status:
-  0  each position has a value; the certificate is good; the table was written, or is sound
-  1  some position is unsolved
+  0  each root has a value; the certificate is written, or is good; the table is written, or is sound
+  1  some root is unsolved
   2  the words are not of the form above
-  3  the games cannot be read, or have no openings; the certificate is not good; the bytes are no
-     sound table
+  3  the games cannot be read, or have no openings; there would be more than 65536 roots; there is no
+     root N, or it is unsolved; the certificate is not good; the bytes are no sound table
+  4  the journal's file failed: what was written to the journal before is kept
+  5  the journal's file is none, of a table of other pieces, or damaged; nothing was written to it
   6  no memory
   7  standard input failed
   8  standard output failed
   9  the words could not be had from the system
-With 2, 3, 6 and 7 one line says why, but with 6 nothing is written where memory ends while the
-words are read.
+With 2 to 7 one line says why, but with 6 nothing is written where memory ends while the words are
+read.
 ";
 
 /// What `--version` writes.
@@ -79,7 +104,8 @@ fn told(words: &[&str]) -> Option<&'static str> {
     }
 }
 
-/// The words of the command line without the program's name, or the exit status where they cannot be had.
+/// The words of the command line without the program's name, or the exit status where they cannot
+/// be had.
 fn read_args(rt: &HostRuntime) -> Result<Vec<String>, u8> {
     let args = match env::args(rt) {
         Ok(args) => args,
@@ -93,26 +119,45 @@ fn read_args(rt: &HostRuntime) -> Result<Vec<String>, u8> {
         .map_err(|_| Status::Memory.number())
 }
 
-/// Tells of the program, or calls `bench` on the words, standard input and standard output, and gives the exit status.
-fn run_words(rt: &HostRuntime) -> Result<u8, u8> {
+/// Runs on the journal of a disk, from standard input to standard output, and gives the exit status.
+fn run_on<D: Disk + Drop>(rt: &HostRuntime, words: &[&str], disk: D) -> u8 {
+    let mut source = StdSource::new(rt.reader());
+    let mut sink = StdSink::new(io::writer(rt));
+    let (status, _disk) = run(rt.alloc(), words, &mut source, &mut sink, disk);
+    status.number()
+}
+
+/// Runs on the journal that the first word names, and gives the exit status. `-` and no word stand
+/// for a journal in memory.
+fn run_words(rt: &HostRuntime, words: &[&str]) -> Result<u8, u8> {
+    if words.is_empty() || words[0] == "-" {
+        return Ok(run_on(rt, words, MemoryDisk::new(rt.alloc())));
+    }
+    let path = String::from_str(rt.alloc(), words[0]).map_err(|_| Status::Memory.number())?;
+    Ok(run_on(rt, words, FileDisk::new(rt, path)))
+}
+
+/// Tells of the program, or runs as the words of the command line say, and gives the exit status.
+fn run_args(rt: &HostRuntime) -> Result<u8, u8> {
     let args = read_args(rt)?;
     let words: Vec<&str> = args
         .iter()
         .map(|word| word.as_str())
         .collect(rt.alloc())
         .map_err(|_| Status::Memory.number())?;
-    let mut sink = StdSink::new(io::writer(rt));
-    if let Some(text) = told(&words) {
-        return write_all(&mut sink, text.as_bytes())
-            .map_err(|_| Status::Write.number())
-            .map(|()| 0);
+    match told(&words) {
+        Some(text) => {
+            let mut sink = StdSink::new(io::writer(rt));
+            write_all(&mut sink, text.as_bytes())
+                .map_err(|_| Status::Write.number())
+                .map(|()| 0)
+        }
+        None => run_words(rt, &words),
     }
-    let mut source = StdSource::new(rt.reader());
-    Ok(run(rt.alloc(), &words, &mut source, &mut sink).number())
 }
 
 fn main(rt: HostRuntime) -> ExitCode {
-    match run_words(&rt) {
+    match run_args(&rt) {
         Ok(status) => ExitCode::from(status),
         Err(status) => ExitCode::from(status),
     }

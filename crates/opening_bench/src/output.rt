@@ -26,8 +26,8 @@ impl Output {
     }
 }
 
-/// Writes the output. Where the sink fails, the status is `Write`; else it is `Done` where the output is settled, and
-/// `Unsolved` where it is not.
+/// Writes the output. Where the sink fails, the status is `Write`; else it is `Done` where the
+/// output is settled, and `Unsolved` where it is not.
 pub(crate) fn write_output<K: Sink>(output: &Output, sink: &mut K) -> Status
     ensures taken { TakesOutput result output.now.text.items output.now.is_settled
         (K.taken sink.old) (K.taken sink.new) }

@@ -1,6 +1,7 @@
-//! Runs of `table` and `table-check` with the objects in memory. What is due comes from the format of tables: 8 bytes of
-//! head and 4 for each of 16,130 or 651,010 indices.
+//! Runs of `table` and `table-check` with the objects in memory. What is due comes from the format
+//! of tables: 8 bytes of head and 4 for each of 16,130 or 651,010 indices.
 use crate::bench::bench;
+use bench_disk::MemoryDisk;
 use bench_edges::{MemorySink, MemorySource, Status};
 use std::alloc::Global;
 use std::process::Abort;
@@ -13,7 +14,8 @@ const ENTRY: usize = 8 + 4 * 1232;
 fn table(rt: &impl Abort, alloc: Global, pieces: &str) -> Result<Vec<u8>, Fail> {
     let mut source = MemorySource::new(Vec::from_slice(alloc, b"left")?, Vec::new(alloc));
     let mut sink = MemorySink::new(alloc, Vec::new(alloc));
-    let ended = bench(alloc, &["-", "table", pieces], &mut source, &mut sink);
+    let disk = MemoryDisk::new(alloc);
+    let (ended, _disk) = bench(alloc, &["-", "table", pieces], &mut source, &mut sink, disk);
     assert_eq!(rt; ended, Status::Done);
     assert_eq!(rt; source.left(), b"left".as_slice());
     Ok(Vec::from_slice(alloc, sink.bytes())?)
@@ -29,7 +31,8 @@ fn expect_checked(
 ) -> Result<(), Fail> {
     let mut source = MemorySource::new(Vec::from_slice(alloc, bytes)?, Vec::new(alloc));
     let mut sink = MemorySink::new(alloc, Vec::new(alloc));
-    let ended = bench(alloc, &["-", "table-check"], &mut source, &mut sink);
+    let disk = MemoryDisk::new(alloc);
+    let (ended, _disk) = bench(alloc, &["-", "table-check"], &mut source, &mut sink, disk);
     assert_eq!(rt; ended, status);
     assert_eq!(rt; sink.bytes(), line);
     Ok(())
@@ -119,7 +122,8 @@ fn words_on_tables(rt: HostRuntime) -> Result<(), Fail> {
     ] {
         let mut source = MemorySource::new(Vec::new(rt.alloc()), Vec::new(rt.alloc()));
         let mut sink = MemorySink::new(rt.alloc(), Vec::new(rt.alloc()));
-        let ended = bench(rt.alloc(), words, &mut source, &mut sink);
+        let disk = MemoryDisk::new(rt.alloc());
+        let (ended, _disk) = bench(rt.alloc(), words, &mut source, &mut sink, disk);
         assert_eq!(rt; ended, Status::Words);
         assert_eq!(rt; sink.bytes(), line.as_slice());
     }
@@ -130,7 +134,14 @@ fn words_on_tables(rt: HostRuntime) -> Result<(), Fail> {
 fn a_sink_that_fails_at_a_table(rt: HostRuntime) -> Result<(), Fail> {
     let mut source = MemorySource::new(Vec::new(rt.alloc()), Vec::new(rt.alloc()));
     let mut sink = MemorySink::new(rt.alloc(), vec![in rt.alloc(); 1]?).at_most(100);
-    let ended = bench(rt.alloc(), &["-", "table", "2"], &mut source, &mut sink);
+    let disk = MemoryDisk::new(rt.alloc());
+    let (ended, _disk) = bench(
+        rt.alloc(),
+        &["-", "table", "2"],
+        &mut source,
+        &mut sink,
+        disk,
+    );
     assert_eq!(rt; ended, Status::Write);
     assert_eq!(rt; sink.bytes().len(), 100);
     Ok(())

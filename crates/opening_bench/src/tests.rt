@@ -1,5 +1,7 @@
-//! Runs of `bench` with the objects in memory. What is due was worked out by hand from the rules of play.
+//! Runs of `bench` with the objects in memory. What is due was worked out by hand from the rules of
+//! play.
 use crate::bench::bench;
+use bench_disk::MemoryDisk;
 use bench_edges::{MemorySink, MemorySource, Status};
 use std::alloc::Global;
 use std::process::Abort;
@@ -13,7 +15,8 @@ const ONE_PLY: [&str; 4] = ["-", "solve", "--depth", "1"];
 
 const SOLVE: [&str; 2] = ["-", "solve"];
 
-/// Runs over a source that gives all its bytes and a sink that takes all, and compares the status and what was written.
+/// Runs over a source that gives all its bytes and a sink that takes all, on an empty disk, and
+/// compares the status and what was written.
 fn expect(
     rt: &impl Abort,
     alloc: Global,
@@ -24,7 +27,7 @@ fn expect(
 ) -> Result<(), Fail> {
     let mut source = MemorySource::new(text.as_bytes().to_vec(alloc)?, Vec::new(alloc));
     let mut sink = MemorySink::new(alloc, Vec::new(alloc));
-    let ended = bench(alloc, words, &mut source, &mut sink);
+    let (ended, _disk) = bench(alloc, words, &mut source, &mut sink, MemoryDisk::new(alloc));
     assert_eq!(rt; ended, status, "{text}");
     assert_eq!(rt; sink.bytes(), written.as_bytes(), "{text}");
     Ok(())
@@ -55,7 +58,7 @@ fn expect_values(
 
 #[test]
 fn values_at_sight(rt: HostRuntime) -> Result<(), Fail> {
-    let at_once = ["-", "solve", "--depth", "0"];
+    let at_once = ["-", "solve", "--budget", "0"];
     expect_values(
         &rt,
         rt.alloc(),
@@ -97,14 +100,16 @@ fn values_by_search(rt: HostRuntime) -> Result<(), Fail> {
 fn values_at_sight_of_three_pieces(rt: HostRuntime) -> Result<(), Fail> {
     let three_pieces = ["-", "solve", "--pieces", "3", "--depth", "0"];
     let text = "[FEN \"W:W16,23:B12\"] * [FEN \"B:WK1,K19:BK15\"] *";
-    let written =
-        "root 1 W:W16,23:B12 white-wins\nroot 2 B:WK1,K19:BK15 draw\nroots 2 settled 2 unsolved 0\n";
+    let written = "root 1 W:W16,23:B12 white-wins\nroot 2 B:WK1,K19:BK15 draw\n\
+        roots 2 settled 2 unsolved 0\n";
     expect(&rt, rt.alloc(), &three_pieces, text, Status::Done, written)
 }
 
 #[test]
 fn openings(rt: HostRuntime) -> Result<(), Fail> {
     let no_plies = ["-", "solve", "--plies", "0"];
+    let few_records = ["-", "solve", "--budget", "20"];
+    let none = ["-", "solve", "--budget", "0"];
     for (words, text, status, written) in [
         // A capture that ends where it began.
         (
@@ -112,6 +117,13 @@ fn openings(rt: HostRuntime) -> Result<(), Fail> {
             "[FEN \"B:W6,7,14,15:BK2\"] 1. 2x2 *",
             Status::Done,
             "root 1 W:W:BK2 black-wins\nroots 1 settled 1 unsolved 0\n",
+        ),
+        // The same with the squares between; what it leaves is unsettled at once.
+        (
+            none.as_slice(),
+            "[FEN \"B:W6,7,14,15:B2\"] 1. 2x9x18 *",
+            Status::Unsolved,
+            "root 1 W:W7,15:B18 unsolved\nroots 1 settled 0 unsolved 1\n",
         ),
         (
             no_plies.as_slice(),
@@ -121,23 +133,27 @@ fn openings(rt: HostRuntime) -> Result<(), Fail> {
         ),
         // A game of a club, with comments, a variation and a result.
         (
-            ONE_PLY.as_slice(),
-            "[Event \"Club\"]\n[GameType \"21\"]\n1. 11-15! 22-18 {a centre man} 2. 15x22 $1 (2. 15x22 26x17) 25x18 1/2-1/2\n",
+            few_records.as_slice(),
+            "[Event \"Club\"]\n[GameType \"21\"]\n\
+            1. 11-15! 22-18 {a centre man} 2. 15x22 $1 (2. 15x22 26x17) 25x18 1/2-1/2\n",
             Status::Unsolved,
-            "root 1 B:W18,21,23,24,26,27,28,29,30,31,32:B1,2,3,4,5,6,7,8,9,10,12 unsolved\nroots 1 settled 0 unsolved 1\n",
+            "root 1 B:W18,21,23,24,26,27,28,29,30,31,32:B1,2,3,4,5,6,7,8,9,10,12 unsolved\n\
+            roots 1 settled 0 unsolved 1\n",
         ),
         (
-            ONE_PLY.as_slice(),
+            none.as_slice(),
             "1. 9-13 *",
             Status::Unsolved,
-            "root 1 W:W21,22,23,24,25,26,27,28,29,30,31,32:B1,2,3,4,5,6,7,8,10,11,12,13 unsolved\nroots 1 settled 0 unsolved 1\n",
+            "root 1 W:W21,22,23,24,25,26,27,28,29,30,31,32:B1,2,3,4,5,6,7,8,10,11,12,13 unsolved\n\
+            roots 1 settled 0 unsolved 1\n",
         ),
         // Three games have two openings between them.
         (
             ONE_PLY.as_slice(),
             "[FEN \"W:W16,23:B12\"] * [FEN \"B:W21:B10,17\"] * [FEN \"W:W16,23:B12\"] *",
             Status::Done,
-            "root 1 W:W16,23:B12 white-wins\nroot 2 B:W21:B10,17 black-wins\nroots 2 settled 2 unsolved 0\n",
+            "root 1 W:W16,23:B12 white-wins\nroot 2 B:W21:B10,17 black-wins\n\
+            roots 2 settled 2 unsolved 0\n",
         ),
         (
             SOLVE.as_slice(),
@@ -204,7 +220,14 @@ fn expect_over(
     status: Status,
     written: &[u8],
 ) {
-    let ended = bench(alloc, &ONE_PLY, &mut source, &mut sink);
+    let (ended, disk) = bench(
+        alloc,
+        &ONE_PLY,
+        &mut source,
+        &mut sink,
+        MemoryDisk::new(alloc),
+    );
+    assert_eq!(rt; disk.bytes().is_empty(), status == Status::Read);
     assert_eq!(rt; ended, status);
     assert_eq!(rt; sink.bytes(), written);
 }
@@ -239,7 +262,8 @@ fn sources_and_sinks(rt: HostRuntime) -> Result<(), Fail> {
     Ok(())
 }
 
-/// A text of as many games as may be, each from another position: two White kings, and a Black one that is to move.
+/// A text of as many games as may be, each from another position: two White kings, and a Black one
+/// that is to move.
 fn as_many_games_as_may_be(alloc: Global) -> Result<Vec<u8>, Fail> {
     let mut text = Vec::new(alloc);
     let mut games = 0;
@@ -262,8 +286,9 @@ fn as_many_roots_as_may_be(rt: HostRuntime) -> Result<(), Fail> {
     let text = as_many_games_as_may_be(rt.alloc())?;
     let mut source = MemorySource::new(text, Vec::new(rt.alloc()));
     let mut sink = MemorySink::new(rt.alloc(), Vec::new(rt.alloc()));
-    let words = ["-", "solve", "--depth", "0"];
-    let ended = bench(rt.alloc(), &words, &mut source, &mut sink);
+    let words = ["-", "solve", "--budget", "0"];
+    let disk = MemoryDisk::new(rt.alloc());
+    let (ended, _disk) = bench(rt.alloc(), &words, &mut source, &mut sink, disk);
     assert_eq!(rt; ended, Status::Unsolved);
     let end = b"root 4096 B:WK5,K24:BK17 unsolved\nroots 4096 settled 0 unsolved 4096\n";
     assert!(rt; sink.bytes().ends_with(end));

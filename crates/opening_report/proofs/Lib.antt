@@ -2,3 +2,4 @@ pub mod LineLemmas
 pub mod ReportLemmas
 pub mod RefusalLemmas
 pub mod FindingLemmas
+pub mod BenchLemmas

@@ -14,7 +14,7 @@ use Rattle.fen_text.specs.Printed.{fen_of}
 use Rattle.opening_report.specs.declared.roots.Root.{Root}
 use Rattle.shared_words.specs.Bytes.{Lacks}
 use Rattle.opening_report.specs.Lines.{IsLine, HasLine}
-use Rattle.opening_report.specs.Report.{word_of, root_line, root_lines, settled_count, summary_line, report_lines, report_of, ValuesAreTrue, SaysRoots, SaysNoRoot, StandsOnce, AreTrueRoots, AreApart}
+use Rattle.opening_report.specs.Report.{value_word, root_line, root_lines, settled_count, summary_line, report_lines, report_of, ValuesAreTrue, SaysRoots, SaysNoRoot, StandsOnce, AreTrueRoots, AreApart}
 use Rattle.opening_report.specs.declared.refusals.Refusal.{Refusal}
 use Rattle.opening_report.specs.declared.refusals.Refusal.TheVariants as refusal
 use Rattle.opening_report.specs.Refusals.{refusal_text}
@@ -29,14 +29,14 @@ use Rattle.fen_text.proofs.Plain.{printed_tells_apart}
 
 -- ---- a root's line is a line
 
-Lacks-word : (v : Option Value) → Lacks 10 (word_of v)
+Lacks-word : (v : Option Value) → Lacks 10 (value_word v)
 Lacks-word None = refl
 Lacks-word (Some BlackWins) = refl
 Lacks-word (Some WhiteWins) = refl
 Lacks-word (Some Draw) = refl
 
 root_body : ℕ → Board → Option Value → List ℕ
-root_body n p v = codes "root " ++ (decimal n ++ 32 ∷ (fen_of p ++ 32 ∷ word_of v))
+root_body n p v = codes "root " ++ (decimal n ++ 32 ∷ (fen_of p ++ 32 ∷ value_word v))
 
 blank_then : (text : List ℕ) → Lacks 10 text → Lacks 10 (32 ∷ text)
 blank_then text h = h
@@ -44,10 +44,10 @@ blank_then text h = h
 Lacks-root_body : (n : ℕ) (p : Board) (v : Option Value) → n < 2 ^ 64 → IsLawful p → Lacks 10 (root_body n p v)
 unfolding root_body
 Lacks-root_body n p v l lawful =
-    let word : List ℕ = 32 ∷ word_of v in
+    let word : List ℕ = 32 ∷ value_word v in
     let position : List ℕ = 32 ∷ (fen_of p ++ word) in
     let number : List ℕ = decimal n ++ position in
-    let with_position : Lacks 10 position = blank_then (fen_of p ++ word) (Lacks-append 10 (fen_of p) word (Lacks-fen 10 p refl lawful) (blank_then (word_of v) (Lacks-word v))) in
+    let with_position : Lacks 10 position = blank_then (fen_of p ++ word) (Lacks-append 10 (fen_of p) word (Lacks-fen 10 p refl lawful) (blank_then (value_word v) (Lacks-word v))) in
     let with_number : Lacks 10 number = Lacks-append 10 (decimal n) position (Lacks-decimal 10 n refl l) with_position in
     Lacks-append 10 (codes "root ") number refl with_number
 
@@ -57,9 +57,9 @@ root_line-is_line n p v l lawful = (
   root_body n p v,
   (
     Lacks-root_body n p v l lawful,
-    sym (append_assoc (codes "root ") (decimal n ++ 32 ∷ (fen_of p ++ 32 ∷ word_of v)) (10 ∷ [])
-        ∙ ap (λ t. codes "root " ++ t) (append_assoc (decimal n) (32 ∷ (fen_of p ++ 32 ∷ word_of v)) (10 ∷ [])
-        ∙ ap (λ t. decimal n ++ 32 ∷ t) (append_assoc (fen_of p) (32 ∷ word_of v) (10 ∷ [])))),
+    sym (append_assoc (codes "root ") (decimal n ++ 32 ∷ (fen_of p ++ 32 ∷ value_word v)) (10 ∷ [])
+        ∙ ap (λ t. codes "root " ++ t) (append_assoc (decimal n) (32 ∷ (fen_of p ++ 32 ∷ value_word v)) (10 ∷ [])
+        ∙ ap (λ t. decimal n ++ 32 ∷ t) (append_assoc (fen_of p) (32 ∷ value_word v) (10 ∷ [])))),
   ),
 )
 
@@ -118,22 +118,22 @@ report_lines-are_lines roots l lawful = push_lines (root_lines 1 roots) (summary
 first_differ : (a b : List ℕ) (x y : ℕ) → x ≢ y → get_or a 0 0 ≡ x → get_or b 0 0 ≡ y → a ≡ b → ⊥
 first_differ a b x y n f g e = n (sym f ∙ ap (λ t. get_or t 0 0) e ∙ g)
 
-word_of-tells : (v w : Option Value) → word_of v ++ 10 ∷ [] ≡ word_of w ++ 10 ∷ [] → v ≡ w
+word_of-tells : (v w : Option Value) → value_word v ++ 10 ∷ [] ≡ value_word w ++ 10 ∷ [] → v ≡ w
 word_of-tells (Some BlackWins) (Some BlackWins) e = refl
-word_of-tells (Some BlackWins) (Some WhiteWins) e = absurd (first_differ (word_of (Some BlackWins) ++ 10 ∷ []) (word_of (Some WhiteWins) ++ 10 ∷ []) 98 119 (λ h. omega (arith, h)) refl refl e)
-word_of-tells (Some BlackWins) (Some Draw) e = absurd (first_differ (word_of (Some BlackWins) ++ 10 ∷ []) (word_of (Some Draw) ++ 10 ∷ []) 98 100 (λ h. omega (arith, h)) refl refl e)
-word_of-tells (Some BlackWins) None e = absurd (first_differ (word_of (Some BlackWins) ++ 10 ∷ []) (word_of None ++ 10 ∷ []) 98 117 (λ h. omega (arith, h)) refl refl e)
-word_of-tells (Some WhiteWins) (Some BlackWins) e = absurd (first_differ (word_of (Some WhiteWins) ++ 10 ∷ []) (word_of (Some BlackWins) ++ 10 ∷ []) 119 98 (λ h. omega (arith, h)) refl refl e)
+word_of-tells (Some BlackWins) (Some WhiteWins) e = absurd (first_differ (value_word (Some BlackWins) ++ 10 ∷ []) (value_word (Some WhiteWins) ++ 10 ∷ []) 98 119 (λ h. omega (arith, h)) refl refl e)
+word_of-tells (Some BlackWins) (Some Draw) e = absurd (first_differ (value_word (Some BlackWins) ++ 10 ∷ []) (value_word (Some Draw) ++ 10 ∷ []) 98 100 (λ h. omega (arith, h)) refl refl e)
+word_of-tells (Some BlackWins) None e = absurd (first_differ (value_word (Some BlackWins) ++ 10 ∷ []) (value_word None ++ 10 ∷ []) 98 117 (λ h. omega (arith, h)) refl refl e)
+word_of-tells (Some WhiteWins) (Some BlackWins) e = absurd (first_differ (value_word (Some WhiteWins) ++ 10 ∷ []) (value_word (Some BlackWins) ++ 10 ∷ []) 119 98 (λ h. omega (arith, h)) refl refl e)
 word_of-tells (Some WhiteWins) (Some WhiteWins) e = refl
-word_of-tells (Some WhiteWins) (Some Draw) e = absurd (first_differ (word_of (Some WhiteWins) ++ 10 ∷ []) (word_of (Some Draw) ++ 10 ∷ []) 119 100 (λ h. omega (arith, h)) refl refl e)
-word_of-tells (Some WhiteWins) None e = absurd (first_differ (word_of (Some WhiteWins) ++ 10 ∷ []) (word_of None ++ 10 ∷ []) 119 117 (λ h. omega (arith, h)) refl refl e)
-word_of-tells (Some Draw) (Some BlackWins) e = absurd (first_differ (word_of (Some Draw) ++ 10 ∷ []) (word_of (Some BlackWins) ++ 10 ∷ []) 100 98 (λ h. omega (arith, h)) refl refl e)
-word_of-tells (Some Draw) (Some WhiteWins) e = absurd (first_differ (word_of (Some Draw) ++ 10 ∷ []) (word_of (Some WhiteWins) ++ 10 ∷ []) 100 119 (λ h. omega (arith, h)) refl refl e)
+word_of-tells (Some WhiteWins) (Some Draw) e = absurd (first_differ (value_word (Some WhiteWins) ++ 10 ∷ []) (value_word (Some Draw) ++ 10 ∷ []) 119 100 (λ h. omega (arith, h)) refl refl e)
+word_of-tells (Some WhiteWins) None e = absurd (first_differ (value_word (Some WhiteWins) ++ 10 ∷ []) (value_word None ++ 10 ∷ []) 119 117 (λ h. omega (arith, h)) refl refl e)
+word_of-tells (Some Draw) (Some BlackWins) e = absurd (first_differ (value_word (Some Draw) ++ 10 ∷ []) (value_word (Some BlackWins) ++ 10 ∷ []) 100 98 (λ h. omega (arith, h)) refl refl e)
+word_of-tells (Some Draw) (Some WhiteWins) e = absurd (first_differ (value_word (Some Draw) ++ 10 ∷ []) (value_word (Some WhiteWins) ++ 10 ∷ []) 100 119 (λ h. omega (arith, h)) refl refl e)
 word_of-tells (Some Draw) (Some Draw) e = refl
-word_of-tells (Some Draw) None e = absurd (first_differ (word_of (Some Draw) ++ 10 ∷ []) (word_of None ++ 10 ∷ []) 100 117 (λ h. omega (arith, h)) refl refl e)
-word_of-tells None (Some BlackWins) e = absurd (first_differ (word_of None ++ 10 ∷ []) (word_of (Some BlackWins) ++ 10 ∷ []) 117 98 (λ h. omega (arith, h)) refl refl e)
-word_of-tells None (Some WhiteWins) e = absurd (first_differ (word_of None ++ 10 ∷ []) (word_of (Some WhiteWins) ++ 10 ∷ []) 117 119 (λ h. omega (arith, h)) refl refl e)
-word_of-tells None (Some Draw) e = absurd (first_differ (word_of None ++ 10 ∷ []) (word_of (Some Draw) ++ 10 ∷ []) 117 100 (λ h. omega (arith, h)) refl refl e)
+word_of-tells (Some Draw) None e = absurd (first_differ (value_word (Some Draw) ++ 10 ∷ []) (value_word None ++ 10 ∷ []) 100 117 (λ h. omega (arith, h)) refl refl e)
+word_of-tells None (Some BlackWins) e = absurd (first_differ (value_word None ++ 10 ∷ []) (value_word (Some BlackWins) ++ 10 ∷ []) 117 98 (λ h. omega (arith, h)) refl refl e)
+word_of-tells None (Some WhiteWins) e = absurd (first_differ (value_word None ++ 10 ∷ []) (value_word (Some WhiteWins) ++ 10 ∷ []) 117 119 (λ h. omega (arith, h)) refl refl e)
+word_of-tells None (Some Draw) e = absurd (first_differ (value_word None ++ 10 ∷ []) (value_word (Some Draw) ++ 10 ∷ []) 117 100 (λ h. omega (arith, h)) refl refl e)
 word_of-tells None None e = refl
 
 -- two lines that are the same say the same
@@ -144,9 +144,9 @@ pub record SaysSame (n m : ℕ) (p q : Board) (v w : Option Value) : Type 0 wher
 
 root_line-tells : (n m : ℕ) (p q : Board) (v w : Option Value) → n < 2 ^ 64 → m < 2 ^ 64 → IsLawful p → IsLawful q → root_line n p v ≡ root_line m q w → SaysSame n m p q v w
 root_line-tells n m p q v w ln lm lp lq e =
-    let numbers = halves_agree 32 (decimal n) (decimal m) (fen_of p ++ 32 ∷ (word_of v ++ 10 ∷ [])) (fen_of q ++ 32 ∷ (word_of w ++ 10 ∷ []))
+    let numbers = halves_agree 32 (decimal n) (decimal m) (fen_of p ++ 32 ∷ (value_word v ++ 10 ∷ [])) (fen_of q ++ 32 ∷ (value_word w ++ 10 ∷ []))
     (Lacks-decimal 32 n refl ln) (Lacks-decimal 32 m refl lm) (ap (drop 5) e) in
-    let fens = halves_agree 32 (fen_of p) (fen_of q) (word_of v ++ 10 ∷ []) (word_of w ++ 10 ∷ []) (Lacks-fen 32 p refl lp) (Lacks-fen 32 q refl lq) numbers.1 in
+    let fens = halves_agree 32 (fen_of p) (fen_of q) (value_word v ++ 10 ∷ []) (value_word w ++ 10 ∷ []) (Lacks-fen 32 p refl lp) (Lacks-fen 32 q refl lq) numbers.1 in
     record { number = decimal_injective n m ln lm numbers.0; position = printed_tells_apart p q lp lq fens.0; value = word_of-tells v w fens.1 }
 
 no_summary : (n : ℕ) (p : Board) (v : Option Value) (roots : List Root) → root_line n p v ≡ summary_line roots → ⊥
@@ -264,7 +264,7 @@ other_line_says_no_root text front back one other whole n p v small lawful has =
 
 pub text_without_roots_says_none : (text : List ℕ) → ((before after : List ℕ) → text ≢ before ++ (codes "root " ++ after)) → SaysNoRoot text
 text_without_roots_says_none text without n p v small lawful has =
-    let rest : List ℕ = decimal n ++ 32 ∷ (fen_of p ++ 32 ∷ (word_of v ++ 10 ∷ [])) in
+    let rest : List ℕ = decimal n ++ 32 ∷ (fen_of p ++ 32 ∷ (value_word v ++ 10 ∷ [])) in
     absurd (without has.before (rest ++ has.after) (has.split ∙ ap (λ t. has.before ++ t) (append_assoc (codes "root ") rest has.after)))
 
 second_byte : (r : Refusal) → get_or (refusal_text r) 1 0 ≡ 101
@@ -294,6 +294,13 @@ second_byte (refusal.CheckNoRoot part) = refl
 second_byte refusal.TableBadHead = refl
 second_byte (refusal.TableWrongLength found due) = refl
 second_byte (refusal.TableBadEntry index kept) = refl
+second_byte refusal.TooManyRoots = refl
+second_byte (refusal.NoRoot n) = refl
+second_byte (refusal.UnsettledRoot n) = refl
+second_byte refusal.Disk = refl
+second_byte refusal.NotAJournal = refl
+second_byte (refusal.OtherTable found asked) = refl
+second_byte (refusal.Damaged at) = refl
 second_byte refusal.Memory = refl
 second_byte refusal.Read = refl
 

@@ -5,6 +5,8 @@ use Rattle.certificate_checker.specs.declared.refusals.CheckRefusal.{CheckRefusa
 use Rattle.certificate_checker.specs.declared.refusals.CheckRefusal.TheVariants as check
 use Rattle.certificate_text.specs.declared.refusal.TextRefusal.{TextRefusal}
 use Rattle.certificate_text.specs.declared.refusal.TextRefusal.TheVariants as text
+use Rattle.disk_journal.specs.declared.refusal.JournalRefusal.{JournalRefusal}
+use Rattle.disk_journal.specs.declared.refusal.JournalRefusal.TheVariants as journal
 use Rattle.pdn_openings.specs.declared.refusal.OpeningRefusal.{OpeningRefusal}
 use Rattle.pdn_openings.specs.declared.refusal.OpeningRefusal.TheVariants as opening
 use Rattle.pdn_text.specs.declared.refusal.PdnRefusal.{PdnRefusal}
@@ -63,3 +65,11 @@ of_table table.BadHead = refusal.TableBadHead
 of_table (table.WrongLength found due) = refusal.TableWrongLength found due
 of_table (table.BadEntry index kept) = refusal.TableBadEntry index kept
 of_table (table.Memory error) = refusal.Memory
+
+-- of a disk that is not read as a journal
+abbrev pub of_journal : JournalRefusal → Refusal
+of_journal journal.DiskFault = refusal.Disk
+of_journal journal.NotAJournal = refusal.NotAJournal
+of_journal (journal.OtherTable found asked) = refusal.OtherTable found asked
+of_journal (journal.Damaged at) = refusal.Damaged at
+of_journal (journal.Memory error) = refusal.Memory

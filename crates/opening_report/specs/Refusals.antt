@@ -71,5 +71,13 @@ refusal_text (refusal.TableWrongLength found due) =
     numbered_twice (codes "refused input table wrong-length found ") found (codes " due ") due
 refusal_text (refusal.TableBadEntry index kept) =
     numbered_twice (codes "refused input table bad-entry ") index (codes " kept ") kept
+refusal_text refusal.TooManyRoots = codes "refused input too-many-roots\n"
+refusal_text (refusal.NoRoot n) = numbered (codes "refused input no-root ") n
+refusal_text (refusal.UnsettledRoot n) = numbered (codes "refused input unsettled-root ") n
+refusal_text refusal.Disk = codes "refused disk\n"
+refusal_text refusal.NotAJournal = codes "refused journal not-a-journal\n"
+refusal_text (refusal.OtherTable found asked) =
+    numbered_twice (codes "refused journal other-table found ") found (codes " asked ") asked
+refusal_text (refusal.Damaged at) = numbered (codes "refused journal damaged byte ") at
 refusal_text refusal.Memory = codes "refused memory\n"
 refusal_text refusal.Read = codes "refused read\n"

@@ -1,12 +1,13 @@
 //! What a run is refused for, where a crate below refuses: `?` converts.
 ghost use Rattle.std.specs.Prelude.{◌≡◌};
-ghost use Rattle.opening_report.specs.Conversions.{of_read, of_pdn, of_openings, of_text, of_check, of_table};
+ghost use Rattle.opening_report.specs.Conversions.{of_read, of_pdn, of_openings, of_text, of_check, of_table, of_journal};
 ghost use Rattle.opening_report.specs.declared.refusals.Refusal.TheVariants as refusals;
 
 use crate::refusals::Refusal;
 use bench_edges::{ReadRefusal, WordsRefusal};
 use certificate_checker::CheckRefusal;
 use certificate_text::TextRefusal;
+use disk_journal::JournalRefusal;
 use pdn_openings::OpeningRefusal;
 use pdn_text::PdnRefusal;
 use std::alloc::AllocError;
@@ -118,6 +119,21 @@ impl From<TableRefusal> for Refusal {
             TableRefusal::WrongLength { found, due } => Refusal::TableWrongLength { found, due },
             TableRefusal::BadEntry { index, kept } => Refusal::TableBadEntry { index, kept },
             TableRefusal::Memory(_) => Refusal::Memory,
+        }
+    }
+}
+
+impl From<JournalRefusal> for Refusal {
+    ghost from_gives = { λ fault refusal. refusal ≡ of_journal fault };
+
+    /// The disk is not read as a journal.
+    fn from(fault: JournalRefusal) -> Refusal {
+        match fault {
+            JournalRefusal::DiskFault => Refusal::Disk,
+            JournalRefusal::NotAJournal => Refusal::NotAJournal,
+            JournalRefusal::OtherTable { found, asked } => Refusal::OtherTable { found, asked },
+            JournalRefusal::Damaged(at) => Refusal::Damaged(at),
+            JournalRefusal::Memory(_) => Refusal::Memory,
         }
     }
 }

@@ -10,7 +10,8 @@ use draughts_board::Position;
 use fen_text::print_fen;
 use strategy_certificate::Claim;
 
-/// The line that a table of so many pieces, with so many entries, is sound, its line end among it. It takes no memory.
+/// The line that a table of so many pieces, with so many entries, is sound, its line end among it.
+/// It takes no memory.
 pub fn sound_line(pieces: u8, entries: usize) -> ArrayString<128>
     ensures text { result.bytes ≡ sound_text pieces entries }
     ensures line { IsLine (sound_text pieces entries) }
@@ -18,7 +19,8 @@ pub fn sound_line(pieces: u8, entries: usize) -> ArrayString<128>
     numbered_twice("sound table ", pieces as usize, " entries ", entries)
 }
 
-/// The line that this claim on this position was verified, its line end among it. It takes no memory.
+/// The line that this claim on this position was verified, its line end among it. It takes no
+/// memory.
 pub fn verified_line(position: &Position, claim: Claim) -> ArrayString<128>
     ensures text { result.bytes ≡ verified_text position.now claim }
     ensures line { IsLine (verified_text position.now claim) }

@@ -1,10 +1,11 @@
-//! What the program writes: the report, a line for each root and a summary; the line on a table that is sound, or on a
-//! claim that was verified; or the one line of a refusal.
+//! What the program writes: the report, a line for each root and a summary; the line on a table
+//! that is sound, or on a claim that was verified; or the one line of a refusal.
 //!
-//! The texts are functions of what they say (`specs/Report.antt`, `specs/Refusals.antt`). [`laws`] says what a reader of
-//! a report may believe.
+//! The texts are functions of what they say (`specs/Report.antt`, `specs/Refusals.antt`). [`laws`]
+//! says what a reader of a report may believe.
 #![tactic(auto)]
 
+mod benches;
 mod conversions;
 mod findings;
 pub mod laws;
@@ -15,6 +16,7 @@ mod roots;
 #[cfg(test)]
 mod tests;
 
+pub use benches::{is_settled, report_text, root_certificate, summary_text};
 pub use findings::{sound_line, verified_line};
 pub use refusals::{Refusal, refusal_line};
 pub use reports::report;

@@ -11,7 +11,8 @@ use draughts_board::Side;
 use fen_text::FenRefusal;
 use itoa::Buffer;
 
-/// Why a run was refused. Places of words and bytes count from 0; games, plies, lines, parts and entries from 1.
+/// Why a run was refused. Places of words and bytes count from 0; games, plies, lines, parts and
+/// entries from 1.
 #[derive(Clone, Copy, Debug, PartialEq, Eq)]
 pub enum Refusal {
     /// The word at this place cannot stand there, or is missing.
@@ -66,6 +67,20 @@ pub enum Refusal {
     TableWrongLength { found: usize, due: usize },
     /// The table is not right at this index, counted from 0, where this number stands.
     TableBadEntry { index: u32, kept: u32 },
+    /// There would be more roots than a journal can hold.
+    TooManyRoots,
+    /// No root has this number, counted from 1.
+    NoRoot(u32),
+    /// The root with this number, counted from 1, has no value yet.
+    UnsettledRoot(u32),
+    /// The disk failed.
+    Disk,
+    /// The bytes of the disk are those of no journal.
+    NotAJournal,
+    /// The journal is for tables of so many pieces, and not of those that are asked for.
+    OtherTable { found: u8, asked: u8 },
+    /// The journal is damaged at this byte, counted from 0.
+    Damaged(u64),
     /// Memory ran out.
     Memory,
     /// The source failed.
@@ -138,9 +153,11 @@ pub(crate) fn numbered_twice(first: &str, a: usize, second: &str, b: usize) -> A
 /// The line on a table that has another length than is due.
 fn length_line(found: usize, due: usize) -> ArrayString<128>
     ensures bytes { result.bytes
-        ≡ numbered_twice (codes "refused input table wrong-length found ") found (codes " due ") due }
+        ≡ numbered_twice (codes "refused input table wrong-length found ") found
+        (codes " due ") due }
     ensures line { IsLine
-        (numbered_twice (codes "refused input table wrong-length found ") found (codes " due ") due) }
+        (numbered_twice (codes "refused input table wrong-length found ") found
+        (codes " due ") due) }
 {
     numbered_twice(
         "refused input table wrong-length found ",
@@ -159,6 +176,19 @@ fn entry_line(index: u32, kept: u32) -> ArrayString<128>
 {
     let label = "refused input table bad-entry ";
     numbered_twice(label, index as usize, " kept ", kept as usize)
+}
+
+/// The line on a journal for tables of other pieces.
+fn other_table_line(found: u8, asked: u8) -> ArrayString<128>
+    ensures bytes { result.bytes
+        ≡ numbered_twice (codes "refused journal other-table found ") found
+        (codes " asked ") asked }
+    ensures line { IsLine
+        (numbered_twice (codes "refused journal other-table found ") found
+        (codes " asked ") asked) }
+{
+    let label = "refused journal other-table found ";
+    numbered_twice(label, found as usize, " asked ", asked as usize)
 }
 
 /// The front of a line on a game.
@@ -279,6 +309,13 @@ pub fn refusal_line(r: &Refusal) -> ArrayString<128>
         Refusal::TableBadHead => plain("refused input table bad-head\n"),
         Refusal::TableWrongLength { found, due } => length_line(found, due),
         Refusal::TableBadEntry { index, kept } => entry_line(index, kept),
+        Refusal::TooManyRoots => plain("refused input too-many-roots\n"),
+        Refusal::NoRoot(n) => numbered("refused input no-root ", n as usize),
+        Refusal::UnsettledRoot(n) => numbered("refused input unsettled-root ", n as usize),
+        Refusal::Disk => plain("refused disk\n"),
+        Refusal::NotAJournal => plain("refused journal not-a-journal\n"),
+        Refusal::OtherTable { found, asked } => other_table_line(found, asked),
+        Refusal::Damaged(at) => numbered("refused journal damaged byte ", at as usize),
         Refusal::Memory => plain("refused memory\n"),
         Refusal::Read => plain("refused read\n"),
     }

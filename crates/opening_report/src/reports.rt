@@ -1,6 +1,6 @@
 //! The report: a line for each root, and a summary.
 ghost use Rattle.std.specs.Prelude.{◌≡◌, ◌≤◌, ◌++◌, length, OnOk, IfOk, decimal};
-ghost use Rattle.opening_report.specs.Report.{word_of, root_line, settled_count, summary_line, report_of};
+ghost use Rattle.opening_report.specs.Report.{value_word, root_line, settled_count, summary_line, report_of};
 
 use crate::roots::Root;
 use draughts_board::Value;
@@ -10,7 +10,7 @@ use std::alloc::{AllocError, Global};
 
 /// The word for a value, and for none.
 fn word(value: Option<Value>) -> &'static str
-    ensures { result.now ≡ word_of value }
+    ensures { result.now ≡ value_word value }
 {
     match value {
         Some(Value::BlackWins) => "black-wins",
@@ -63,7 +63,8 @@ fn push_summary(text: &mut Vec<u8>, roots: &[Root]) -> Result<(), AllocError>
     Ok(())
 }
 
-/// The report on the roots, in their order and numbered from 1, and the summary behind them. Answers want of memory.
+/// The report on the roots, in their order and numbered from 1, and the summary behind them.
+/// Answers want of memory.
 pub fn report(alloc: Global, roots: &[Root]) -> Result<Vec<u8>, AllocError>
     ensures { IfOk result (λ text. text.items ≡ report_of roots.now) }
 {

@@ -223,7 +223,8 @@ fn refusals_of_the_check_of_a_certificate(rt: HostRuntime) {
                 part: 18446744073709551615,
                 entry: 18446744073709551614,
             },
-            "refused input check part 18446744073709551615 entry 18446744073709551614 stuck-holder\n",
+            "refused input check part 18446744073709551615 \
+            entry 18446744073709551614 stuck-holder\n",
         ),
         (
             Refusal::CheckNoRoot(2),

@@ -13,7 +13,8 @@ fn rate(bytes: usize, nanoseconds: u128) -> u128 {
     (bytes as u128).saturating_mul(1_000_000_000) / nanoseconds.max(1)
 }
 
-/// Reads a file in parts of one length, five times, and copies it five times. Prints the best of each.
+/// Reads a file in parts of one length, five times, and copies it five times. Prints the best of
+/// each.
 pub(crate) fn time(
     rt: &(impl Files + Print + Clock + Alloc<A = Global>),
     name: &str,

@@ -2,7 +2,7 @@
 use Rattle.std.proofs.Common.{◌≡◌, ◌⊎◌, inl, inr, ℕ, suc, ◌+◌, ◌<◌, ◌≤◌, List, [], ◌∷◌, ◌++◌, length, get_or, take, drop, sym, subst, arith, length-take-le, take_all}
 use Rattle.std.specs.Bool.{OnFalse}
 use Rattle.shared_words.proofs.Exactness.{on_false}
-use Rattle.pdn_openings.specs.Faults.{is_memory, IsFault, StandsFirst}
+use Rattle.pdn_openings.specs.Faults.{opening_wants_memory, IsOpeningFault, OpeningFaultStandsFirst}
 use Rattle.pdn_openings.specs.Openings.{IsOpening, AreOpeningsFrom, AreOpenings}
 use Rattle.pdn_openings.specs.declared.opening.Opening.{Opening}
 use Rattle.pdn_openings.specs.declared.refusal.OpeningRefusal.{OpeningRefusal}
@@ -30,13 +30,13 @@ opened-push plies number (g ∷ games) (o ∷ openings) game opening each more =
 abbrev pub FirstFault : ℕ → ℕ → List Game → OpeningRefusal → Type 0
 FirstFault plies number [] fault = ⊥
 FirstFault plies number (game ∷ games) fault =
-    IsFault plies number game fault ⊎ ((opening : Opening) × (IsOpening plies number game opening × FirstFault plies (suc number) games fault))
+    IsOpeningFault plies number game fault ⊎ ((opening : Opening) × (IsOpening plies number game opening × FirstFault plies (suc number) games fault))
 
 first-behind : (plies number : ℕ) (before : List Game) (openings : List Opening) (game : Game) (behind : List Game) (fault : OpeningRefusal)
-    → AreOpeningsFrom plies number before openings → IsFault plies (number + length before) game fault
+    → AreOpeningsFrom plies number before openings → IsOpeningFault plies (number + length before) game fault
     → FirstFault plies number (before ++ game ∷ behind) fault
 first-behind plies number [] openings game behind fault opened faulty =
-    inl (subst (λ n. IsFault plies n game fault) (let n : number + 0 ≡ number = omega arith in n) faulty)
+    inl (subst (λ n. IsOpeningFault plies n game fault) (let n : number + 0 ≡ number = omega arith in n) faulty)
 first-behind plies number (g ∷ before) [] game behind fault opened faulty = absurd opened
 first-behind plies number (g ∷ before) (o ∷ openings) game behind fault opened faulty =
     inr (
@@ -44,15 +44,15 @@ first-behind plies number (g ∷ before) (o ∷ openings) game behind fault open
       (
         opened.0,
         first-behind plies (suc number) before openings game behind fault opened.1
-            (subst (λ n. IsFault plies n game fault) (let n : number + length (g ∷ before) ≡ suc number + length before = omega arith in n) faulty),
+            (subst (λ n. IsOpeningFault plies n game fault) (let n : number + length (g ∷ before) ≡ suc number + length before = omega arith in n) faulty),
       ),
     )
 
-first-fault : (plies : ℕ) (games : List Game) (fault : OpeningRefusal) → StandsFirst plies games fault → FirstFault plies 1 games fault
+first-fault : (plies : ℕ) (games : List Game) (fault : OpeningRefusal) → OpeningFaultStandsFirst plies games fault → FirstFault plies 1 games fault
 first-fault plies games fault s =
     subst (λ gs. FirstFault plies 1 gs fault) (sym s.all)
     (first-behind plies 1 s.before s.openings s.game s.behind fault s.opened
-    (subst (λ n. IsFault plies n s.game fault) (let n : suc (length s.before) ≡ 1 + length s.before = omega arith in n) s.faulty))
+    (subst (λ n. IsOpeningFault plies n s.game fault) (let n : suc (length s.before) ≡ 1 + length s.before = omega arith in n) s.faulty))
 
 -- ---- never both, and no other
 
@@ -73,21 +73,21 @@ one_first plies number (g ∷ games) e f a b = elim a [
 ]
 
 pub openings_or_fault : (plies : ℕ) (games : List Game) (openings : List Opening) (fault : OpeningRefusal) → AreOpenings plies games openings
-    → StandsFirst plies games fault → ⊥
+    → OpeningFaultStandsFirst plies games fault → ⊥
 openings_or_fault plies games openings fault opened s = openings_or_first plies 1 games openings fault opened (first-fault plies games fault s)
 
-pub one_refusal : (plies : ℕ) (games : List Game) (e f : OpeningRefusal) → StandsFirst plies games e → StandsFirst plies games f → e ≡ f
+pub one_refusal : (plies : ℕ) (games : List Game) (e f : OpeningRefusal) → OpeningFaultStandsFirst plies games e → OpeningFaultStandsFirst plies games f → e ≡ f
 one_refusal plies games e f a b = one_first plies 1 games e f (first-fault plies games e a) (first-fault plies games f b)
 
 -- ---- game by game
 
 -- the games before place i have openings, and the fault of that at place i stands first
 pub stands_here : (plies : ℕ) (games : List Game) (openings : List Opening) (i : ℕ) (game : Game) (fault : OpeningRefusal) → i < length games
-    → game ≡ get_or games i game → AreOpeningsFrom plies 1 (take i games) openings → OnFalse (is_memory fault) (IsFault plies (i + 1) game fault)
-    → OnFalse (is_memory fault) (StandsFirst plies games fault)
-stands_here plies games openings i game fault h is opened faulty = on_false (is_memory fault) (IsFault plies (i + 1) game fault) (StandsFirst plies games fault) stands faulty
+    → game ≡ get_or games i game → AreOpeningsFrom plies 1 (take i games) openings → OnFalse (opening_wants_memory fault) (IsOpeningFault plies (i + 1) game fault)
+    → OnFalse (opening_wants_memory fault) (OpeningFaultStandsFirst plies games fault)
+stands_here plies games openings i game fault h is opened faulty = on_false (opening_wants_memory fault) (IsOpeningFault plies (i + 1) game fault) (OpeningFaultStandsFirst plies games fault) stands faulty
   where
-    stands : IsFault plies (i + 1) game fault → StandsFirst plies games fault
+    stands : IsOpeningFault plies (i + 1) game fault → OpeningFaultStandsFirst plies games fault
     stands f = record {
       before = take i games;
       openings = openings;
@@ -97,7 +97,7 @@ stands_here plies games openings i game fault h is opened faulty = on_false (is_
       opened = opened;
       faulty =
           let n : i + 1 ≡ suc (length (take i games)) = omega (arith, length-take-le i games (omega arith)) in
-          subst (λ n. IsFault plies n game fault) n f;
+          subst (λ n. IsOpeningFault plies n game fault) n f;
     }
 
 -- the game at place i has its opening too

@@ -8,8 +8,8 @@ use Rattle.draughts_board.specs.declared.resolution.ResolveRefusal.{ResolveRefus
 use Rattle.draughts_board.specs.declared.resolution.ResolveRefusal.TheVariants as cause
 use Rattle.fen_text.specs.declared.refusal.FenRefusal.{FenRefusal}
 use Rattle.fen_text.proofs.Verdict.{one_outcome}
-use Rattle.pdn_openings.specs.Beginning.{is_other_game, SetsUp, SetsUpNone, BeginsFrom, HasBadFen, first_value}
-use Rattle.pdn_openings.specs.Faults.{is_memory, IsFault, IsMoveFault, StopsAt}
+use Rattle.pdn_openings.specs.Beginning.{is_other_game, SetsUp, SetsUpNone, BeginsFrom, HasRefusedFen, first_value}
+use Rattle.pdn_openings.specs.Faults.{opening_wants_memory, IsOpeningFault, IsMoveFault, StopsAt}
 use Rattle.pdn_openings.specs.Openings.{IsOpening}
 use Rattle.pdn_openings.specs.Playing.{LeadTo, StopAt}
 use Rattle.pdn_openings.specs.declared.opening.Opening.{Opening}
@@ -33,10 +33,10 @@ one_setup_fault : (o : Option (List ℕ)) (e f : FenRefusal) → SetsUpNone o e 
 one_setup_fault None e f a b = absurd a
 one_setup_fault (Some text) e f a b = let same : ◌≡◌ {A = Result Board FenRefusal} (Err e) (Err f) = one_outcome text (Err e) (Err f) a b in cc
 
-begins_or_not : (game : Game) (p : Board) (fault : FenRefusal) → BeginsFrom game p → HasBadFen game fault → ⊥
+begins_or_not : (game : Game) (p : Board) (fault : FenRefusal) → BeginsFrom game p → HasRefusedFen game fault → ⊥
 begins_or_not game p fault a b = setup_or_fault (first_value (codes "FEN") game.tags) p fault a b
 
-one_bad_fen : (game : Game) (e f : FenRefusal) → HasBadFen game e → HasBadFen game f → e ≡ f
+one_bad_fen : (game : Game) (e f : FenRefusal) → HasRefusedFen game e → HasRefusedFen game f → e ≡ f
 one_bad_fen game e f a b = one_setup_fault (first_value (codes "FEN") game.tags) e f a b
 
 -- ---- where its moves stop
@@ -59,14 +59,14 @@ same_stop plies game ply at why ply' at' why' a b =
 -- ---- its opening, or its fault
 
 pub opening_or_fault : (plies number : ℕ) (game : Game) (opening : Opening) (fault : OpeningRefusal) → IsOpening plies number game opening
-    → IsFault plies number game fault → ⊥
+    → IsOpeningFault plies number game fault → ⊥
 opening_or_fault plies number game opening (OtherGame n) is h = not_both game h.1 is.english
 opening_or_fault plies number game opening (Fen n fault) is h = begins_or_not game is.start fault is.begins h.2
 opening_or_fault plies number game opening (Illegal n ply at) is h = leads_or_stops plies number game opening ply at cause.Illegal is h.2
 opening_or_fault plies number game opening (Ambiguous n ply at) is h = leads_or_stops plies number game opening ply at (cause.Ambiguous h.2.0 h.2.1) is h.2.2
 opening_or_fault plies number game opening (Memory error) is h = h
 
-pub one_fault : (plies number : ℕ) (game : Game) (e f : OpeningRefusal) → IsFault plies number game e → IsFault plies number game f → e ≡ f
+pub one_fault : (plies number : ℕ) (game : Game) (e f : OpeningRefusal) → IsOpeningFault plies number game e → IsOpeningFault plies number game f → e ≡ f
 one_fault plies number game (OtherGame n) (OtherGame m) a b = let same = a.0 ∙ sym b.0 in λ i. OtherGame (same i)
 one_fault plies number game (OtherGame n) (Fen m f) a b = absurd (not_both game a.1 b.1)
 one_fault plies number game (OtherGame n) (Illegal m ply at) a b = absurd (not_both game a.1 b.1)
@@ -98,7 +98,7 @@ one_fault plies number game e (Memory error) a b = absurd b
 
 -- a fault of its moves is the game's, where it is one of English draughts and begins from a position
 pub move_fault : (plies number : ℕ) (game : Game) (start : Board) (fault : OpeningRefusal) → is_other_game game ≡ false → BeginsFrom game start
-    → OnFalse (is_memory fault) (IsMoveFault number start (take plies game.moves) fault) → OnFalse (is_memory fault) (IsFault plies number game fault)
+    → OnFalse (opening_wants_memory fault) (IsMoveFault number start (take plies game.moves) fault) → OnFalse (opening_wants_memory fault) (IsOpeningFault plies number game fault)
 move_fault plies number game start (OtherGame n) english begins h = absurd h
 move_fault plies number game start (Fen n f) english begins h = absurd h
 move_fault plies number game start (Illegal n ply at) english begins h = (h.0, english, (start, (begins, h.1)))

@@ -1,11 +1,11 @@
 -- One more move: moves go on, or stop.
 use Rattle.std.proofs.Common.{◌≡◌, ◌∙◌, ℕ, suc, ◌+◌, ◌<◌, List, [], ◌∷◌, ◌++◌, length, get_or, take, drop, Err, refl, sym, ap, subst, arith, drop-cons, take-suc, take-append-drop, length-take-le}
 use Rattle.draughts_board.specs.Board.{Board}
-use Rattle.draughts_board.specs.Resolution.{UnlessMemory}
+use Rattle.draughts_board.specs.Resolution.{resolve_wants_memory}
 use Rattle.draughts_board.specs.declared.resolution.ResolveRefusal.{ResolveRefusal}
 use Rattle.draughts_board.specs.declared.resolution.ResolveRefusal.TheVariants.{Illegal, Ambiguous, Memory}
 use Rattle.std.specs.Bool.{OnFalse}
-use Rattle.pdn_openings.specs.Faults.{is_memory, IsMoveFault, refusal_of}
+use Rattle.pdn_openings.specs.Faults.{opening_wants_memory, IsMoveFault, refusal_of}
 use Rattle.pdn_openings.specs.Playing.{meaning_of, LeadTo, StopAt}
 use Rattle.pdn_openings.proofs.Outcome.{lead-push}
 use Rattle.pdn_text.specs.declared.game.MoveText.{MoveText}
@@ -42,8 +42,8 @@ stop-here p here moves i written cause h is led refused = record {
 }
 
 pub fault-here : (number : ℕ) (p here : Board) (moves : List MoveText) (i : ℕ) (written : MoveText) (cause : ResolveRefusal) → i < length moves
-    → written ≡ get_or moves i written → LeadTo p (take i moves) here → UnlessMemory (Err cause) (meaning_of here written ≡ Err cause)
-    → OnFalse (is_memory (refusal_of cause number (i + 1) written.at)) (IsMoveFault number p moves (refusal_of cause number (i + 1) written.at))
+    → written ≡ get_or moves i written → LeadTo p (take i moves) here → OnFalse (resolve_wants_memory cause) (meaning_of here written ≡ Err cause)
+    → OnFalse (opening_wants_memory (refusal_of cause number (i + 1) written.at)) (IsMoveFault number p moves (refusal_of cause number (i + 1) written.at))
 fault-here number p here moves i written Illegal h is led refused = (refl, stop-here p here moves i written Illegal h is led refused)
 fault-here number p here moves i written (Ambiguous a b) h is led refused =
     (refl, (a, b, stop-here p here moves i written (Ambiguous a b) h is led refused))

@@ -4,7 +4,7 @@ use Rattle.std.specs.List.{starts_with}
 use Rattle.std.specs.Option.{option_map}
 use Rattle.std.specs.Str.{bytes_eq}
 use Rattle.draughts_board.specs.Board.{Board, start_board}
-use Rattle.fen_text.specs.Refusal.{IsFault}
+use Rattle.fen_text.specs.Refusal.{IsFenFault}
 use Rattle.fen_text.specs.Spelled.{Spells}
 use Rattle.fen_text.specs.declared.refusal.FenRefusal.{FenRefusal}
 use Rattle.pdn_text.specs.declared.game.Game.{Game}
@@ -42,8 +42,8 @@ BeginsFrom game p = SetsUp (first_value (codes "FEN") game.tags) p
 
 abbrev pub SetsUpNone : Option (List ℕ) → FenRefusal → Type 0
 SetsUpNone None fault = ⊥
-SetsUpNone (Some text) fault = IsFault text fault
+SetsUpNone (Some text) fault = IsFenFault text fault
 
 -- the game's first `FEN` is none, for this fault
-abbrev pub HasBadFen : Game → FenRefusal → Type 0
-HasBadFen game fault = SetsUpNone (first_value (codes "FEN") game.tags) fault
+abbrev pub HasRefusedFen : Game → FenRefusal → Type 0
+HasRefusedFen game fault = SetsUpNone (first_value (codes "FEN") game.tags) fault

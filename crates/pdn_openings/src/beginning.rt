@@ -1,7 +1,7 @@
 //! What a game's tags say: whether it is one of English draughts, and where it begins.
 ghost use Rattle.std.specs.Prelude.{◌≡◌, IfOk, IfErr};
 ghost use Rattle.std.specs.Option.{option_map};
-ghost use Rattle.pdn_openings.specs.Beginning.{first_value, is_english, is_other_game, BeginsFrom, HasBadFen};
+ghost use Rattle.pdn_openings.specs.Beginning.{first_value, is_english, is_other_game, BeginsFrom, HasRefusedFen};
 
 use draughts_board::Position;
 use fen_text::{FenRefusal, read_fen};
@@ -35,7 +35,7 @@ pub(crate) fn is_other_game(game: &Game) -> bool
 /// The position that the game begins from, or why its first `FEN` is none.
 pub(crate) fn beginning(game: &Game) -> Result<Position, FenRefusal>
     ensures begins { IfOk result (BeginsFrom game.now) }
-    ensures fault { IfErr result (HasBadFen game.now) }
+    ensures fault { IfErr result (HasRefusedFen game.now) }
 {
     match first_value(b"FEN", game.tags.as_slice()) {
         Some(text) => read_fen(text),

@@ -1,9 +1,9 @@
 //! The openings of games: the position of each after its first plies.
 //!
-//! A game is one of English draughts unless its first `GameType` tag says otherwise. It begins from the position of
-//! its first `FEN` tag, else from the start position. `specs/Openings.antt` says what the openings of a list of games
-//! are, and `specs/Faults.antt` why a list of games has none: the answer of `openings` is exactly that, unless memory
-//! runs out.
+//! A game is one of English draughts unless its first `GameType` tag says otherwise. It begins from
+//! the position of its first `FEN` tag, else from the start position. `specs/Openings.antt` says
+//! what the openings of a list of games are, and `specs/Faults.antt` why a list of games has none:
+//! the answer of `openings` is exactly that, unless memory runs out.
 //!
 //! Games and plies are counted from 1. Places in the text are byte offsets from 0.
 #![tactic(auto)]

@@ -3,7 +3,7 @@ ghost use Rattle.std.specs.Prelude.{◌≡◌, ◌≤◌, All, IfOk, IfErr, leng
 ghost use Rattle.std.specs.Bool.{OnFalse};
 ghost use Rattle.shared_words.specs.Answers.{IsExact, listed};
 ghost use Rattle.draughts_board.specs.Board.{IsLawful};
-ghost use Rattle.pdn_openings.specs.Faults.{is_memory, IsFault, StandsFirst};
+ghost use Rattle.pdn_openings.specs.Faults.{opening_wants_memory, IsOpeningFault, OpeningFaultStandsFirst};
 ghost use Rattle.pdn_openings.specs.Openings.{IsOpening, AreOpenings};
 
 use crate::beginning::{beginning, is_other_game};
@@ -38,7 +38,8 @@ fn opening_of(
     plies: u32,
 ) -> Result<Opening, OpeningRefusal>
     ensures opening { IfOk result (IsOpening plies number game.now) }
-    ensures fault { IfErr result (λ e. OnFalse (is_memory e) (IsFault plies number game.now e)) }
+    ensures fault { IfErr result (λ e. OnFalse (opening_wants_memory e)
+        (IsOpeningFault plies number game.now e)) }
 {
     if is_other_game(game) {
         return Err(OpeningRefusal::OtherGame(number));
@@ -57,21 +58,24 @@ fn opening_of(
     }
 }
 
-/// The openings of these games: of each the position after its first `plies` moves, or after all where it has fewer.
+/// The openings of these games: of each the position after its first `plies` moves, or after all
+/// where it has fewer.
 ///
-/// A game begins from its first `FEN` tag, else from the start position. What stands behind those moves is not looked
-/// at. Each move is resolved in the position that those before it lead to: with two squares it may be any legal move
-/// between them, with more only the one along them.
+/// A game begins from its first `FEN` tag, else from the start position. What stands behind those
+/// moves is not looked at. Each move is resolved in the position that those before it lead to: with
+/// two squares it may be any legal move between them, with more only the one along them.
 ///
-/// The first game with a fault is answered, and of its faults the first of these: `OtherGame` where its first
-/// `GameType` tag is not `21` and does not begin with `21,`; `Fen` where its first `FEN` tag is none; `Illegal` or
-/// `Ambiguous` for its first move that means no legal one, with its ply and its place in the text. Tag names are
-/// compared letter for letter.
+/// The first game with a fault is answered, and of its faults the first of these: `OtherGame` where
+/// its first `GameType` tag is not `21` and does not begin with `21,`; `Fen` where its first `FEN`
+/// tag is none; `Illegal` or `Ambiguous` for its first move that means no legal one, with its ply
+/// and its place in the text. Tag names are compared letter for letter.
 pub fn openings(alloc: Global, games: &[Game], plies: u32) -> Result<Vec<Opening>, OpeningRefusal>
     requires { length games.now ≤ MOST_GAMES }
 
-    // The openings of all games, or the fault of the first game that has one: exactly that, unless memory ran out.
-    ensures exact { IsExact is_memory (AreOpenings plies games.now) (StandsFirst plies games.now)
+    // The openings of all games, or the fault of the first game that has one: exactly that, unless
+    // memory ran out.
+    ensures exact { IsExact opening_wants_memory (AreOpenings plies games.now)
+        (OpeningFaultStandsFirst plies games.now)
         (listed result) }
 
     // There is one opening of each game, and it is a position of English draughts.
@@ -85,7 +89,8 @@ pub fn openings(alloc: Global, games: &[Game], plies: u32) -> Result<Vec<Opening
 fn all_openings(alloc: Global, games: &[Game], plies: u32) -> Result<Vec<Opening>, OpeningRefusal>
     requires { length games.now ≤ MOST_GAMES }
     ensures openings { IfOk result (λ found. AreOpenings plies games.now found.items) }
-    ensures refused { IfErr result (λ e. OnFalse (is_memory e) (StandsFirst plies games.now e)) }
+    ensures refused { IfErr result (λ e. OnFalse (opening_wants_memory e)
+        (OpeningFaultStandsFirst plies games.now e)) }
 {
     let mut found = Vec::new(alloc);
     for (i, game) in games.iter().enumerate() {

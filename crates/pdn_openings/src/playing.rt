@@ -1,8 +1,8 @@
 //! Plays written moves on a position, one after another.
 ghost use Rattle.std.specs.Prelude.{◌≡◌, ◌<◌, ◌^◌, [], ◌∷◌, Err, IfOk, IfErr, length};
 ghost use Rattle.std.specs.Bool.{OnFalse};
-ghost use Rattle.draughts_board.specs.Resolution.{UnlessMemory};
-ghost use Rattle.pdn_openings.specs.Faults.{is_memory, IsMoveFault, refusal_of};
+ghost use Rattle.draughts_board.specs.Resolution.{resolve_wants_memory};
+ghost use Rattle.pdn_openings.specs.Faults.{opening_wants_memory, IsMoveFault, refusal_of};
 ghost use Rattle.pdn_openings.specs.Playing.{LeadTo, meaning_of};
 
 use crate::refusal::OpeningRefusal;
@@ -16,7 +16,7 @@ use std::alloc::Global;
 fn after_move(alloc: Global, p: &Position, written: &MoveText) -> Result<Position, ResolveRefusal>
     ensures led { IfOk result (LeadTo p.now (written.now ∷ [])) }
     ensures refused { IfErr result (λ cause.
-        UnlessMemory (Err cause) (meaning_of p.now written.now ≡ Err cause)) }
+        OnFalse (resolve_wants_memory cause) (meaning_of p.now written.now ≡ Err cause)) }
 {
     let squares = written.squares.path();
     let last = squares.len() - 1;
@@ -44,7 +44,8 @@ pub(crate) fn played(
 ) -> Result<Position, OpeningRefusal>
     requires { length moves.now < 2 ^ 32 }
     ensures led { IfOk result (LeadTo start moves.now) }
-    ensures fault { IfErr result (λ e. OnFalse (is_memory e) (IsMoveFault game start moves.now e)) }
+    ensures fault { IfErr result (λ e. OnFalse (opening_wants_memory e)
+        (IsMoveFault game start moves.now e)) }
 {
     let mut here = start;
     for (i, written) in moves.iter().enumerate() {

@@ -1,5 +1,6 @@
-//! Games as they are written and the positions that they lead to, worked out by hand from the rules of play. An answer
-//! is told as a line for each opening, `GAME FEN`, or as the refusal: `GAME CAUSE` or `GAME PLY PLACE CAUSE`.
+//! Games as they are written and the positions that they lead to, worked out by hand from the rules
+//! of play. An answer is told as a line for each opening, `GAME FEN`, or as the refusal: `GAME
+//! CAUSE` or `GAME PLY PLACE CAUSE`.
 use crate::{OpeningRefusal, openings};
 use fen_text::{FenRefusal, print_fen};
 use pdn_text::{MOST_GAMES, read_games};
@@ -66,7 +67,8 @@ fn leads_to_positions(rt: HostRuntime) -> Result<(), Fail> {
             "1 W:W21,22,23,24,25,26,27,28,29,30,31,32:B1,2,3,4,5,6,7,8,10,11,12,13\n",
         ),
         (
-            "[Event \"Club\"]\n[GameType \"21\"]\n1. 11-15! 22-18 {a centre man} 2. 15x22 $1 (2. 15x22 26x17) 25x18 1/2-1/2\n",
+            "[Event \"Club\"]\n[GameType \"21\"]\n\
+            1. 11-15! 22-18 {a centre man} 2. 15x22 $1 (2. 15x22 26x17) 25x18 1/2-1/2\n",
             200,
             "1 B:W18,21,23,24,26,27,28,29,30,31,32:B1,2,3,4,5,6,7,8,9,10,12\n",
         ),
@@ -94,7 +96,9 @@ fn leads_to_positions(rt: HostRuntime) -> Result<(), Fail> {
         (
             "1. 9-14 * 1. 10-15 * 1. 12-16",
             200,
-            "1 W:W21,22,23,24,25,26,27,28,29,30,31,32:B1,2,3,4,5,6,7,8,10,11,12,14\n2 W:W21,22,23,24,25,26,27,28,29,30,31,32:B1,2,3,4,5,6,7,8,9,11,12,15\n3 W:W21,22,23,24,25,26,27,28,29,30,31,32:B1,2,3,4,5,6,7,8,9,10,11,16\n",
+            "1 W:W21,22,23,24,25,26,27,28,29,30,31,32:B1,2,3,4,5,6,7,8,10,11,12,14\n\
+            2 W:W21,22,23,24,25,26,27,28,29,30,31,32:B1,2,3,4,5,6,7,8,9,11,12,15\n\
+            3 W:W21,22,23,24,25,26,27,28,29,30,31,32:B1,2,3,4,5,6,7,8,9,10,11,16\n",
         ),
         (
             "[FEN \"W:W16,23:B12\"] * [FEN \"B:W21:B10,17\"] *",

@@ -4,7 +4,7 @@ use Rattle.std.specs.List.{flat_map}
 use Rattle.std.proofs.lemmas.Bool.{ne_eqb}
 use Rattle.std.proofs.lemmas.List.{map-append}
 use Rattle.std.proofs.lemmas.List.Concat.{flat_map-append}
-use Rattle.pdn_text.specs.Games.{Played, signs_of, kept, EndsBefore, AreGames, Make}
+use Rattle.pdn_text.specs.Games.{Played, signs_of, kept_game, EndsBefore, AreGames, Make}
 use Rattle.pdn_text.specs.Gathering.{Progress, no_game, closed, taken, all_taken, is_open, games_of}
 use Rattle.pdn_text.specs.declared.game.Game.{Game}
 use Rattle.pdn_text.specs.declared.game.MoveText.{MoveText}
@@ -51,7 +51,7 @@ ready_tag (p ∷ q ∷ more) next tag r = (r.0, r.1, ready_tag (q ∷ more) next
 pub record Gathers (p : Progress) (signs : List Sign) : Type 0 where
   pub done : List Played
   pub ready : Ready done p.tags
-  pub games : p.games ≡ map kept done
+  pub games : p.games ≡ map kept_game done
   pub all : signs ≡ flat_map signs_of done ++ (map Tagged p.tags ++ map Moved p.moves)
 
 pub gathers_none : Gathers no_game []
@@ -76,8 +76,8 @@ some_end [] (m ∷ ms) e = cc
 some_end (t ∷ ts) moves e = cc
 
 -- a game that is closed goes to the others
-gathers_games : (p : Progress) (signs : List Sign) (ended : Bool) (g : Gathers p signs) → (closed p).games ≡ map kept (g.done ++ open_game p ended ∷ [])
-gathers_games p signs ended g = ap (λ x. x ++ record { tags = p.tags; moves = p.moves } ∷ []) g.games ∙ sym (map-append kept g.done (open_game p ended ∷ []))
+gathers_games : (p : Progress) (signs : List Sign) (ended : Bool) (g : Gathers p signs) → (closed p).games ≡ map kept_game (g.done ++ open_game p ended ∷ [])
+gathers_games p signs ended g = ap (λ x. x ++ record { tags = p.tags; moves = p.moves } ∷ []) g.games ∙ sym (map-append kept_game g.done (open_game p ended ∷ []))
 
 gathers_whole : (p : Progress) (signs : List Sign) (ended : Bool) (g : Gathers p signs) → signs ++ cond ended (Ended ∷ []) [] ≡ flat_map signs_of (g.done ++ open_game p ended ∷ [])
 gathers_whole p signs ended g =
@@ -204,7 +204,7 @@ moves_taken games tags before (m ∷ moves) = moves_taken games tags (before ++ 
 
 -- where a game leads from a state with no open game
 abbrev led : List Game → Played → Bool → Progress
-led games g true = state (games ++ kept g ∷ []) [] []
+led games g true = state (games ++ kept_game g ∷ []) [] []
 led games g false = state games g.tags g.moves
 
 end_taken : (games : List Game) (g : Played) (ended : Bool) → all_taken (state games g.tags g.moves) (cond ended (Ended ∷ []) []) ≡ led games g ended
@@ -254,7 +254,7 @@ is_some g [] h = h
 is_some g (next ∷ more) h = h.0
 
 -- where the game leads, it is among the games, and the next one waits there
-led_games : (games : List Game) (g : Played) (ended : Bool) → g.ended ≡ ended → signs_of g ≢ [] → games_of (led games g ended) ≡ games ++ kept g ∷ []
+led_games : (games : List Game) (g : Played) (ended : Bool) → g.ended ≡ ended → signs_of g ≢ [] → games_of (led games g ended) ≡ games ++ kept_game g ∷ []
 led_games games g true e some = refl
 led_games games g false e some = open_games games g.tags g.moves (rw e at some)
 
@@ -263,15 +263,15 @@ led_waits games g [] ended e h = tt
 led_waits games g (next ∷ more) true e h = inl refl
 led_waits games g (next ∷ more) false e h = elim h.1 [ inl is ↦ (let wrong = sym e ∙ is in cc) | inr is ↦ inr is ]
 
-played_taken : (played : List Played) (p : Progress) → AreGames played → Waits p played → games_of (all_taken p (flat_map signs_of played)) ≡ games_of p ++ map kept played
+played_taken : (played : List Played) (p : Progress) → AreGames played → Waits p played → games_of (all_taken p (flat_map signs_of played)) ≡ games_of p ++ map kept_game played
 played_taken [] p h waits = sym (append-nil (games_of p))
 played_taken (g ∷ more) p h waits =
     let rest = flat_map signs_of more in
     let here : all_taken p (signs_of g) ≡ led (games_of p) g g.ended = begins_alike p g g.tags refl waits ∙ game_taken (games_of p) g in
     ap games_of (all_taken-append p (signs_of g) rest ∙ ap (λ x. all_taken x rest) here)
     ∙ played_taken more (led (games_of p) g g.ended) (are_rest g more h) (led_waits (games_of p) g more g.ended refl h)
-    ∙ ap (λ x. x ++ map kept more) (led_games (games_of p) g g.ended refl (is_some g more h))
-    ∙ append_assoc (games_of p) (kept g ∷ []) (map kept more)
+    ∙ ap (λ x. x ++ map kept_game more) (led_games (games_of p) g g.ended refl (is_some g more h))
+    ∙ append_assoc (games_of p) (kept_game g ∷ []) (map kept_game more)
 
 no_game_waits : (played : List Played) → Waits no_game played
 no_game_waits [] = tt

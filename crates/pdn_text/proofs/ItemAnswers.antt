@@ -2,7 +2,7 @@
 use Rattle.std.proofs.Common.{◌≡◌, ◌∙◌, inl, inr, ℕ, ◌+◌, Bool, List, length, slice_index, Option, Some, None, Result, Ok, Err, refl, sym, ap, eqb}
 use Rattle.std.specs.List.{position}
 use Rattle.pdn_text.specs.Forms.{form_of}
-use Rattle.pdn_text.specs.Grammar.{IsItem, IsFault, IsWordItem, IsComment, IsVariation, IsTag, word_len, word_at}
+use Rattle.pdn_text.specs.Grammar.{IsItemOfText, IsPdnFault, IsWordItem, IsComment, IsVariation, IsTag, word_len, word_at}
 use Rattle.pdn_text.specs.Scans.{item_of, comment_item, variation_item, tag_item, word_item, variation_end, tag_at}
 use Rattle.pdn_text.specs.Tags.{BeginsWithTag}
 use Rattle.pdn_text.specs.Words.{word_of}
@@ -35,7 +35,7 @@ variation_sound at rest item (Ok n) t h = record { inside = t.inside; behind = t
 variation_sound at rest item (Err (unclosed.Comment k)) t h = cc
 variation_sound at rest item (Err unclosed.Variation) t h = cc
 
-variation_fault : (at : ℕ) (rest : List ℕ) (fault : PdnRefusal) (r : Result ℕ Unclosed) → Told rest r → variation_item at r ≡ Err fault → IsFault form.Variation at rest fault
+variation_fault : (at : ℕ) (rest : List ℕ) (fault : PdnRefusal) (r : Result ℕ Unclosed) → Told rest r → variation_item at r ≡ Err fault → IsPdnFault form.Variation at rest fault
 variation_fault at rest fault (Ok n) t h = cc
 variation_fault at rest fault (Err (unclosed.Comment k)) t h = inr (k, t, cc)
 variation_fault at rest fault (Err unclosed.Variation) t h = inl (t, cc)
@@ -45,7 +45,7 @@ tag_sound : (at : ℕ) (rest : List ℕ) (item : Item) (o : Option (Tag × List 
 tag_sound at rest item None begins e h = cc
 tag_sound at rest item (Some x) begins e h = record { tag = x.0; behind = x.1; begins = tag_found rest x.0 x.1 begins e; says = cc }
 
-tag_fault : (at : ℕ) (rest : List ℕ) (fault : PdnRefusal) (o : Option (Tag × List ℕ)) → tag_at rest ≡ o → tag_item at (length rest) o ≡ Err fault → IsFault form.Tag at rest fault
+tag_fault : (at : ℕ) (rest : List ℕ) (fault : PdnRefusal) (o : Option (Tag × List ℕ)) → tag_at rest ≡ o → tag_item at (length rest) o ≡ Err fault → IsPdnFault form.Tag at rest fault
 tag_fault at rest fault None e h = ((λ tag behind is. (let found = tag_only rest tag behind is in cc)), cc)
 tag_fault at rest fault (Some x) e h = cc
 
@@ -62,7 +62,7 @@ word_fault at end fault word.Number h = cc
 word_fault at end fault (word.Move squares) h = cc
 word_fault at end fault word.Bad h = (refl, cc)
 
-sound_at : (start : Bool) (at : ℕ) (rest : List ℕ) (item : Item) (f : Form) → form_of start rest ≡ f → item_of f at rest ≡ Ok item → IsItem f at rest item
+sound_at : (start : Bool) (at : ℕ) (rest : List ℕ) (item : Item) (f : Form) → form_of start rest ≡ f → item_of f at rest ≡ Ok item → IsItemOfText f at rest item
 sound_at start at rest item form.Line e h = cc
 sound_at start at rest item form.Blank e h = cc
 sound_at start at rest item form.Comment e h = comment_sound at rest item (position (λ b. eqb b 125) rest) refl h
@@ -73,7 +73,7 @@ sound_at start at rest item form.Star e h = cc
 sound_at start at rest item form.Word e h = word_sound at (at + word_len rest) item (word_of (word_at rest)) h
 sound_at start at rest item form.Nothing e h = cc
 
-fault_at : (start : Bool) (at : ℕ) (rest : List ℕ) (fault : PdnRefusal) (f : Form) → form_of start rest ≡ f → item_of f at rest ≡ Err fault → IsFault f at rest fault
+fault_at : (start : Bool) (at : ℕ) (rest : List ℕ) (fault : PdnRefusal) (f : Form) → form_of start rest ≡ f → item_of f at rest ≡ Err fault → IsPdnFault f at rest fault
 fault_at start at rest fault form.Line e h = cc
 fault_at start at rest fault form.Blank e h = cc
 fault_at start at rest fault form.Comment e h = comment_fault at rest fault (position (λ b. eqb b 125) rest) refl h
@@ -85,14 +85,14 @@ fault_at start at rest fault form.Word e h = word_fault at (at + word_len rest) 
 fault_at start at rest fault form.Nothing e h = cc
 
 -- an answer is an item, or a fault
-pub item_sound : (start : Bool) (at : ℕ) (rest : List ℕ) (item : Item) → item_of (form_of start rest) at rest ≡ Ok item → IsItem (form_of start rest) at rest item
+pub item_sound : (start : Bool) (at : ℕ) (rest : List ℕ) (item : Item) → item_of (form_of start rest) at rest ≡ Ok item → IsItemOfText (form_of start rest) at rest item
 item_sound start at rest item h = sound_at start at rest item (form_of start rest) refl h
 
-pub fault_sound : (start : Bool) (at : ℕ) (rest : List ℕ) (fault : PdnRefusal) → item_of (form_of start rest) at rest ≡ Err fault → IsFault (form_of start rest) at rest fault
+pub fault_sound : (start : Bool) (at : ℕ) (rest : List ℕ) (fault : PdnRefusal) → item_of (form_of start rest) at rest ≡ Err fault → IsPdnFault (form_of start rest) at rest fault
 fault_sound start at rest fault h = fault_at start at rest fault (form_of start rest) refl h
 
 -- no single item is one game too many
-pub never_too_many : (f : Form) (at : ℕ) (rest : List ℕ) → IsFault f at rest refusal.TooManyGames → ⊥
+pub never_too_many : (f : Form) (at : ℕ) (rest : List ℕ) → IsPdnFault f at rest refusal.TooManyGames → ⊥
 never_too_many form.Line at rest h = h
 never_too_many form.Blank at rest h = h
 never_too_many form.Comment at rest h = let e = h.1 in cc
@@ -110,7 +110,7 @@ word_again at end item word.Number h = ap Ok (sym h)
 word_again at end item (word.Move squares) h = ap Ok (sym h)
 word_again at end item word.Bad h = absurd h
 
-again_at : (at : ℕ) (rest : List ℕ) (item : Item) (f : Form) → IsItem f at rest item → item_of f at rest ≡ Ok item
+again_at : (at : ℕ) (rest : List ℕ) (item : Item) (f : Form) → IsItemOfText f at rest item → item_of f at rest ≡ Ok item
 again_at at rest item form.Line h = ap Ok (sym h)
 again_at at rest item form.Blank h = ap Ok (sym h)
 again_at at rest item form.Comment h = ap (comment_item at) h.next ∙ ap Ok (sym h.skips)
@@ -122,14 +122,14 @@ again_at at rest item form.Star h = ap Ok (sym h)
 again_at at rest item form.Word h = word_again at (at + word_len rest) item (word_of (word_at rest)) h
 again_at at rest item form.Nothing h = absurd h
 
-pub item_again : (start : Bool) (at : ℕ) (rest : List ℕ) (item : Item) → IsItem (form_of start rest) at rest item → item_of (form_of start rest) at rest ≡ Ok item
+pub item_again : (start : Bool) (at : ℕ) (rest : List ℕ) (item : Item) → IsItemOfText (form_of start rest) at rest item → item_of (form_of start rest) at rest ≡ Ok item
 item_again start at rest item h = again_at at rest item (form_of start rest) h
 
 no_tag : (rest : List ℕ) (o : Option (Tag × List ℕ)) → slice_index rest 0 ≡ 91 → tag_at rest ≡ o → ((tag : Tag) (behind : List ℕ) → ¬ BeginsWithTag rest tag behind) → o ≡ None
 no_tag rest None begins e h = refl
 no_tag rest (Some x) begins e h = absurd (h x.0 x.1 (tag_found rest x.0 x.1 begins e))
 
-fault_again_at : (start : Bool) (at : ℕ) (rest : List ℕ) (fault : PdnRefusal) (f : Form) → form_of start rest ≡ f → IsFault f at rest fault → item_of f at rest ≡ Err fault
+fault_again_at : (start : Bool) (at : ℕ) (rest : List ℕ) (fault : PdnRefusal) (f : Form) → form_of start rest ≡ f → IsPdnFault f at rest fault → item_of f at rest ≡ Err fault
 fault_again_at start at rest fault form.Line e h = absurd h
 fault_again_at start at rest fault form.Blank e h = absurd h
 fault_again_at start at rest fault form.Comment e h = ap (comment_item at) h.0 ∙ ap Err (sym h.1)
@@ -141,5 +141,5 @@ fault_again_at start at rest fault form.Star e h = absurd h
 fault_again_at start at rest fault form.Word e h = ap (word_item at (at + word_len rest)) h.0 ∙ ap Err (sym h.1)
 fault_again_at start at rest fault form.Nothing e h = ap Err (sym h)
 
-pub fault_again : (start : Bool) (at : ℕ) (rest : List ℕ) (fault : PdnRefusal) → IsFault (form_of start rest) at rest fault → item_of (form_of start rest) at rest ≡ Err fault
+pub fault_again : (start : Bool) (at : ℕ) (rest : List ℕ) (fault : PdnRefusal) → IsPdnFault (form_of start rest) at rest fault → item_of (form_of start rest) at rest ≡ Err fault
 fault_again start at rest fault h = fault_again_at start at rest fault (form_of start rest) refl h

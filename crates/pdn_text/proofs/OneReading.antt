@@ -5,8 +5,8 @@ use Rattle.std.proofs.lemmas.List.{drop_all}
 use Rattle.std.proofs.lemmas.List.Concat.{flat_map-append}
 use Rattle.pdn_text.specs.Forms.{form_of}
 use Rattle.pdn_text.specs.Gathering.{no_game, all_taken, games_of}
-use Rattle.pdn_text.specs.Grammar.{IsItem, IsFault, form_at, begins_line}
-use Rattle.pdn_text.specs.Pdn.{beginning, AreItems, signs, ReadsTo, Reads, StandsFirst, BeginsOneMore, Refused}
+use Rattle.pdn_text.specs.Grammar.{IsItemOfText, IsPdnFault, form_at, begins_line}
+use Rattle.pdn_text.specs.Pdn.{beginning, AreItemsOfText, signs, ReadsTo, Reads, StandsFirst, BeginsOneMore, Refused}
 use Rattle.pdn_text.specs.Scans.{item_of}
 use Rattle.pdn_text.specs.declared.form.Form.TheVariants as form
 use Rattle.pdn_text.specs.declared.TheConstants.{MOST_GAMES}
@@ -19,32 +19,32 @@ use Rattle.pdn_text.proofs.ItemAnswers.{item_again, fault_again}
 use Rattle.pdn_text.proofs.Reached.{push_item}
 
 -- one item at a place
-item_same : (text : List ℕ) (at : ℕ) (x y : Item) → IsItem (form_at text at) at (drop at text) x → IsItem (form_at text at) at (drop at text) y → x ≡ y
+item_same : (text : List ℕ) (at : ℕ) (x y : Item) → IsItemOfText (form_at text at) at (drop at text) x → IsItemOfText (form_at text at) at (drop at text) y → x ≡ y
 item_same text at x y hx hy =
     let both = sym (item_again (begins_line text at) at (drop at text) x hx) ∙ item_again (begins_line text at) at (drop at text) y hy in
     cc
 
 -- xs up to p begin ys up to q
 abbrev Begins : List ℕ → List Item → ℕ → List Item → ℕ → Type 0
-Begins text xs p ys q = (more : List Item) × (xs ++ more ≡ ys) × AreItems text p more q
+Begins text xs p ys q = (more : List Item) × (xs ++ more ≡ ys) × AreItemsOfText text p more q
 
 begins_push : (text : List ℕ) (x y : Item) (xs ys : List Item) (p q : ℕ) → x ≡ y → Begins text xs p ys q → Begins text (x ∷ xs) p (y ∷ ys) q
 begins_push text x y xs ys p q e b = (b.0, ap (λ z. x ∷ z) b.1 ∙ ap (λ z. z ∷ ys) e, b.2)
 
 -- of two readings one begins the other
-one_begins : (text : List ℕ) (at p q : ℕ) (xs ys : List Item) → AreItems text at xs p → AreItems text at ys q → Begins text xs p ys q ⊎ Begins text ys q xs p
-one_begins text at p q [] ys a b = inl (ys, refl, subst (λ z. AreItems text z ys q) a b)
-one_begins text at p q (x ∷ xs) [] a b = inr (x ∷ xs, refl, subst (λ z. AreItems text z (x ∷ xs) p) b a)
+one_begins : (text : List ℕ) (at p q : ℕ) (xs ys : List Item) → AreItemsOfText text at xs p → AreItemsOfText text at ys q → Begins text xs p ys q ⊎ Begins text ys q xs p
+one_begins text at p q [] ys a b = inl (ys, refl, subst (λ z. AreItemsOfText text z ys q) a b)
+one_begins text at p q (x ∷ xs) [] a b = inr (x ∷ xs, refl, subst (λ z. AreItemsOfText text z (x ∷ xs) p) b a)
 one_begins text at p q (x ∷ xs) (y ∷ ys) a b =
     let same = item_same text at x y a.0 b.0 in
-    elim (one_begins text x.end p q xs ys a.1 (subst (λ z. AreItems text z ys q) (ap (λ (i : Item). i.end) (sym same)) b.1)) [
+    elim (one_begins text x.end p q xs ys a.1 (subst (λ z. AreItemsOfText text z ys q) (ap (λ (i : Item). i.end) (sym same)) b.1)) [
       | inl h ↦ inl (begins_push text x y xs ys p q same h)
       | inr h ↦ inr (begins_push text y x ys xs q p (sym same) h)
     ]
 
 -- no item stands at a place
 abbrev IsStop : List ℕ → ℕ → Type 0
-IsStop text at = (item : Item) → ¬ IsItem (form_at text at) at (drop at text) item
+IsStop text at = (item : Item) → ¬ IsItemOfText (form_at text at) at (drop at text) item
 
 end_form : (start : Bool) → form_of start [] ≡ form.Nothing
 unfolding form_of
@@ -57,12 +57,12 @@ stop_at_end text item is =
     let wrong = rw none at is in
     rw (end_form (begins_line text (length text))) at wrong
 
-stop_at_fault : (text : List ℕ) (at : ℕ) (e : PdnRefusal) → IsFault (form_at text at) at (drop at text) e → IsStop text at
+stop_at_fault : (text : List ℕ) (at : ℕ) (e : PdnRefusal) → IsPdnFault (form_at text at) at (drop at text) e → IsStop text at
 stop_at_fault text at e h item is =
     let both = sym (item_again (begins_line text at) at (drop at text) item is) ∙ fault_again (begins_line text at) at (drop at text) e h in
     cc
 
-stops_at : (text : List ℕ) (xs ys more : List Item) (p q : ℕ) → IsStop text p → xs ++ more ≡ ys → AreItems text p more q → (xs ≡ ys) × (p ≡ q)
+stops_at : (text : List ℕ) (xs ys more : List Item) (p q : ℕ) → IsStop text p → xs ++ more ≡ ys → AreItemsOfText text p more q → (xs ≡ ys) × (p ≡ q)
 stops_at text xs ys [] p q stop e a = (sym (append-nil xs) ∙ e, a)
 stops_at text xs ys (x ∷ more) p q stop e a = absurd (stop x a.0)
 
@@ -70,7 +70,7 @@ stops : (text : List ℕ) (xs ys : List Item) (p q : ℕ) → IsStop text p → 
 stops text xs ys p q stop b = stops_at text xs ys b.0 p q stop b.1 b.2
 
 -- two stops are one
-one_stop : (text : List ℕ) (at p q : ℕ) (xs ys : List Item) → AreItems text at xs p → AreItems text at ys q → IsStop text p → IsStop text q → (xs ≡ ys) × (p ≡ q)
+one_stop : (text : List ℕ) (at p q : ℕ) (xs ys : List Item) → AreItemsOfText text at xs p → AreItemsOfText text at ys q → IsStop text p → IsStop text q → (xs ≡ ys) × (p ≡ q)
 one_stop text at p q xs ys a b sp sq = elim (one_begins text at p q xs ys a b) [
   | inl h ↦ stops text xs ys p q sp h
   | inr h ↦ (let s = stops text ys xs q p sq h in (sym s.0, sym s.1))

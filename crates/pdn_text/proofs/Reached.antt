@@ -4,10 +4,10 @@ use Rattle.std.specs.Prelude.{option_to_list}
 use Rattle.std.proofs.lemmas.List.Concat.{flat_map-append}
 use Rattle.std.specs.Bool.{OnFalse}
 use Rattle.pdn_text.specs.Gathering.{Progress, no_game, taken, all_taken, games_of, IsRefusedAs}
-use Rattle.pdn_text.specs.Grammar.{IsItem, IsFault, form_at, begins_line}
+use Rattle.pdn_text.specs.Grammar.{IsItemOfText, IsPdnFault, form_at, begins_line}
 use Rattle.pdn_text.specs.Forms.{form_of}
-use Rattle.pdn_text.specs.Signs.{is_memory}
-use Rattle.pdn_text.specs.Pdn.{Refused, beginning, AreItems, signs, ReadsTo, Reads, StandsFirst, BeginsOneMore}
+use Rattle.pdn_text.specs.Signs.{pdn_wants_memory}
+use Rattle.pdn_text.specs.Pdn.{Refused, beginning, AreItemsOfText, signs, ReadsTo, Reads, StandsFirst, BeginsOneMore}
 use Rattle.pdn_text.specs.Scans.{item_of}
 use Rattle.pdn_text.specs.declared.TheConstants.{MOST_GAMES}
 use Rattle.pdn_text.specs.declared.game.Game.{Game}
@@ -21,7 +21,7 @@ use Rattle.pdn_text.proofs.ItemAnswers.{item_sound, fault_sound, never_too_many}
 -- the text is items up to this place, and this is what they say of games
 pub record Reached (text : List ℕ) (at : ℕ) (p : Progress) : Type 0 where
   pub items : List Item
-  pub are_items : AreItems text (beginning text) items at
+  pub are_items : AreItemsOfText text (beginning text) items at
   pub so_far : p ≡ all_taken no_game (signs items)
   pub few : length (games_of p) ≤ MOST_GAMES
   pub inside : at ≤ length text
@@ -35,9 +35,9 @@ reached_beginning text p e inside = record {
   inside = inside;
 }
 
-pub push_item : (text : List ℕ) (from to : ℕ) (items : List Item) (item : Item) → AreItems text from items to → IsItem (form_at text to) to (drop to text) item
-    → AreItems text from (items ++ item ∷ []) item.end
-push_item text from to [] item e is = (subst (λ x. IsItem (form_at text x) x (drop x text) item) (sym e) is, refl)
+pub push_item : (text : List ℕ) (from to : ℕ) (items : List Item) (item : Item) → AreItemsOfText text from items to → IsItemOfText (form_at text to) to (drop to text) item
+    → AreItemsOfText text from (items ++ item ∷ []) item.end
+push_item text from to [] item e is = (subst (λ x. IsItemOfText (form_at text x) x (drop x text) item) (sym e) is, refl)
 push_item text from to (x ∷ items) item a is = (a.0, push_item text x.end to items item a.1 is)
 
 pub signs_push : (items : List Item) (item : Item) → signs (items ++ item ∷ []) ≡ signs items ++ option_to_list item.sign
@@ -45,7 +45,7 @@ signs_push items item = flat_map-append (λ i. option_to_list i.sign) items (ite
 
 -- what was answered here is an item
 here : (text : List ℕ) (at : ℕ) (start : Bool) (item : Item) → start ≡ begins_line text at → Ok item ≡ item_of (form_of start (drop at text)) at (drop at text)
-    → IsItem (form_at text at) at (drop at text) item
+    → IsItemOfText (form_at text at) at (drop at text) item
 here text at start item e h = item_sound (begins_line text at) at (drop at text) item (rw (← e) (sym h))
 
 -- an item that says nothing
@@ -84,7 +84,7 @@ reads_all text at p games r end e =
     let last : at ≡ length text = omega arith in
     rw e (r.items, rw (← last) (reads_to text at p r))
 
-pub fault_here : (text : List ℕ) (at : ℕ) (p : Progress) (e : PdnRefusal) → Reached text at p → at < length text → IsFault (form_at text at) at (drop at text) e → StandsFirst text e
+pub fault_here : (text : List ℕ) (at : ℕ) (p : Progress) (e : PdnRefusal) → Reached text at p → at < length text → IsPdnFault (form_at text at) at (drop at text) e → StandsFirst text e
 fault_here text at p e r inside fault = record {
   place = at;
   items = r.items;
@@ -94,7 +94,7 @@ fault_here text at p e r inside fault = record {
   stands = fault;
 }
 
-pub one_more : (text : List ℕ) (at : ℕ) (p : Progress) (item : Item) (sign : Sign) → Reached text at p → IsItem (form_at text at) at (drop at text) item → item.sign ≡ Some sign
+pub one_more : (text : List ℕ) (at : ℕ) (p : Progress) (item : Item) (sign : Sign) → Reached text at p → IsItemOfText (form_at text at) at (drop at text) item → item.sign ≡ Some sign
     → length (games_of (taken p sign)) ≡ suc MOST_GAMES → BeginsOneMore text
 one_more text at p item sign r is some many =
     let led : taken p sign ≡ all_taken no_game (signs (r.items ++ item ∷ [])) =
@@ -112,13 +112,13 @@ one_more text at p item sign r is some many =
     }
 
 pub refused_here : (text : List ℕ) (at : ℕ) (p : Progress) (start : Bool) (e : PdnRefusal) → Reached text at p → at < length text → start ≡ begins_line text at
-    → OnFalse (is_memory e) (Err e ≡ item_of (form_of start (drop at text)) at (drop at text)) → OnFalse (is_memory e) (Refused text e)
+    → OnFalse (pdn_wants_memory e) (Err e ≡ item_of (form_of start (drop at text)) at (drop at text)) → OnFalse (pdn_wants_memory e) (Refused text e)
 refused_here text at p start e r inside line h = by_fault e h
   where
-    stands : (e : PdnRefusal) → Err e ≡ item_of (form_of start (drop at text)) at (drop at text) → IsFault (form_at text at) at (drop at text) e
+    stands : (e : PdnRefusal) → Err e ≡ item_of (form_of start (drop at text)) at (drop at text) → IsPdnFault (form_at text at) at (drop at text) e
     stands e h = fault_sound (begins_line text at) at (drop at text) e (rw (← line) (sym h))
 
-    by_fault : (e : PdnRefusal) → OnFalse (is_memory e) (Err e ≡ item_of (form_of start (drop at text)) at (drop at text)) → OnFalse (is_memory e) (Refused text e)
+    by_fault : (e : PdnRefusal) → OnFalse (pdn_wants_memory e) (Err e ≡ item_of (form_of start (drop at text)) at (drop at text)) → OnFalse (pdn_wants_memory e) (Refused text e)
     by_fault (refusal.Memory m) h = tt
     by_fault refusal.TooManyGames h = absurd (never_too_many (form_at text at) at (drop at text) (stands refusal.TooManyGames h))
     by_fault (refusal.BadByte n) h = fault_here text at p (refusal.BadByte n) r inside (stands (refusal.BadByte n) h)
@@ -128,7 +128,7 @@ refused_here text at p start e r inside line h = by_fault e h
     by_fault (refusal.BadMove n) h = fault_here text at p (refusal.BadMove n) r inside (stands (refusal.BadMove n) h)
 
 pub refused_many : (text : List ℕ) (at : ℕ) (p : Progress) (start : Bool) (item : Item) (sign : Sign) (e : PdnRefusal) → Reached text at p → start ≡ begins_line text at
-    → Ok item ≡ item_of (form_of start (drop at text)) at (drop at text) → item.sign ≡ Some sign → IsRefusedAs p sign e → OnFalse (is_memory e) (Refused text e)
+    → Ok item ≡ item_of (form_of start (drop at text)) at (drop at text) → item.sign ≡ Some sign → IsRefusedAs p sign e → OnFalse (pdn_wants_memory e) (Refused text e)
 refused_many text at p start item sign refusal.TooManyGames r line h some many = one_more text at p item sign r (here text at start item line h) some many
 refused_many text at p start item sign (refusal.Memory m) r line h some many = tt
 refused_many text at p start item sign (refusal.BadByte n) r line h some many = absurd many

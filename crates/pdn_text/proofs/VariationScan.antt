@@ -5,7 +5,7 @@ use Rattle.std.proofs.lemmas.List.Folds.{list_all-append}
 use Rattle.std.proofs.lemmas.Bool.{eqb-true, eqb-false, ne_eqb, lt-leb}
 use Rattle.pdn_text.proofs.FirstPlaces.{and_true, not_true}
 use Rattle.pdn_text.specs.Scans.{variation_end}
-use Rattle.pdn_text.specs.Variations.{Inside, spelled, IsInside, IsPlain, IsBody, variation, begun, AreInsides, NeverClosed, HoldsOpenComment, Empty, Byte, Comment, Nested}
+use Rattle.pdn_text.specs.Variations.{Inside, spelled, IsInside, IsPlainByte, IsBody, variation, begun, AreInsides, NeverClosed, HoldsOpenComment, Empty, Byte, Comment, Nested}
 use Rattle.pdn_text.specs.declared.variations.Unclosed.{Unclosed}
 use Rattle.pdn_text.specs.declared.variations.Unclosed.TheVariants as unclosed
 
@@ -70,7 +70,7 @@ to_inner inner outer b e h = record { sound = (tt, h); goes = rw e refl }
 to_outer : (inner next : Inside) (outer : List Inside) (b : ℕ) → b ≡ 41 → AreInsides (inner ∷ next ∷ outer) → Step (Between inner (next ∷ outer)) (Between (Nested next inner) outer) b
 to_outer inner next outer b e h = record { sound = ((h.1.0, h.0), h.1.1); goes = rw e (simp append_assoc) }
 
-to_byte : (inner : Inside) (outer : List Inside) (b : ℕ) → IsPlain b → AreInsides (inner ∷ outer) → Step (Between inner outer) (Between (Byte inner b) outer) b
+to_byte : (inner : Inside) (outer : List Inside) (b : ℕ) → IsPlainByte b → AreInsides (inner ∷ outer) → Step (Between inner outer) (Between (Byte inner b) outer) b
 to_byte inner outer b plain h = record { sound = ((h.0, plain), h.1); goes = simp append_assoc }
 
 to_end : (inner : Inside) (outer : List Inside) (body : List ℕ) (b : ℕ) → b ≡ 125 → AreInsides (inner ∷ outer) → IsBody body → Step (Within inner outer body) (Between (Comment inner body) outer) b
@@ -152,7 +152,7 @@ variation_told [] e = absurd (omega arith)
 variation_told (b ∷ text) e = rw e (told text (Between Empty []) (tt, tt))
 
 -- the way back: through what stands whole inside a variation
-plain_step : (d p b : ℕ) (more : List ℕ) → IsPlain b → variation_end d None p (b ∷ more) ≡ variation_end d None (p + 1) more
+plain_step : (d p b : ℕ) (more : List ℕ) → IsPlainByte b → variation_end d None p (b ∷ more) ≡ variation_end d None (p + 1) more
 plain_step d p b more plain = rw (ne_eqb b 123 plain.0) (rw (ne_eqb b 40 plain.1) (rw (ne_eqb b 41 plain.2) refl))
 
 stays : (b o : ℕ) → eqb b 125 ≡ false → (cond (eqb b 125) None (Some o)) ≡ Some o

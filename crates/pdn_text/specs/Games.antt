@@ -16,8 +16,8 @@ abbrev pub signs_of : Played → List Sign
 signs_of p = map Tagged p.tags ++ map Moved p.moves ++ (if p.ended then Ended ∷ [] else [])
 
 -- what is kept of it
-abbrev pub kept : Played → Game
-kept p = record { tags = p.tags; moves = p.moves }
+abbrev pub kept_game : Played → Game
+kept_game p = record { tags = p.tags; moves = p.moves }
 
 -- A game ends with a result, or before a tag that follows at least one move.
 abbrev pub EndsBefore : Played → Played → Type 0
@@ -34,4 +34,4 @@ pub record Make (signs : List Sign) (games : List Game) : Type 0 where
   pub played : List Played
   pub sound : AreGames played
   pub all : signs ≡ flat_map signs_of played
-  pub are_kept : games ≡ map kept played
+  pub are_kept : games ≡ map kept_game played

@@ -63,30 +63,31 @@ pub record IsComment (at : ℕ) (rest : List ℕ) (item : Item) : Type 0 where
   pub skips : item ≡ skipped (at + (closing + 1))
 
 -- An item of this form stands at `at`, where the text goes on with `rest`.
-abbrev pub IsItem : Form → ℕ → List ℕ → Item → Type 0
-IsItem form.Line at rest item = item ≡ skipped (at + (1 + line_len (drop 1 rest)))
-IsItem form.Blank at rest item = item ≡ skipped (at + 1)
-IsItem form.Comment at rest item = IsComment at rest item
-IsItem form.Variation at rest item = IsVariation at rest item
-IsItem form.Annotation at rest item = item ≡ skipped (at + (1 + digits_len (drop 1 rest)))
-IsItem form.Tag at rest item = IsTag at rest item
-IsItem form.Star at rest item = item ≡ saying (at + 1) Ended
-IsItem form.Word at rest item = IsWordItem (word_of (word_at rest)) at (at + word_len rest) item
-IsItem form.Nothing at rest item = ⊥
+abbrev pub IsItemOfText : Form → ℕ → List ℕ → Item → Type 0
+IsItemOfText form.Line at rest item = item ≡ skipped (at + (1 + line_len (drop 1 rest)))
+IsItemOfText form.Blank at rest item = item ≡ skipped (at + 1)
+IsItemOfText form.Comment at rest item = IsComment at rest item
+IsItemOfText form.Variation at rest item = IsVariation at rest item
+IsItemOfText form.Annotation at rest item = item ≡ skipped (at + (1 + digits_len (drop 1 rest)))
+IsItemOfText form.Tag at rest item = IsTag at rest item
+IsItemOfText form.Star at rest item = item ≡ saying (at + 1) Ended
+IsItemOfText form.Word at rest item =
+    IsWordItem (word_of (word_at rest)) at (at + word_len rest) item
+IsItemOfText form.Nothing at rest item = ⊥
 
 -- An item of this form is due at `at` and does not stand there: this is the fault. A variation is
 -- not closed, or a comment in it.
-abbrev pub IsFault : Form → ℕ → List ℕ → PdnRefusal → Type 0
-IsFault form.Comment at rest fault =
+abbrev pub IsPdnFault : Form → ℕ → List ℕ → PdnRefusal → Type 0
+IsPdnFault form.Comment at rest fault =
     (position (λ b. b == 125) rest ≡ None) × (fault ≡ OpenComment at)
-IsFault form.Variation at rest fault =
+IsPdnFault form.Variation at rest fault =
     (NeverClosed rest × (fault ≡ OpenVariation at))
     ⊎ ((place : ℕ) × HoldsOpenComment rest place × (fault ≡ OpenComment (at + place)))
-IsFault form.Tag at rest fault =
+IsPdnFault form.Tag at rest fault =
     ((tag : Tag) (behind : List ℕ) → ¬ BeginsWithTag rest tag behind) × (fault ≡ OpenTag at)
-IsFault form.Word at rest fault = (word_of (word_at rest) ≡ word.Bad) × (fault ≡ BadMove at)
-IsFault form.Nothing at rest fault = fault ≡ BadByte at
-IsFault other at rest fault = ⊥
+IsPdnFault form.Word at rest fault = (word_of (word_at rest) ≡ word.Bad) × (fault ≡ BadMove at)
+IsPdnFault form.Nothing at rest fault = fault ≡ BadByte at
+IsPdnFault other at rest fault = ⊥
 
 -- the place is the text's first, or stands straight behind a byte 10
 abbrev pub begins_line : List ℕ → ℕ → Bool

@@ -3,7 +3,7 @@ use Rattle.std.specs.Prelude.{◌≡◌, ℕ, suc, ◌≤◌, List, [], ◌∷�
 use Rattle.std.specs.Str.{bytes_eq}
 use Rattle.std.specs.Prelude.{take}
 use Rattle.pdn_text.specs.Games.{Make}
-use Rattle.pdn_text.specs.Grammar.{IsItem, IsFault, form_at}
+use Rattle.pdn_text.specs.Grammar.{IsItemOfText, IsPdnFault, form_at}
 use Rattle.pdn_text.specs.declared.TheConstants.{MOST_GAMES}
 use Rattle.pdn_text.specs.declared.game.Game.{Game}
 use Rattle.pdn_text.specs.declared.items.Item.{Item}
@@ -16,10 +16,10 @@ abbrev pub beginning : List ℕ → ℕ
 beginning text = if bytes_eq (take 3 text) (239 ∷ 187 ∷ 191 ∷ []) then 3 else 0
 
 -- Between two places the text is these items, one straight behind the other.
-abbrev pub AreItems : List ℕ → ℕ → List Item → ℕ → Type 0
-AreItems text at [] to = at ≡ to
-AreItems text at (item ∷ items) to =
-    IsItem (form_at text at) at (drop at text) item × AreItems text item.end items to
+abbrev pub AreItemsOfText : List ℕ → ℕ → List Item → ℕ → Type 0
+AreItemsOfText text at [] to = at ≡ to
+AreItemsOfText text at (item ∷ items) to =
+    IsItemOfText (form_at text at) at (drop at text) item × AreItemsOfText text item.end items to
 
 -- what the items say of games, in order
 abbrev pub signs : List Item → List Sign
@@ -28,7 +28,7 @@ signs items = flat_map (λ item. option_to_list item.sign) items
 -- The text is items up to this place, and they make these games, which are not too many.
 pub record ReadsTo (text : List ℕ) (place : ℕ) (items : List Item)
     (games : List Game) : Type 0 where
-  pub are_items : AreItems text (beginning text) items place
+  pub are_items : AreItemsOfText text (beginning text) items place
   pub make : Make (signs items) games
   pub few : length games ≤ MOST_GAMES
 
@@ -43,7 +43,7 @@ pub record StandsFirst (text : List ℕ) (fault : PdnRefusal) : Type 0 where
   pub games : List Game
   pub before : ReadsTo text place items games
   pub inside : suc place ≤ length text
-  pub stands : IsFault (form_at text place) place (drop place text) fault
+  pub stands : IsPdnFault (form_at text place) place (drop place text) fault
 
 -- The text is items up to a place, they make as many games as a text may have, and the item there
 -- begins one more.
@@ -53,7 +53,7 @@ pub record BeginsOneMore (text : List ℕ) : Type 0 where
   pub games : List Game
   pub before : ReadsTo text place items games
   pub item : Item
-  pub next : IsItem (form_at text place) place (drop place text) item
+  pub next : IsItemOfText (form_at text place) place (drop place text) item
   pub more : List Game
   pub make_more : Make (signs (items ++ item ∷ [])) more
   pub too_many : length more ≡ suc MOST_GAMES

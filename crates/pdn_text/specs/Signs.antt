@@ -14,6 +14,6 @@ abbrev pub saying : ℕ → Sign → Item
 saying end sign = record { end = end; sign = Some sign }
 
 -- memory ran out
-abbrev pub is_memory : PdnRefusal → Bool
-is_memory (Memory error) = true
-is_memory other = false
+abbrev pub pdn_wants_memory : PdnRefusal → Bool
+pdn_wants_memory (Memory error) = true
+pdn_wants_memory other = false

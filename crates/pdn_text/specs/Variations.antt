@@ -18,8 +18,8 @@ spelled (Comment before body) = spelled before ++ 123 ∷ body ++ 125 ∷ []
 spelled (Nested before inside) = spelled before ++ 40 ∷ spelled inside ++ 41 ∷ []
 
 -- a byte that stands for itself there: no `{`, `(` or `)`
-abbrev pub IsPlain : ℕ → Type 0
-IsPlain b = (b ≢ 123) × (b ≢ 40) × (b ≢ 41)
+abbrev pub IsPlainByte : ℕ → Type 0
+IsPlainByte b = (b ≢ 123) × (b ≢ 40) × (b ≢ 41)
 
 -- comments do not nest: a comment's body has no `}`
 abbrev pub IsBody : List ℕ → Type 0
@@ -27,7 +27,7 @@ IsBody body = list_all (λ b. not (b == 125)) body ≡ true
 
 abbrev pub IsInside : Inside → Type 0
 IsInside Empty = Unit {0}
-IsInside (Byte before b) = IsInside before × IsPlain b
+IsInside (Byte before b) = IsInside before × IsPlainByte b
 IsInside (Comment before body) = IsInside before × IsBody body
 IsInside (Nested before inside) = IsInside before × IsInside inside
 

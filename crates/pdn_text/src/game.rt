@@ -2,7 +2,8 @@
 use draughts_board::Move;
 use shared_words::ItemList;
 
-/// A tag pair, as `[Event "Open"]`: the name, and the value without its quotation marks and escapes.
+/// A tag pair, as `[Event "Open"]`: the name, and the value without its quotation marks and
+/// escapes.
 #[derive(Debug, Drop)]
 pub struct Tag {
     pub name: ItemList<u8>,
@@ -20,7 +21,8 @@ pub struct MoveText {
     pub squares: Move,
 }
 
-/// A game: its tags and its moves, each in the order of the text. Results, comments and variations are not kept.
+/// A game: its tags and its moves, each in the order of the text. Results, comments and variations
+/// are not kept.
 #[derive(Debug, Drop)]
 pub struct Game {
     pub tags: ItemList<Tag>,

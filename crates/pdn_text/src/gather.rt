@@ -34,7 +34,8 @@ impl Gathered {
         }
     }
 
-    /// Takes what the next item says. Where it begins one game more than a text may have, it is refused.
+    /// Takes what the next item says. Where it begins one game more than a text may have, it is
+    /// refused.
     pub(crate) fn take(&mut self, sign: Sign) -> Result<(), PdnRefusal>
         requires { length (games_of (progress self.old)) ≤ MOST_GAMES }
         ensures ok { OnOk result (progress self.new ≡ taken (progress self.old) sign) }

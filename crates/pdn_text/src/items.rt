@@ -3,7 +3,7 @@ ghost use Rattle.std.specs.Prelude.{◌≡◌, ◌+◌, ◌^◌, ◌<◌, ◌≤
 ghost use Rattle.pdn_text.specs.Forms as forms;
 ghost use Rattle.pdn_text.specs.Grammar.{word_len, word_at};
 ghost use Rattle.pdn_text.specs.Scans.{item_of, word_item};
-ghost use Rattle.pdn_text.specs.Signs.{is_memory};
+ghost use Rattle.pdn_text.specs.Signs.{pdn_wants_memory};
 ghost use Rattle.shared_words.specs.Answers.{Unless};
 ghost use Rattle.pdn_text.specs.Words as words;
 
@@ -40,7 +40,7 @@ pub(crate) fn item_at(
 ) -> Result<Item, PdnRefusal>
     requires { at < length text.now }
     ensures gives { let rest = drop at text.now in
-        Unless is_memory result (result ≡ item_of (forms.form_of line_start rest) at rest) }
+        Unless pdn_wants_memory result (result ≡ item_of (forms.form_of line_start rest) at rest) }
     ensures onward { IfOk result (λ item. at < item.end) }
     ensures inside { IfOk result (λ item. item.end ≤ length text.now) }
 {
@@ -93,7 +93,7 @@ fn skipped(end: usize) -> Item
 /// The word at the front of `rest`, which stands at `at` in the text.
 fn word_at(rest: &[u8], at: usize) -> Result<Item, PdnRefusal>
     requires { at + length rest.now < 2 ^ 64 }
-    ensures gives { Unless is_memory result
+    ensures gives { Unless pdn_wants_memory result
         (result ≡ word_item at (at + word_len rest.now) (words.word_of (word_at rest.now))) }
     ensures end { IfOk result (λ item. item.end ≡ at + word_len rest.now) }
     ensures inside { word_len rest.now ≤ length rest.now }

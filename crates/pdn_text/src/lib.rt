@@ -1,9 +1,10 @@
-//! Games in Portable Draughts Notation: `read_games` reads a text's games, or answers the fault that stands first
-//! in it, with its place.
+//! Games in Portable Draughts Notation: `read_games` reads a text's games, or answers the fault
+//! that stands first in it, with its place.
 //!
-//! The accepted texts are a profile of PDN 3.0's tags and movetext. A text consists of items, one after the other:
-//! tags, moves, results, move numbers, annotations, comments, variations, blanks. `specs/Grammar.antt` says what each
-//! item is, `specs/Games.antt` which games the items make, and `specs/Pdn.antt` which fault stands first.
+//! The accepted texts are a profile of PDN 3.0's tags and movetext. A text consists of items, one
+//! after the other: tags, moves, results, move numbers, annotations, comments, variations, blanks.
+//! `specs/Grammar.antt` says what each item is, `specs/Games.antt` which games the items make, and
+//! `specs/Pdn.antt` which fault stands first.
 //!
 //! Places are byte offsets from 0.
 #![tactic(auto)]

@@ -4,7 +4,7 @@ ghost use Rattle.std.specs.Bool.{OnFalse};
 ghost use Rattle.shared_words.specs.Answers.{IsExact, listed};
 ghost use Rattle.pdn_text.specs.Grammar.{begins_line};
 ghost use Rattle.pdn_text.specs.Pdn.{Reads, Refused, beginning};
-ghost use Rattle.pdn_text.specs.Signs.{is_memory};
+ghost use Rattle.pdn_text.specs.Signs.{pdn_wants_memory};
 
 use crate::game::Game;
 use crate::gather::Gathered;
@@ -12,14 +12,17 @@ use crate::items::{Item, item_at};
 use crate::refusal::PdnRefusal;
 use std::alloc::Global;
 
-/// The games of a text in Portable Draughts Notation, in the order of the text, or the fault that stands first in it.
+/// The games of a text in Portable Draughts Notation, in the order of the text, or the fault that
+/// stands first in it.
 ///
-/// A byte order mark at the front is skipped. A text without tag, move and result has no game. Each refusal but
-/// `TooManyGames` and `Memory` has the place of its fault, a byte offset from 0: of the byte itself, of the `[` of
-/// what is no tag, of the `{` or the outermost `(` that is not closed, of the first byte of a word that is no move.
+/// A byte order mark at the front is skipped. A text without tag, move and result has no game. Each
+/// refusal but `TooManyGames` and `Memory` has the place of its fault, a byte offset from 0: of the
+/// byte itself, of the `[` of what is no tag, of the `{` or the outermost `(` that is not closed,
+/// of the first byte of a word that is no move.
 pub fn read_games(alloc: Global, text: &[u8]) -> Result<Vec<Game>, PdnRefusal>
-    // The games that the text's items make, or the fault that stands first: exactly that, unless memory ran out.
-    ensures { IsExact is_memory (Reads text.now) (Refused text.now) (listed result) }
+    // The games that the text's items make, or the fault that stands first: exactly that, unless
+    // memory ran out.
+    ensures { IsExact pdn_wants_memory (Reads text.now) (Refused text.now) (listed result) }
 {
     read_items(alloc, text)
 }
@@ -27,7 +30,7 @@ pub fn read_games(alloc: Global, text: &[u8]) -> Result<Vec<Game>, PdnRefusal>
 /// Reads item after item, up to the end or the first fault.
 fn read_items(alloc: Global, text: &[u8]) -> Result<Vec<Game>, PdnRefusal>
     ensures games { IfOk result (λ games. Reads text.now games.items) }
-    ensures refused { IfErr result (λ e. OnFalse (is_memory e) (Refused text.now e)) }
+    ensures refused { IfErr result (λ e. OnFalse (pdn_wants_memory e) (Refused text.now e)) }
 {
     let mut gathered = Gathered::new(alloc);
     let mut at = beginning(text);

@@ -8,7 +8,8 @@ use crate::runs::{blanks_len, name_len};
 use shared_words::ItemList;
 use std::alloc::{AllocError, Global};
 
-/// The tag that begins at the front of `rest`, with `[`, and what stands behind it; none where no tag stands there.
+/// The tag that begins at the front of `rest`, with `[`, and what stands behind it; none where no
+/// tag stands there.
 #[tactic(auto, unfolding(crate::specs::Scans::tag_at))]
 pub(crate) fn tag_at(alloc: Global, rest: &[u8]) -> Result<Option<(Tag, &[u8])>, AllocError>
     requires { 0 < length rest.now }
@@ -85,7 +86,8 @@ fn behind_blanks(rest: &[u8]) -> &[u8]
     rest.split_at(blanks_len(rest)).1
 }
 
-/// The value of a tag without its escapes, and what stands behind the quotation mark that closes it.
+/// The value of a tag without its escapes, and what stands behind the quotation mark that closes
+/// it.
 fn value_at(alloc: Global, rest: &[u8]) -> Result<Option<(ItemList<u8>, &[u8])>, AllocError>
     ensures value { IfOk result (λ found. value_at false rest.now ≡ option_map
         (λ x. (x.0, x.1.now)) found) }

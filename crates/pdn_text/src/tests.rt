@@ -1,5 +1,5 @@
-//! Texts worked out by hand from the grammar. An answer is written as `<TAGS|MOVES>` for each game, with tags
-//! `NAME=VALUE` and moves `SQUARES@PLACE-END`, or as the refusal and its place.
+//! Texts worked out by hand from the grammar. An answer is written as `<TAGS|MOVES>` for each game,
+//! with tags `NAME=VALUE` and moves `SQUARES@PLACE-END`, or as the refusal and its place.
 use crate::{Game, PdnRefusal, read_games};
 use draughts_board::Square;
 use std::alloc::{AllocError, Global};

@@ -11,7 +11,8 @@ pub(crate) enum Unclosed {
     Variation,
 }
 
-/// The place behind the variation that begins at the front of `rest`. A counter holds how many variations are open.
+/// The place behind the variation that begins at the front of `rest`. A counter holds how many
+/// variations are open.
 pub(crate) fn variation_end(rest: &[u8]) -> Result<usize, Unclosed>
     ensures value { result ≡ variation_end 0 None 0 rest.now }
     ensures onward { IfOk result (λ end. 0 < end) }

@@ -1,5 +1,5 @@
-//! Worked examples of the definitions, proved by computation: each function does nothing, and its contract is a
-//! record of `specs/Examples.antt`, one field an example.
+//! Worked examples of the definitions, proved by computation: each function does nothing, and its
+//! contract is a record of `specs/Examples.antt`, one field an example.
 ghost use Rattle.proof_numbers.specs.Examples.{WorkedFacts, WorkedNumbers, WorkedLeaves};
 
 /// Facts: of each value, joined, decided.

@@ -1,8 +1,9 @@
 //! Facts of a position.
 use draughts_board::{Side, Value};
 
-/// Which of the four facts of a position are known: that a side has a forced win, and that a side holds, which says
-/// that the other side has no forced win. A side that wins holds, and the other side then does not.
+/// Which of the four facts of a position are known: that a side has a forced win, and that a side
+/// holds, which says that the other side has no forced win. A side that wins holds, and the other
+/// side then does not.
 #[derive(Clone, Copy, PartialEq, Eq, PartialOrd, Ord, Hash, Debug)]
 pub struct Facts {
     /// Black has a forced win.

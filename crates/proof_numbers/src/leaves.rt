@@ -22,7 +22,8 @@ ghost use Rattle.std.specs.Prelude.{◌≡◌};
 ghost use Rattle.proof_numbers.specs.Numbers.{mobility, counted_moves, leaf_numbers};
 ghost use Rattle.proof_numbers.specs.Facts.{known};
 
-/// The mobility of a position with so many successors: the lesser of that and 64, and 1 where there is none.
+/// The mobility of a position with so many successors: the lesser of that and 64, and 1 where there
+/// is none.
 pub fn mobility(successors: usize) -> u8
     ensures { result ≡ counted_moves successors }
 {
@@ -32,9 +33,9 @@ pub fn mobility(successors: usize) -> u8
     successors.min(MOST_MOVES as usize) as u8
 }
 
-/// The numbers of a position that has no children yet, for the goal: (0, infinite) where its win is known; else
-/// (infinite, 0) where the other side's hold is known or the node repeats; else (1, `moves`) where the goal moves, and
-/// (`moves`, 1) where the other side does.
+/// The numbers of a position that has no children yet, for the goal: (0, infinite) where its win is
+/// known; else (infinite, 0) where the other side's hold is known or the node repeats; else (1,
+/// `moves`) where the goal moves, and (`moves`, 1) where the other side does.
 pub fn leaf(facts: Facts, repeats: bool, goal: Side, mover: Side, moves: u8) -> Numbers
     ensures { result ≡ leaf_numbers goal (known facts) repeats mover moves }
 {

@@ -1,9 +1,9 @@
-//! What is known of a position, and how far a goal is from being shown or refuted there: the proof and the disproof
-//! number of proof-number search (Allis, 1994).
+//! What is known of a position, and how far a goal is from being shown or refuted there: the proof
+//! and the disproof number of proof-number search (Allis, 1994).
 //!
-//! A goal is a side whose win is sought. The proof number is how many leaves have to be settled at least until the win
-//! is shown, the disproof number how many until it is refuted. A leaf counts by its mobility: its mover needs one of
-//! its moves, the other side an answer to each.
+//! A goal is a side whose win is sought. The proof number is how many leaves have to be settled at
+//! least until the win is shown, the disproof number how many until it is refuted. A leaf counts by
+//! its mobility: its mover needs one of its moves, the other side an answer to each.
 #![tactic(auto)]
 
 pub mod examples;

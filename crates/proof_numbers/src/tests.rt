@@ -1,4 +1,5 @@
-//! Facts and numbers as they are used by the search: the values are worked out by hand from the rules.
+//! Facts and numbers as they are used by the search: the values are worked out by hand from the
+//! rules.
 use crate::{Facts, Number, Numbers, leaf, least, mobility, total};
 use draughts_board::{Position, Side, Value};
 

@@ -16,8 +16,8 @@ use Rattle.proof_tree.specs.declared.rows.Row.{Row}
 use Rattle.proof_tree.specs.declared.rows.Mark.TheVariants.{Unexpanded}
 use Rattle.proof_tree.specs.Forest.{Own, Node, Forest, no_node, node, forest, nodes, size, numbers_at}
 use Rattle.proof_tree.specs.Changes.{appended, with_root}
-use Rattle.proof_tree.specs.Sound.{IsSound, TreeState, root_positions}
-use Rattle.proof_tree.specs.Rows.{blank, row_at, own_of, blank_node, node_in, slice_of, nodes_from, forest_of, kept, if_root, roots_from, AreLinked, AreCounted, IsCounted, Fits, FitsAt, IsTree, root_row}
+use Rattle.proof_tree.specs.Sound.{IsSoundForest, TreeState, root_positions}
+use Rattle.proof_tree.specs.Rows.{blank, row_at, own_of, blank_node, node_in, slice_of, nodes_from, forest_of, kept_numbers, if_root, roots_from, AreLinked, AreCounted, IsCounted, Fits, FitsRow, IsTree, root_row}
 use Rattle.proof_tree.proofs.Meaning.{node_of, IsMeaning, IsMeaning-nodes, nodes_from-is}
 use Rattle.proof_tree.proofs.Learning.{kept_slice}
 use Rattle.proof_tree.proofs.Counting.{size-forest}
@@ -104,26 +104,26 @@ module _ (rows : List Row) (links : AreLinked rows) (root : Child) where
             (λ e. absurd (let no : None ≡ Some q = sym (ap (λ (r : Row). r.parent) new) ∙ e in cc)) k l;
       }
 
-  kept_old : (goal : Side) (k : ℕ) → k < length rows → kept goal (row_at added k) ≡ kept goal (row_at rows k)
-  kept_old goal k l = ap (kept goal) (old k l)
+  kept_old : (goal : Side) (k : ℕ) → k < length rows → kept_numbers goal (row_at added k) ≡ kept_numbers goal (row_at rows k)
+  kept_old goal k l = ap (kept_numbers goal) (old k l)
 
-  fits_old : (goal : Side) (k : ℕ) → k < length rows → FitsAt rows goal k → FitsAt added goal k
+  fits_old : (goal : Side) (k : ℕ) → k < length rows → FitsRow rows goal k → FitsRow added goal k
   fits_old goal k l fit =
       kept_old goal k l
       ∙ fit
       ∙ ap (numbers_at goal (own_of k (row_at rows k))) (sym (kept_slice rows added goal (row_at rows k) (links.within k l) (omega (arith, long)) (kept_old goal)))
-      ∙ ap (λ (r : Row). numbers_at goal (own_of k r) (map (kept goal) (slice_of r added))) (sym (old k l))
+      ∙ ap (λ (r : Row). numbers_at goal (own_of k r) (map (kept_numbers goal) (slice_of r added))) (sym (old k l))
 
-  fits_row : (goal : Side) (k : ℕ) (below : List Numbers) → kept goal row ≡ numbers_at goal (own_of k row) below
+  fits_row : (goal : Side) (k : ℕ) (below : List Numbers) → kept_numbers goal row ≡ numbers_at goal (own_of k row) below
   fits_row Black k below =
       leaf_cases Black root.position root.moves root.counted (knows_win Black (known root.facts)) (knows_hold (other Black) (known root.facts)) false below
   fits_row White k below =
       leaf_cases White root.position root.moves root.counted (knows_win White (known root.facts)) (knows_hold (other White) (known root.facts)) false below
 
-  fits_new : (goal : Side) → FitsAt added goal (length rows)
+  fits_new : (goal : Side) → FitsRow added goal (length rows)
   fits_new goal =
-      subst (λ (r : Row). kept goal r ≡ numbers_at goal (own_of (length rows) r) (map (kept goal) (slice_of r added))) (sym new)
-      (fits_row goal (length rows) (map (kept goal) (slice_of row added)))
+      subst (λ (r : Row). kept_numbers goal r ≡ numbers_at goal (own_of (length rows) r) (map (kept_numbers goal) (slice_of r added))) (sym new)
+      (fits_row goal (length rows) (map (kept_numbers goal) (slice_of row added)))
 
   pub Fits-added : ((k : ℕ) → k < length rows → Fits rows k) → (k : ℕ) → k < length added → Fits added k
   Fits-added fits =
@@ -237,7 +237,7 @@ module _ (rows : List Row) (entries : List (Board × ℕ)) (space root_space spa
             ∙ sym (roots_from-push 0 rows (root_row (length rows) root) refl);
         keys = keys-now;
         sound =
-            subst IsSound (sym forests-more)
+            subst IsSoundForest (sym forests-more)
             (IsSound-root root (forest_of rows (values_of entries)) tree.sound lawful
             (subst (λ (h : TreeState). ¬ Contains (root_positions h.forest) root.position) (sym is) absent));
         few = let h = tree.few in omega (arith, h, rows_long, e, enough, same);

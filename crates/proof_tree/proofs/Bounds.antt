@@ -17,7 +17,7 @@ use Rattle.proof_tree.specs.declared.rows.Mark.{Mark}
 use Rattle.proof_tree.specs.declared.rows.Mark.TheVariants.{Unexpanded, Expanded, Repeats}
 use Rattle.proof_tree.specs.Forest.{Own, Node, Forest, no_node, node, forest, size, numbers, numbers_at, numbers_by_mark, folded, node_numbers}
 use Rattle.proof_tree.specs.Picking.{left_to_show}
-use Rattle.proof_tree.specs.Rows.{blank, row_at, own_of, blank_node, node_in, slice_of, nodes_from, kept, AreLinked, AreSmall, Fits, FitsAt}
+use Rattle.proof_tree.specs.Rows.{blank, row_at, own_of, blank_node, node_in, slice_of, nodes_from, kept_numbers, AreLinked, AreSmall, Fits, FitsRow}
 use Rattle.proof_tree.proofs.Meaning.{node_of, IsMeaning, IsMeaning-nodes}
 use Rattle.proof_tree.proofs.KeptNumbers.{slice-is, kept-is}
 use Rattle.proof_tree.proofs.Loops.{total_cases}
@@ -94,11 +94,11 @@ numbers_small goal (node own below others) =
     (omega (arith, h.0, o.0), omega (arith, h.1, o.1))
 
 pub map-shown : (by_proof : Bool) (goal : Side) (xs : List Row)
-    → map (λ (r : Row). left_to_show by_proof (kept goal r)) xs ≡ map (left_to_show by_proof) (map (kept goal) xs)
+    → map (λ (r : Row). left_to_show by_proof (kept_numbers goal r)) xs ≡ map (left_to_show by_proof) (map (kept_numbers goal) xs)
 map-shown by_proof goal [] = refl
-map-shown by_proof goal (x ∷ xs) = ap (λ (ns : List Number). left_to_show by_proof (kept goal x) ∷ ns) (map-shown by_proof goal xs)
+map-shown by_proof goal (x ∷ xs) = ap (λ (ns : List Number). left_to_show by_proof (kept_numbers goal x) ∷ ns) (map-shown by_proof goal xs)
 
-pub fits_for : (rows : List Row) (goal : Side) (k : ℕ) → Fits rows k → FitsAt rows goal k
+pub fits_for : (rows : List Row) (goal : Side) (k : ℕ) → Fits rows k → FitsRow rows goal k
 fits_for rows Black k h = h.black
 fits_for rows White k h = h.white
 
@@ -138,7 +138,7 @@ module _ (rows : List Row) (links : AreLinked rows) (small : AreSmall rows) (at 
   unfolding children
   few = subst (λ (x : Node). 1 + size x.children < 2 ^ 57) ((IsMeaning-nodes rows links).at at inside) (small at inside)
 
-  kept-children : map (kept goal) (slice_of (row_at rows at) rows) ≡ numbers goal children
+  kept-children : map (kept_numbers goal) (slice_of (row_at rows at) rows) ≡ numbers goal children
   unfolding children
   kept-children =
       let xs = nodes_from 0 rows in
@@ -146,7 +146,7 @@ module _ (rows : List Row) (links : AreLinked rows) (small : AreSmall rows) (at 
       slice-is rows links xs fit goal at inside
       (λ j after l. kept-is rows links xs fit goal (suc at) (λ k from l'. fits_for rows goal k (fits k from l')) j after l)
 
-  pub room : (by_proof : Bool) → finite_sum (map (λ (r : Row). left_to_show by_proof (kept goal r)) (slice_of (row_at rows at) rows)) < 2 ^ 63
+  pub room : (by_proof : Bool) → finite_sum (map (λ (r : Row). left_to_show by_proof (kept_numbers goal r)) (slice_of (row_at rows at) rows)) < 2 ^ 63
   room by_proof =
       let n = numbers_small goal children in
       let f = few in
@@ -154,12 +154,12 @@ module _ (rows : List Row) (links : AreLinked rows) (small : AreSmall rows) (at 
       (rw kept-children (room_for (numbers goal children) (omega (arith, n.0, f), omega (arith, n.1, f)) by_proof))
 
   pub room_in : (row : Row) → row ≡ get_or rows at row → (by_proof : Bool)
-      → finite_sum (map (λ (r : Row). left_to_show by_proof (kept goal r)) (take (row.first + row.count - row.first) (drop row.first rows))) < 2 ^ 63
+      → finite_sum (map (λ (r : Row). left_to_show by_proof (kept_numbers goal r)) (take (row.first + row.count - row.first) (drop row.first rows))) < 2 ^ 63
   room_in row e by_proof =
       let same : row ≡ row_at rows at = get_or_read rows at row inside e blank in
       let count : row.first + row.count - row.first ≡ row.count = omega arith in
       rw count
-      (subst (λ (r : Row). finite_sum (map (λ (q : Row). left_to_show by_proof (kept goal q)) (slice_of r rows)) < 2 ^ 63) (sym same) (room by_proof))
+      (subst (λ (r : Row). finite_sum (map (λ (q : Row). left_to_show by_proof (kept_numbers goal q)) (slice_of r rows)) < 2 ^ 63) (sym same) (room by_proof))
 
 folded_fits : (moves : Bool) (below : List Numbers) → finite_sum (map (λ x. x.proof) below) < 2 ^ 63
     → finite_sum (map (λ x. x.disproof) below) < 2 ^ 63 → IsKeepable (folded moves below)
@@ -173,26 +173,26 @@ folded_fits false below p d =
     record { proof = keepable_part _ proof; disproof = keepable_part _ disproof }
 
 -- what is folded of the numbers that rows keep has room
-pub folded-keepable : (goal : Side) (moves : Bool) (xs : List Row) (x : Numbers) → x ≡ folded moves (map (kept goal) xs)
-    → ((by_proof : Bool) → finite_sum (map (λ (r : Row). left_to_show by_proof (kept goal r)) xs) < 2 ^ 63) → IsKeepable x
+pub folded-keepable : (goal : Side) (moves : Bool) (xs : List Row) (x : Numbers) → x ≡ folded moves (map (kept_numbers goal) xs)
+    → ((by_proof : Bool) → finite_sum (map (λ (r : Row). left_to_show by_proof (kept_numbers goal r)) xs) < 2 ^ 63) → IsKeepable x
 folded-keepable goal moves xs x e room =
     subst IsKeepable (sym e)
-    (folded_fits moves (map (kept goal) xs)
+    (folded_fits moves (map (kept_numbers goal) xs)
     (subst (λ (ns : List Number). finite_sum ns < 2 ^ 63) (map-shown true goal xs) (room true))
     (subst (λ (ns : List Number). finite_sum ns < 2 ^ 63) (map-shown false goal xs) (room false)))
 
 shown : (fold : List Number → Number) (by_proof : Bool) (goal : Side) (xs : List Row) (a : Number)
-    → a ≡ fold (map (λ (r : Row). left_to_show by_proof (kept goal r)) xs) → a ≡ fold (map (left_to_show by_proof) (map (kept goal) xs))
+    → a ≡ fold (map (λ (r : Row). left_to_show by_proof (kept_numbers goal r)) xs) → a ≡ fold (map (left_to_show by_proof) (map (kept_numbers goal) xs))
 shown fold by_proof goal xs a e = e ∙ ap fold (map-shown by_proof goal xs)
 
 pub below_moving : (goal : Side) (moves : Bool) (xs : List Row) (a b : Number) → moves ≡ true
-    → a ≡ least_of (map (λ (r : Row). left_to_show true (kept goal r)) xs) → b ≡ total_of (map (λ (r : Row). left_to_show false (kept goal r)) xs)
-    → record { proof = a; disproof = b } ≡ folded moves (map (kept goal) xs)
+    → a ≡ least_of (map (λ (r : Row). left_to_show true (kept_numbers goal r)) xs) → b ≡ total_of (map (λ (r : Row). left_to_show false (kept_numbers goal r)) xs)
+    → record { proof = a; disproof = b } ≡ folded moves (map (kept_numbers goal) xs)
 below_moving goal true xs a b t p d = λ i. record { proof = (shown least_of true goal xs a p) i; disproof = (shown total_of false goal xs b d) i }
 below_moving goal false xs a b t p d = absurd (false≢true t)
 
 pub below_waiting : (goal : Side) (moves : Bool) (xs : List Row) (a b : Number) → moves ≡ false
-    → a ≡ total_of (map (λ (r : Row). left_to_show true (kept goal r)) xs) → b ≡ least_of (map (λ (r : Row). left_to_show false (kept goal r)) xs)
-    → record { proof = a; disproof = b } ≡ folded moves (map (kept goal) xs)
+    → a ≡ total_of (map (λ (r : Row). left_to_show true (kept_numbers goal r)) xs) → b ≡ least_of (map (λ (r : Row). left_to_show false (kept_numbers goal r)) xs)
+    → record { proof = a; disproof = b } ≡ folded moves (map (kept_numbers goal) xs)
 below_waiting goal false xs a b t p d = λ i. record { proof = (shown total_of true goal xs a p) i; disproof = (shown least_of false goal xs b d) i }
 below_waiting goal true xs a b t p d = absurd (false≢true (sym t))

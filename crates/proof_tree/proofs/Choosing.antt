@@ -9,7 +9,7 @@ use Rattle.proof_numbers.specs.declared.numbers.Numbers.{Numbers}
 use Rattle.proof_tree.specs.declared.rows.Row.{Row}
 use Rattle.proof_tree.specs.Forest.{Node, Forest, forest, nodes, node_numbers, goal_by, value_by, value_of, or_else}
 use Rattle.proof_tree.specs.Picking.{leaf_below, pick_by, pick_at, pick_from}
-use Rattle.proof_tree.specs.Rows.{blank, row_at, node_in, nodes_from, kept, AreLinked, Fits}
+use Rattle.proof_tree.specs.Rows.{blank, row_at, node_in, nodes_from, kept_numbers, AreLinked, Fits}
 use Rattle.proof_tree.proofs.Meaning.{IsMeaning, IsMeaning-nodes}
 use Rattle.proof_tree.proofs.KeptNumbers.{kept-is}
 

@@ -12,21 +12,21 @@ use Rattle.proof_numbers.specs.Numbers.{refuted, mobility}
 use Rattle.proof_tree.specs.declared.rows.Row.{Row}
 use Rattle.proof_tree.specs.Forest.{Own, Node, Forest, forest, size, numbers_at}
 use Rattle.proof_tree.specs.Changes.{learn, changed}
-use Rattle.proof_tree.specs.Rows.{blank, row_at, own_of, blank_node, node_in, slice_of, nodes_from, forest_of, kept, AreLinked, AreSmall, HaveSameLinks, AreRekept, Fits, FitsAt, AreCounted, IsCounted}
+use Rattle.proof_tree.specs.Rows.{blank, row_at, own_of, blank_node, node_in, slice_of, nodes_from, forest_of, kept_numbers, AreLinked, AreSmall, HaveSameLinks, AreRekept, Fits, FitsRow, AreCounted, IsCounted}
 use Rattle.proof_tree.proofs.Meaning.{node_of, IsMeaning, IsMeaning-nodes, nodes_from-is}
 use Rattle.proof_tree.proofs.KeptNumbers.{map-slice}
 use Rattle.proof_tree.proofs.Updates.{change, AreLinked-same, IsMeaning-change}
 
 -- what a row's children keep, where those of both rows keep the same
 pub kept_slice : (rows after : List Row) (goal : Side) (r : Row) → r.first + r.count ≤ length rows → length rows ≤ length after
-    → ((i : ℕ) → i < length rows → kept goal (row_at after i) ≡ kept goal (row_at rows i))
-    → map (kept goal) (slice_of r after) ≡ map (kept goal) (slice_of r rows)
+    → ((i : ℕ) → i < length rows → kept_numbers goal (row_at after i) ≡ kept_numbers goal (row_at rows i))
+    → map (kept_numbers goal) (slice_of r after) ≡ map (kept_numbers goal) (slice_of r rows)
 kept_slice rows after goal r within longer same =
-    let old = map (kept goal) rows in
-    let new = map (kept goal) after in
-    let long : length old ≡ length rows = length-map rows (kept goal) in
-    let long' : length new ≡ length after = length-map after (kept goal) in
-    map-slice (kept goal) r.count r.first after
+    let old = map (kept_numbers goal) rows in
+    let new = map (kept_numbers goal) after in
+    let long : length old ≡ length rows = length-map rows (kept_numbers goal) in
+    let long' : length new ≡ length after = length-map after (kept_numbers goal) in
+    map-slice (kept_numbers goal) r.count r.first after
     ∙ ext_get_or refuted (take r.count (drop r.first new)) (take r.count (drop r.first old))
     (length-take-le r.count (drop r.first new) (omega (arith, length-drop r.first new, long'))
     ∙ sym (length-take-le r.count (drop r.first old) (omega (arith, length-drop r.first old, long))))
@@ -36,12 +36,12 @@ kept_slice rows after goal r within longer same =
     let inside : r.first + i < length rows = omega arith in
     get_or-take r.count (drop r.first new) i refuted few
     ∙ get_or-drop r.first new i refuted
-    ∙ get_or-map (kept goal) after (r.first + i) blank refuted (omega arith)
+    ∙ get_or-map (kept_numbers goal) after (r.first + i) blank refuted (omega arith)
     ∙ same (r.first + i) inside
-    ∙ sym (get_or-map (kept goal) rows (r.first + i) blank refuted inside)
+    ∙ sym (get_or-map (kept_numbers goal) rows (r.first + i) blank refuted inside)
     ∙ sym (get_or-drop r.first old i refuted)
     ∙ sym (get_or-take r.count (drop r.first old) i refuted few))
-    ∙ sym (map-slice (kept goal) r.count r.first rows)
+    ∙ sym (map-slice (kept_numbers goal) r.count r.first rows)
 
 test_same : (n : ℕ) → eqb n n ≡ true
 test_same n = grind arith
@@ -92,17 +92,17 @@ module _ (rows : List Row) (n : ℕ) (inside : n < length rows) (facts : Known) 
       (ap (own_of n) now_row ∙ ap (λ (k : Known). record (own_of n (row_at rows n)) { facts = k }) known_row ∙ sym (told_own (own_of n (row_at rows n)) refl)))
       (λ h. ap (own_of k) (other_row k h) ∙ sym (kept_own (own_of k (row_at rows k)) h)) (cases_eq k n)
 
-  kept_told : (goal : Side) (k : ℕ) → kept goal (row_at told k) ≡ kept goal (row_at rows k)
+  kept_told : (goal : Side) (k : ℕ) → kept_numbers goal (row_at told k) ≡ kept_numbers goal (row_at rows k)
   kept_told Black k = each (λ r. r.black) refl k
   kept_told White k = each (λ r. r.white) refl k
 
-  fits_told : AreLinked rows → (goal : Side) (k : ℕ) → k < length rows → k ≢ n → FitsAt rows goal k → FitsAt told goal k
+  fits_told : AreLinked rows → (goal : Side) (k : ℕ) → k < length rows → k ≢ n → FitsRow rows goal k → FitsRow told goal k
   fits_told links goal k l h old =
-      ap (kept goal) (other_row k h)
+      ap (kept_numbers goal) (other_row k h)
       ∙ old
       ∙ ap (numbers_at goal (own_of k (row_at rows k)))
       (sym (kept_slice rows told goal (row_at rows k) (links.within k l) (omega (arith, HaveSameLinks-told.as_long)) (λ i l'. kept_told goal i)))
-      ∙ ap (λ (r : Row). numbers_at goal (own_of k r) (map (kept goal) (slice_of r told))) (sym (other_row k h))
+      ∙ ap (λ (r : Row). numbers_at goal (own_of k r) (map (kept_numbers goal) (slice_of r told))) (sym (other_row k h))
 
   pub Fits-told : AreLinked rows → ((k : ℕ) → k < length rows → Fits rows k) → (k : ℕ) → k < length told → k ≢ n → Fits told k
   Fits-told links fits k l h =

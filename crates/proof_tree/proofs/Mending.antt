@@ -8,7 +8,7 @@ use Rattle.proof_numbers.specs.declared.numbers.Numbers.{Numbers}
 use Rattle.proof_tree.specs.declared.rows.Row.{Row}
 use Rattle.proof_numbers.specs.Numbers.{mobility}
 use Rattle.proof_tree.specs.Forest.{Own, Node, size, numbers_at}
-use Rattle.proof_tree.specs.Rows.{blank, row_at, own_of, blank_node, node_in, slice_of, nodes_from, kept, AreLinked, AreSmall, HaveSameLinks, AreRekept, Fits, FitsAt, AreCounted, IsCounted}
+use Rattle.proof_tree.specs.Rows.{blank, row_at, own_of, blank_node, node_in, slice_of, nodes_from, kept_numbers, AreLinked, AreSmall, HaveSameLinks, AreRekept, Fits, FitsRow, AreCounted, IsCounted}
 use Rattle.proof_tree.proofs.Meaning.{IsMeaning-nodes, nodes_from-is}
 use Rattle.proof_tree.proofs.Updates.{AreLinked-same, IsMeaning-kept}
 
@@ -60,7 +60,7 @@ abbrev pub new_kept : Side → Numbers → Numbers → Numbers
 new_kept Black black white = black
 new_kept White black white = white
 
-kept-rekept : (goal : Side) (row : Row) (black white : Numbers) → kept goal (rekept row black white) ≡ new_kept goal black white
+kept-rekept : (goal : Side) (row : Row) (black white : Numbers) → kept_numbers goal (rekept row black white) ≡ new_kept goal black white
 kept-rekept Black row black white = refl
 kept-rekept White row black white = refl
 
@@ -95,15 +95,15 @@ module _ (rows : List Row) (links : AreLinked rows) (k : ℕ) (inside : k < leng
       }
 
   -- row k fits, for its new numbers are made of what its children keep
-  fits_here : (goal : Side) → new_kept goal black white ≡ numbers_at goal (own_of k row) (map (kept goal) (slice_of row rows)) → FitsAt mended goal k
+  fits_here : (goal : Side) → new_kept goal black white ≡ numbers_at goal (own_of k row) (map (kept_numbers goal) (slice_of row rows)) → FitsRow mended goal k
   fits_here goal e =
       let behind : k < row.first = links.behind k inside in
       let same : slice_of row mended ≡ slice_of row rows = slice_set row rows k (rekept row black white) (inl behind) in
-      ap (kept goal) here
+      ap (kept_numbers goal) here
       ∙ kept-rekept goal row black white
       ∙ e
-      ∙ ap (λ (xs : List Row). numbers_at goal (own_of k row) (map (kept goal) xs)) (sym same)
-      ∙ ap (λ (r : Row). numbers_at goal (own_of k r) (map (kept goal) (slice_of r mended))) (sym here)
+      ∙ ap (λ (xs : List Row). numbers_at goal (own_of k row) (map (kept_numbers goal) xs)) (sym same)
+      ∙ ap (λ (r : Row). numbers_at goal (own_of k r) (map (kept_numbers goal) (slice_of r mended))) (sym here)
 
   -- another row that is not its parent fits as before
   apart : (j : ℕ) → j < length rows → (row.parent ≡ Some j → ⊥) → (k < (row_at rows j).first) ⊎ ((row_at rows j).first + (row_at rows j).count ≤ k)
@@ -120,18 +120,18 @@ module _ (rows : List Row) (links : AreLinked rows) (k : ℕ) (inside : k < leng
       (λ behind. inr behind) (cases_lt k (r.first + r.count)))
       (cases_lt k r.first)
 
-  fits_other : (goal : Side) (j : ℕ) → j < length rows → j ≢ k → (row.parent ≡ Some j → ⊥) → FitsAt rows goal j → FitsAt mended goal j
+  fits_other : (goal : Side) (j : ℕ) → j < length rows → j ≢ k → (row.parent ≡ Some j → ⊥) → FitsRow rows goal j → FitsRow mended goal j
   fits_other goal j l h none old =
       let r = row_at rows j in
       let same : slice_of r mended ≡ slice_of r rows = slice_set r rows k (rekept row black white) (apart j l none) in
-      ap (kept goal) (other j h)
+      ap (kept_numbers goal) (other j h)
       ∙ old
-      ∙ ap (λ (xs : List Row). numbers_at goal (own_of j r) (map (kept goal) xs)) (sym same)
-      ∙ ap (λ (q : Row). numbers_at goal (own_of j q) (map (kept goal) (slice_of q mended))) (sym (other j h))
+      ∙ ap (λ (xs : List Row). numbers_at goal (own_of j r) (map (kept_numbers goal) xs)) (sym same)
+      ∙ ap (λ (q : Row). numbers_at goal (own_of j q) (map (kept_numbers goal) (slice_of q mended))) (sym (other j h))
 
   pub Fits-mended : ((j : ℕ) → j < length rows → j ≢ k → Fits rows j)
-      → black ≡ numbers_at Black (own_of k row) (map (kept Black) (slice_of row rows))
-      → white ≡ numbers_at White (own_of k row) (map (kept White) (slice_of row rows))
+      → black ≡ numbers_at Black (own_of k row) (map (kept_numbers Black) (slice_of row rows))
+      → white ≡ numbers_at White (own_of k row) (map (kept_numbers White) (slice_of row rows))
       → (j : ℕ) → j < length mended → (row.parent ≡ Some j → ⊥) → Fits mended j
   Fits-mended fits b w j l none =
       let inside' : j < length rows = omega (arith, l, length-set rows k (rekept row black white)) in
@@ -180,8 +180,8 @@ module _ (start rows : List Row) (links : AreLinked start) (at : Option ℕ) (k 
       omega (arith, now, parent_below (get_or rows k d).parent (sym (ap (λ (r : Row). r.parent) row)))
 
   pub mending_step : (d : Row) (black white : Numbers)
-      → black ≡ numbers_at Black (own_of k (row_at rows k)) (map (kept Black) (slice_of (row_at rows k) rows))
-      → white ≡ numbers_at White (own_of k (row_at rows k)) (map (kept White) (slice_of (row_at rows k) rows))
+      → black ≡ numbers_at Black (own_of k (row_at rows k)) (map (kept_numbers Black) (slice_of (row_at rows k) rows))
+      → white ≡ numbers_at White (own_of k (row_at rows k)) (map (kept_numbers White) (slice_of (row_at rows k) rows))
       → IsMending start (set rows k (rekept (get_or rows k d) black white)) (get_or rows k d).parent
   mending_step d black white b w =
       let row : row_at rows k ≡ get_or rows k d = sym (get_or_default rows k d blank inside_now) in

@@ -14,7 +14,7 @@ use Rattle.proof_tree.specs.declared.rows.Row.{Row}
 use Rattle.proof_tree.specs.declared.rows.Mark.TheVariants.{Unexpanded, Expanded, Repeats}
 use Rattle.proof_tree.specs.Forest.{Own, Node, Forest, no_node, node, forest, numbers_at, numbers_by_mark}
 use Rattle.proof_tree.specs.Changes.{expand_own, new_nodes, stands_on}
-use Rattle.proof_tree.specs.Rows.{blank, row_at, own_of, blank_node, node_in, slice_of, nodes_from, kept, AreLinked, AreRekept, AreExpanded, Fits, FitsAt, AreCounted, IsCounted, path, new_row, new_rows, opened}
+use Rattle.proof_tree.specs.Rows.{blank, row_at, own_of, blank_node, node_in, slice_of, nodes_from, kept_numbers, AreLinked, AreRekept, AreExpanded, Fits, FitsRow, AreCounted, IsCounted, path, new_row, new_rows, opened}
 use Rattle.proof_tree.proofs.Meaning.{IsMeaning-nodes}
 use Rattle.proof_tree.proofs.Expanding.{AreLinked-expanded}
 use Rattle.proof_tree.proofs.Learning.{kept_slice}
@@ -36,7 +36,7 @@ leaf_fits goal above parent number k child below =
     (stands_on above child.position) below
 
 kept_new : (goal : Side) (above : List Board) (parent number : ℕ) (child : Child)
-    → kept goal (new_row above parent number child)
+    → kept_numbers goal (new_row above parent number child)
     ≡ leaf_numbers goal (known child.facts) (stands_on above child.position) child.position.to_move child.moves
 kept_new Black above parent number child = refl
 kept_new White above parent number child = refl
@@ -47,7 +47,7 @@ pub record IsNew (above : List Board) (parent next : ℕ) (children : List Child
   pub leaf : row.count ≡ 0
   pub behind : row.first ≡ suc (next + i)
   pub parent_is : row.parent ≡ Some parent
-  pub keeps : (goal : Side) (below : List Numbers) → kept goal row ≡ numbers_at goal (own_of (next + i) row) below
+  pub keeps : (goal : Side) (below : List Numbers) → kept_numbers goal row ≡ numbers_at goal (own_of (next + i) row) below
   pub counted : row.moves ≡ mobility row.position
 
 new_rows-at : (above : List Board) (parent next : ℕ) (children : List Child) (i : ℕ) → i < length children
@@ -142,21 +142,21 @@ module _ (rows : List Row) (n : ℕ) (children : List Child) (links : AreLinked 
   pub links_after : AreLinked after
   links_after = AreLinked-expanded rows after n children links inside AreExpanded-after (nodes_from 0 rows) (IsMeaning-nodes rows links) none
 
-  kept_old : (goal : Side) (k : ℕ) → k < length rows → kept goal (row_at after k) ≡ kept goal (row_at rows k)
+  kept_old : (goal : Side) (k : ℕ) → k < length rows → kept_numbers goal (row_at after k) ≡ kept_numbers goal (row_at rows k)
   kept_old Black k l = old_each (λ r. r.black) refl k l
   kept_old White k l = old_each (λ r. r.white) refl k l
 
-  fits_old : (goal : Side) (k : ℕ) → k < length rows → k ≢ n → FitsAt rows goal k → FitsAt after goal k
+  fits_old : (goal : Side) (k : ℕ) → k < length rows → k ≢ n → FitsRow rows goal k → FitsRow after goal k
   fits_old goal k l h old =
       let a = AreExpanded-after.as_long in
-      ap (kept goal) (after_old k l h)
+      ap (kept_numbers goal) (after_old k l h)
       ∙ old
       ∙ ap (numbers_at goal (own_of k (row_at rows k)))
       (sym (kept_slice rows after goal (row_at rows k) (links.within k l) (omega (arith, a)) (kept_old goal)))
-      ∙ ap (λ (r : Row). numbers_at goal (own_of k r) (map (kept goal) (slice_of r after))) (sym (after_old k l h))
+      ∙ ap (λ (r : Row). numbers_at goal (own_of k r) (map (kept_numbers goal) (slice_of r after))) (sym (after_old k l h))
 
-  fits_new : (goal : Side) (i : ℕ) → i < length children → FitsAt after goal (length rows + i)
-  fits_new goal i l = (after_new i l).keeps goal (map (kept goal) (slice_of (row_at after (length rows + i)) after))
+  fits_new : (goal : Side) (i : ℕ) → i < length children → FitsRow after goal (length rows + i)
+  fits_new goal i l = (after_new i l).keeps goal (map (kept_numbers goal) (slice_of (row_at after (length rows + i)) after))
 
   pub Fits-after : ((k : ℕ) → k < length rows → Fits rows k) → (k : ℕ) → k < length pushed → k ≢ n → Fits after k
   Fits-after fits k l h =

@@ -6,7 +6,7 @@ use Rattle.draughts_board.specs.declared.pieces.Side.{Side}
 use Rattle.proof_numbers.specs.declared.numbers.Number.{Number}
 use Rattle.proof_numbers.specs.declared.numbers.Number.TheVariants.{Finite, Infinite}
 use Rattle.proof_tree.specs.declared.rows.Row.{Row}
-use Rattle.proof_tree.specs.Walking.{is_before, key, comes, is_behind, is_candidate, first_of, IsFirst}
+use Rattle.proof_tree.specs.Walking.{is_before, key, comes, is_behind, is_candidate, first_child_of, IsFirst}
 
 finite_trans : (l a m b n c : ℕ) → cond (ltb l m) true (cond (ltb m l) false (ltb a b)) ≡ true → cond (ltb m n) true (cond (ltb n m) false (ltb b c)) ≡ true
     → cond (ltb l n) true (cond (ltb n l) false (ltb a c)) ≡ true
@@ -94,7 +94,7 @@ module _ (rows : List Row) (goal : Side) (by_proof : Bool) (last : Option ℕ) (
     ),
   )
 
-  pub first-yes : (k : ℕ) (best : Option ℕ) → low ≤ k → First k best → is k ≡ true → First (k + 1) (first_of rows goal by_proof best k)
+  pub first-yes : (k : ℕ) (best : Option ℕ) → low ≤ k → First k best → is k ≡ true → First (k + 1) (first_child_of rows goal by_proof best k)
   first-yes k None l so passes = (
     (l, omega arith),
     (

@@ -10,7 +10,7 @@ use Rattle.proof_tree.specs.declared.rows.Mark.{Mark}
 use Rattle.proof_tree.specs.declared.rows.Mark.TheVariants.{Unexpanded, Expanded, Repeats}
 use Rattle.proof_tree.specs.Forest.{Own, Forest, no_node, node, Node, nodes, node_at, numbers, numbers_at, node_numbers, goal_of, value_of, or_else}
 use Rattle.proof_tree.specs.Picking.{Way, better, is_below, left_to_show, leaf_of, way_of, open_by, leaf_at, best_way, leaf_below, pick_by, pick_at, pick_from, pick, IsOpenLeaf}
-use Rattle.proof_tree.specs.Sound.{EachNode, IsSound, occurrences}
+use Rattle.proof_tree.specs.Sound.{EachNode, IsSoundForest, occurrences}
 use Rattle.proof_tree.proofs.EachNode.{only_node, missing_occurs, test_true}
 use Rattle.proof_tree.proofs.Numbered.{at_most_once}
 
@@ -141,17 +141,17 @@ module _ (taken : ℕ → Bool) (l : ℕ) (goal : Side) where
       (λ h. picked_leaf x path others h only.1.1)
       (or_cases (pick_at taken root) (pick_from taken (nodes others)) (l, goal) e)
 
-  there_by : (t : Forest) (o : Option Node) → node_at l t ≡ o → IsSound t → pick taken t ≡ Some (l, goal) → IsSomeAnd o (IsOpenLeaf goal taken)
+  there_by : (t : Forest) (o : Option Node) → node_at l t ≡ o → IsSoundForest t → pick taken t ≡ Some (l, goal) → IsSomeAnd o (IsOpenLeaf goal taken)
   there_by t None e sound p =
       let some = picked_occurs t p in let none = missing_occurs l t e in absurd (omega (arith, some, none))
   there_by t (Some x) e sound p =
       picked_leaf x [] t p (only_node l [] t x e (at_most_once l t sound.numbered))
 
-  pub picked-there : (t : Forest) → IsSound t → pick taken t ≡ Some (l, goal) → IsSomeAnd (node_at l t) (IsOpenLeaf goal taken)
+  pub picked-there : (t : Forest) → IsSoundForest t → pick taken t ≡ Some (l, goal) → IsSomeAnd (node_at l t) (IsOpenLeaf goal taken)
   picked-there t sound p = there_by t (node_at l t) refl sound p
 
 -- what is found is an open leaf
-pub picked-clause : (taken : ℕ → Bool) (t : Forest) (o : Option (ℕ × Side)) → o ≡ pick taken t → IsSound t
+pub picked-clause : (taken : ℕ → Bool) (t : Forest) (o : Option (ℕ × Side)) → o ≡ pick taken t → IsSoundForest t
     → IfSome o (λ found. IsSomeAnd (node_at found.0 t) (IsOpenLeaf found.1 taken))
 picked-clause taken t None e sound = tt
 picked-clause taken t (Some found) e sound = picked-there taken found.0 found.1 t sound (sym e)

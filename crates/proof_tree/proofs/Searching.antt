@@ -13,7 +13,7 @@ use Rattle.proof_tree.specs.declared.rows.Mark.{Mark}
 use Rattle.proof_tree.specs.declared.rows.Mark.TheVariants.{Unexpanded, Expanded, Repeats}
 use Rattle.proof_tree.specs.Forest.{Own, Node, Forest, forest, numbers, numbers_at, node_numbers, or_else}
 use Rattle.proof_tree.specs.Picking.{Way, is_below, better, left_to_show, leaf_of, way_of, open_by, leaf_at, best_way, leaf_below}
-use Rattle.proof_tree.specs.Rows.{blank, row_at, own_of, blank_node, node_in, slice_of, nodes_from, kept, AreLinked, FitsAt}
+use Rattle.proof_tree.specs.Rows.{blank, row_at, own_of, blank_node, node_in, slice_of, nodes_from, kept_numbers, AreLinked, FitsRow}
 use Rattle.proof_tree.specs.Walking.{is_before, key, comes, is_behind, is_candidate, IsFirst}
 use Rattle.proof_tree.proofs.Walks.{best_in, moves_in, leaf_in, masked_in, rest_in}
 use Rattle.proof_tree.proofs.Meaning.{node_of, IsMeaning}
@@ -120,7 +120,7 @@ none_both false = refl
 none_way : (x : Number) (o : Option ℕ) → o ≡ None → way_of x o ≡ None
 none_way x o e = ap (way_of x) e
 
-module _ (rows : List Row) (links : AreLinked rows) (goal : Side) (fits : (k : ℕ) → k < length rows → FitsAt rows goal k)
+module _ (rows : List Row) (links : AreLinked rows) (goal : Side) (fits : (k : ℕ) → k < length rows → FitsRow rows goal k)
     (xs : List Node) (fit : IsMeaning rows xs) (taken : ℕ → Bool) where
   -- where the walk from a row ends
   abbrev pub leaf : ℕ → Option ℕ
@@ -139,7 +139,7 @@ module _ (rows : List Row) (links : AreLinked rows) (goal : Side) (fits : (k : �
   abbrev pub rest : ℕ → Option ℕ → Option ℕ
   rest p last = rest_in rows goal xs taken p last
 
-  kept-node : (k : ℕ) → k < length rows → kept goal (row_at rows k) ≡ node_numbers goal (node_in xs k)
+  kept-node : (k : ℕ) → k < length rows → kept_numbers goal (row_at rows k) ≡ node_numbers goal (node_in xs k)
   kept-node k l = kept-is rows links xs fit goal 0 (λ j from l'. fits j l') k (omega arith) l
 
   -- a resolved row has no open leaf
@@ -150,7 +150,7 @@ module _ (rows : List Row) (links : AreLinked rows) (goal : Side) (fits : (k : �
       → leaf_at taken own its best ≡ open_by own.mark (taken own.number) own.number best
   leaf_open own its best e = ap (λ (b : Bool). cond b None (open_by own.mark (taken own.number) own.number best)) e
 
-  pub leaf-resolved : (k : ℕ) → k < length rows → is_resolved (kept goal (row_at rows k)) ≡ true → leaf k ≡ None
+  pub leaf-resolved : (k : ℕ) → k < length rows → is_resolved (kept_numbers goal (row_at rows k)) ≡ true → leaf k ≡ None
   leaf-resolved k l e =
       let x = node_in xs k in
       leaf_closed true x.own (node_numbers goal x) (best_way goal taken (same_side goal x.own.position.to_move) x.children)
@@ -168,7 +168,7 @@ module _ (rows : List Row) (links : AreLinked rows) (goal : Side) (fits : (k : �
   all_behind p = refl
 
   -- an unresolved row: its leaf by its mark
-  leaf-by_mark : (k : ℕ) → k < length rows → is_resolved (kept goal (row_at rows k)) ≡ false
+  leaf-by_mark : (k : ℕ) → k < length rows → is_resolved (kept_numbers goal (row_at rows k)) ≡ false
       → leaf k ≡ open_by (row_at rows k).mark (taken k) k (best_in (cand (moves k)) (row_at rows k).first (row_at rows k).count)
   leaf-by_mark k l e =
       let row = row_at rows k in
@@ -182,7 +182,7 @@ module _ (rows : List Row) (links : AreLinked rows) (goal : Side) (fits : (k : �
   open_mark : (m : Mark) (t : Bool) (k : ℕ) (best : Option Way) → m ≡ Expanded → open_by m t k best ≡ leaf_of best
   open_mark m t k best e = ap (λ (n : Mark). open_by n t k best) e
 
-  pub leaf-inner : (k : ℕ) → k < length rows → is_resolved (kept goal (row_at rows k)) ≡ false → (row_at rows k).mark ≡ Expanded → leaf k ≡ rest k None
+  pub leaf-inner : (k : ℕ) → k < length rows → is_resolved (kept_numbers goal (row_at rows k)) ≡ false → (row_at rows k).mark ≡ Expanded → leaf k ≡ rest k None
   leaf-inner k l e m = leaf-by_mark k l e ∙ open_mark (row_at rows k).mark (taken k) k _ m
 
   free : (t : Bool) (k : ℕ) (best : Option Way) → t ≡ false → open_by Unexpanded t k best ≡ Some k
@@ -191,13 +191,13 @@ module _ (rows : List Row) (links : AreLinked rows) (goal : Side) (fits : (k : �
   busy : (t : Bool) (k : ℕ) (best : Option Way) → t ≡ true → open_by Unexpanded t k best ≡ None
   busy t k best e = ap (λ (b : Bool). open_by Unexpanded b k best) e
 
-  pub leaf-free : (k : ℕ) → k < length rows → is_resolved (kept goal (row_at rows k)) ≡ false → (row_at rows k).mark ≡ Unexpanded → taken k ≡ false → leaf k ≡ Some k
+  pub leaf-free : (k : ℕ) → k < length rows → is_resolved (kept_numbers goal (row_at rows k)) ≡ false → (row_at rows k).mark ≡ Unexpanded → taken k ≡ false → leaf k ≡ Some k
   leaf-free k l e m t =
       leaf-by_mark k l e
       ∙ ap (λ (n : Mark). open_by n (taken k) k (best_in (cand (moves k)) (row_at rows k).first (row_at rows k).count)) m
       ∙ free (taken k) k _ t
 
-  pub leaf-busy : (k : ℕ) → k < length rows → is_resolved (kept goal (row_at rows k)) ≡ false → (row_at rows k).mark ≡ Unexpanded → taken k ≡ true → leaf k ≡ None
+  pub leaf-busy : (k : ℕ) → k < length rows → is_resolved (kept_numbers goal (row_at rows k)) ≡ false → (row_at rows k).mark ≡ Unexpanded → taken k ≡ true → leaf k ≡ None
   leaf-busy k l e m t =
       leaf-by_mark k l e
       ∙ ap (λ (n : Mark). open_by n (taken k) k (best_in (cand (moves k)) (row_at rows k).first (row_at rows k).count)) m
@@ -209,11 +209,11 @@ module _ (rows : List Row) (links : AreLinked rows) (goal : Side) (fits : (k : �
   unresolved false b e = (refl, e)
 
   pub open_of : (by_proof : Bool) (last : Option ℕ) (k : ℕ) → is_candidate rows goal by_proof last k ≡ true
-      → (is_resolved (kept goal (row_at rows k)) ≡ false) × (is_behind rows goal by_proof last k ≡ true)
-  open_of by_proof last k e = unresolved (is_resolved (kept goal (row_at rows k))) (is_behind rows goal by_proof last k) e
+      → (is_resolved (kept_numbers goal (row_at rows k)) ≡ false) × (is_behind rows goal by_proof last k ≡ true)
+  open_of by_proof last k e = unresolved (is_resolved (kept_numbers goal (row_at rows k))) (is_behind rows goal by_proof last k) e
 
   -- what is no candidate has no way, or is not behind the last one
-  no_way : (by_proof : Bool) (last : Option ℕ) (k : ℕ) → k < length rows → (r b : Bool) → is_resolved (kept goal (row_at rows k)) ≡ r
+  no_way : (by_proof : Bool) (last : Option ℕ) (k : ℕ) → k < length rows → (r b : Bool) → is_resolved (kept_numbers goal (row_at rows k)) ≡ r
       → is_behind rows goal by_proof last k ≡ b → cond r false b ≡ false → masked by_proof last k ≡ None
   no_way by_proof last k l true b e f g =
       ap (λ (o : Option ℕ). cond (is_behind rows goal by_proof last k) (way_of (key rows goal by_proof k) o) None) (leaf-resolved k l e)
@@ -227,7 +227,7 @@ module _ (rows : List Row) (links : AreLinked rows) (goal : Side) (fits : (k : �
       ap leaf_of
       (in-none (masked (moves p) last) (row_at rows p).first (row_at rows p).count
       (λ k from to.
-      no_way (moves p) last k (let w = links.within p l in omega arith) (is_resolved (kept goal (row_at rows k))) (is_behind rows goal (moves p) last k) refl refl
+      no_way (moves p) last k (let w = links.within p l in omega arith) (is_resolved (kept_numbers goal (row_at rows k))) (is_behind rows goal (moves p) last k) refl refl
       (first k from to)))
 
   -- ---- the next child
@@ -243,7 +243,7 @@ module _ (rows : List Row) (links : AreLinked rows) (goal : Side) (fits : (k : �
     pub left_is : v.left ≡ key rows goal by_proof k
 
   way_by : (by_proof : Bool) (last : Option ℕ) (k : ℕ) → k < length rows → (v : Way) (r b : Bool) (o : Option ℕ)
-      → is_resolved (kept goal (row_at rows k)) ≡ r → is_behind rows goal by_proof last k ≡ b → leaf k ≡ o
+      → is_resolved (kept_numbers goal (row_at rows k)) ≡ r → is_behind rows goal by_proof last k ≡ b → leaf k ≡ o
       → cond b (way_of (key rows goal by_proof k) o) None ≡ Some v → IsWay by_proof last k v
   way_by by_proof last k l v r false o e f g h = absurd cc
   way_by by_proof last k l v r true None e f g h = absurd cc
@@ -255,7 +255,7 @@ module _ (rows : List Row) (links : AreLinked rows) (goal : Side) (fits : (k : �
       }
 
   way_is : (by_proof : Bool) (last : Option ℕ) (k : ℕ) → k < length rows → (v : Way) → masked by_proof last k ≡ Some v → IsWay by_proof last k v
-  way_is by_proof last k l v h = way_by by_proof last k l v (is_resolved (kept goal (row_at rows k))) (is_behind rows goal by_proof last k) (leaf k) refl refl refl h
+  way_is by_proof last k l v h = way_by by_proof last k l v (is_resolved (kept_numbers goal (row_at rows k))) (is_behind rows goal by_proof last k) (leaf k) refl refl refl h
 
   -- no child behind c comes to be tried that was not to be tried before
   pub behind_more : (by_proof : Bool) (last : Option ℕ) (c k : ℕ) → is_behind rows goal by_proof last c ≡ true → comes rows goal by_proof c k ≡ true
@@ -266,7 +266,7 @@ module _ (rows : List Row) (links : AreLinked rows) (goal : Side) (fits : (k : �
 
   same_mask : (by_proof : Bool) (last : Option ℕ) (c k : ℕ) → k < length rows → leaf c ≡ None → is_behind rows goal by_proof last c ≡ true
       → (is_candidate rows goal by_proof last k ≡ true → (k ≡ c) ⊎ (comes rows goal by_proof c k ≡ true)) → (r b t : Bool)
-      → is_resolved (kept goal (row_at rows k)) ≡ r → is_behind rows goal by_proof last k ≡ b → comes rows goal by_proof c k ≡ t
+      → is_resolved (kept_numbers goal (row_at rows k)) ≡ r → is_behind rows goal by_proof last k ≡ b → comes rows goal by_proof c k ≡ t
       → cond b (cand by_proof k) None ≡ cond t (cand by_proof k) None
   same_mask by_proof last c k l none bc first true b t e f g =
       let no : cand by_proof k ≡ None = none_way (key rows goal by_proof k) (leaf k) (leaf-resolved k l e) in
@@ -309,14 +309,14 @@ module _ (rows : List Row) (links : AreLinked rows) (goal : Side) (fits : (k : �
         (in-same (masked (moves p) last) (masked (moves p) (Some c)) (row_at rows p).first (row_at rows p).count
         (λ k from to.
         same_mask (moves p) last c k (let u = links.within p inside in omega (arith, u)) e behind_c (first.1.1 k from to)
-        (is_resolved (kept goal (row_at rows k))) (is_behind rows goal (moves p) last k) (comes rows goal (moves p) c k) refl refl refl))
+        (is_resolved (kept_numbers goal (row_at rows k))) (is_behind rows goal (moves p) last k) (comes rows goal (moves p) c k) refl refl refl))
 
     -- what is found: below the next child, or else behind it
     pub rest-some : rest p last ≡ or_else (leaf c) (rest p (Some c))
     rest-some = rest_by (leaf c) refl
 
   -- a repetition is no leaf
-  pub leaf-repeats : (k : ℕ) → k < length rows → is_resolved (kept goal (row_at rows k)) ≡ false → (row_at rows k).mark ≡ Repeats → leaf k ≡ None
+  pub leaf-repeats : (k : ℕ) → k < length rows → is_resolved (kept_numbers goal (row_at rows k)) ≡ false → (row_at rows k).mark ≡ Repeats → leaf k ≡ None
   leaf-repeats k l e m =
       leaf-by_mark k l e
       ∙ ap (λ (n : Mark). open_by n (taken k) k (best_in (cand (moves k)) (row_at rows k).first (row_at rows k).count)) m

@@ -18,7 +18,7 @@ use Rattle.proof_tree.specs.declared.rows.Mark.{Mark}
 use Rattle.proof_tree.specs.declared.rows.Mark.TheVariants.{Unexpanded, Expanded, Repeats}
 use Rattle.proof_tree.specs.Forest.{Own, Forest, no_node, node, Node, nodes, node_at, forest, size}
 use Rattle.proof_tree.specs.Changes.{appended, with_root, changed, learn, with_facts, stands_on, new_nodes, expand_own, expanded, with_children}
-use Rattle.proof_tree.specs.Sound.{EachNode, IsSoundNode, IsSound, occurrences, root_positions}
+use Rattle.proof_tree.specs.Sound.{EachNode, IsSoundNode, IsSoundForest, occurrences, root_positions}
 use Rattle.proof_tree.proofs.EachNode.{EachNode-map, EachNode-both, EachNode-appended, only_node, found_occurs, root_positions-appended, root_positions-changed}
 use Rattle.proof_tree.proofs.Numbered.{AreNumbered, AreNumbered-root, AreNumbered-changed, AreNumbered-expanded, HaveNone, once, at_most_once}
 
@@ -122,8 +122,8 @@ learn-consistent : (b : Bool) (own : Own) (facts : Known) → (b ≡ true → Is
 learn-consistent true own facts h old = h refl
 learn-consistent false own facts h old = old
 
-pub IsSound-learnt : (n : ℕ) (facts : Known) (t : Forest) (x : Node) → IsSound t → node_at n t ≡ Some x → IsConsistent (joined x.own.facts facts)
-    → IsSound (with_facts n facts t)
+pub IsSound-learnt : (n : ℕ) (facts : Known) (t : Forest) (x : Node) → IsSoundForest t → node_at n t ≡ Some x → IsConsistent (joined x.own.facts facts)
+    → IsSoundForest (with_facts n facts t)
 IsSound-learnt n facts t x sound at agree =
     let f = learn n facts in
     let keeps : (own : Own) → (f own).position ≡ own.position = λ own. learn-position (eqb own.number n) own facts in
@@ -151,8 +151,8 @@ none_any ps p absent = by (list_any (same_board p) ps) refl where
   by true e = absurd (absent (Contains-from_any equal_boards p ps e))
   by false e = refl
 
-pub IsSound-root : (root : Child) (t : Forest) → IsSound t → IsLawful root.position → ¬ Contains (root_positions t) root.position
-    → IsSound (with_root root.position (known root.facts) t)
+pub IsSound-root : (root : Child) (t : Forest) → IsSoundForest t → IsLawful root.position → ¬ Contains (root_positions t) root.position
+    → IsSoundForest (with_root root.position (known root.facts) t)
 IsSound-root root t sound lawful absent =
     let own : Own = record { number = size t; position = root.position; facts = known root.facts; mark = Unexpanded } in
     let first : IsSoundNode [] (record { own = own; children = no_node }) =
@@ -244,8 +244,8 @@ lawful-children p children lawful are k d l =
     let r = path-to_successor p q lawful there in
     subst IsLawful r.1.1 (after_is_lawful p r.0 lawful r.1.0)
 
-pub IsSound-expanded : (n : ℕ) (children : List Child) (t : Forest) (x : Node) → IsSound t → node_at n t ≡ Some x → IsOpening children x
-    → IsLawful x.own.position → IsSound (with_children n children t)
+pub IsSound-expanded : (n : ℕ) (children : List Child) (t : Forest) (x : Node) → IsSoundForest t → node_at n t ≡ Some x → IsOpening children x
+    → IsLawful x.own.position → IsSoundForest (with_children n children t)
 IsSound-expanded n children t x sound at opening lawful =
     let only = only_node n [] t x at (at_most_once n t sound.numbered) in
     let opens : EachNode (λ above y. y.own.number ≡ n → IsOpening children y) [] t =

@@ -21,8 +21,8 @@ use Rattle.proof_tree.specs.declared.rows.Mark.{Mark}
 use Rattle.proof_tree.specs.declared.rows.Mark.TheVariants.{Unexpanded, Expanded}
 use Rattle.proof_tree.specs.Forest.{Own, Node, Forest, no_node, forest, nodes, size, node_at, node_numbers, value_by, value_of}
 use Rattle.proof_tree.specs.Changes.{learn, changed, with_facts, expanded, expand_own, with_children}
-use Rattle.proof_tree.specs.Rows.{blank, row_at, own_of, blank_node, node_in, slice_of, nodes_from, forest_of, kept, if_root, roots_from, AreLinked, HaveSameLinks, AreExpanded, AreCounted, Fits, FitsAt, IsTree, IsRowOf, path}
-use Rattle.proof_tree.specs.Sound.{EachNode, IsSoundNode, IsSound, TreeState, IsTreeState, occurrences, root_positions}
+use Rattle.proof_tree.specs.Rows.{blank, row_at, own_of, blank_node, node_in, slice_of, nodes_from, forest_of, kept_numbers, if_root, roots_from, AreLinked, HaveSameLinks, AreExpanded, AreCounted, Fits, FitsRow, IsTree, IsRowOf, path}
+use Rattle.proof_tree.specs.Sound.{EachNode, IsSoundNode, IsSoundForest, TreeState, IsTreeState, occurrences, root_positions}
 use Rattle.proof_tree.proofs.Meaning.{node_of, IsMeaning, IsMeaning-nodes, nodes_from-is}
 use Rattle.proof_tree.proofs.KeptNumbers.{kept-is}
 use Rattle.proof_tree.proofs.Bounds.{fits_for}
@@ -128,8 +128,8 @@ module _ (rows : List Row) (entries : List (Board × ℕ)) (space root_space spa
   forest-is : forest_of rows (values_of entries) ≡ g.forest
   forest-is = ap (λ (h : TreeState). h.forest) is
 
-  pub sound-now : IsSound g.forest
-  sound-now = subst IsSound forest-is tree.sound
+  pub sound-now : IsSoundForest g.forest
+  sound-now = subst IsSoundForest forest-is tree.sound
 
   pub row_of : (x : Node) → node_at n g.forest ≡ Some x → (n < length rows) × (x ≡ node_of n (row_at rows n) (nodes_from 0 rows))
   row_of x e = node_at-row rows tree.linked (values_of entries) tree.roots n x (ap (node_at n) forest-is ∙ e)
@@ -155,7 +155,7 @@ module _ (rows : List Row) (entries : List (Board × ℕ)) (space root_space spa
   pub sound-node : IsSome (node_at n g.forest) → (above : List Board) × IsSoundNode above the_node
   sound-node h = let s = sound-now in EachNode-at IsSoundNode n [] g.forest the_node s.each (found-there h)
 
-  numbers-kept : (goal : Side) → n < length rows → kept goal (row_at rows n) ≡ node_numbers goal (node_of n (row_at rows n) (nodes_from 0 rows))
+  numbers-kept : (goal : Side) → n < length rows → kept_numbers goal (row_at rows n) ≡ node_numbers goal (node_of n (row_at rows n) (nodes_from 0 rows))
   numbers-kept goal l =
       let xs = nodes_from 0 rows in
       let fit = IsMeaning-nodes rows tree.linked in
@@ -262,9 +262,9 @@ module _ (rows : List Row) (entries : List (Board × ℕ)) (space root_space spa
     told true own = refl
     told false own = refl
 
-  sound-learnt : IsSound (forest_of after (values_of entries))
+  sound-learnt : IsSoundForest (forest_of after (values_of entries))
   sound-learnt =
-      subst IsSound (sym forests-learnt)
+      subst IsSoundForest (sym forests-learnt)
       (IsSound-learnt n facts (forest_of rows (values_of entries)) (the_node rows entries space root_space spare tree g is n) tree.sound
       (ap (λ (h : TreeState). node_at n h.forest) is ∙ found-there rows entries space root_space spare tree g is n some)
       (said-of-row rows entries space root_space spare tree g is n (λ x. IsConsistent (joined x.own.facts facts)) some agree))
@@ -337,11 +337,11 @@ module _ (rows : List Row) (entries : List (Board × ℕ)) (space root_space spa
         (ap (λ (o : Own). o.position) step.own ∙ position-grown (eqb n n) (own_of n (row_at rows n)))
     by (inr h) = ap (λ (o : Own). o.position) (step.old_own k l h)
 
-  sound-expanded : IsSound (forest_of after (values_of entries))
+  sound-expanded : IsSoundForest (forest_of after (values_of entries))
   sound-expanded =
       let x = the_node rows entries space root_space spare tree g is n in
       let s = (sound-node rows entries space root_space spare tree g is n some).1 in
-      subst IsSound (sym forests-expanded)
+      subst IsSoundForest (sym forests-expanded)
       (IsSound-expanded n children (forest_of rows (values_of entries)) x tree.sound
       (ap (λ (h : TreeState). node_at n h.forest) is ∙ found-there rows entries space root_space spare tree g is n some)
       (said-of-row rows entries space root_space spare tree g is n (IsOpening children) some opening) s.lawful)
@@ -412,19 +412,19 @@ module _ (rows : List Row) (entries : List (Board × ℕ)) (space root_space spa
   pub root-number : (i : ℕ) → i < length entries → (r : ℕ) → r ≡ get_or (values_of entries) i 0 → IfSome (slice_get (nodes g.forest) i) (λ x. r ≡ x.own.number)
   root-number i l r e = subst (λ (k : ℕ). IfSome (slice_get (nodes g.forest) i) (λ x. k ≡ x.own.number)) (sym e) (root_number i l)
 
-  root_kept : (goal : Side) (k : ℕ) → k < length rows → kept goal (row_at rows k) ≡ node_numbers goal (node_in (nodes_from 0 rows) k)
+  root_kept : (goal : Side) (k : ℕ) → k < length rows → kept_numbers goal (row_at rows k) ≡ node_numbers goal (node_in (nodes_from 0 rows) k)
   root_kept goal k l =
       kept-is rows tree.linked (nodes_from 0 rows) (IsMeaning-nodes rows tree.linked) goal 0 (λ j from l'. fits_for rows goal j (tree.fits j l')) k (omega arith) l
 
   pub root-value : (i : ℕ) (l : i < length entries) (r : ℕ) → r ≡ get_or (values_of entries) i 0 → (row : Row) → row ≡ get_or rows r row → (v : Option Value)
-      → v ≡ value_by (kept Black row) (kept White row) → IfSome (slice_get (nodes g.forest) i) (λ x. v ≡ value_of x)
+      → v ≡ value_by (kept_numbers Black row) (kept_numbers White row) → IfSome (slice_get (nodes g.forest) i) (λ x. v ≡ value_of x)
   root-value i l r e row read v is =
       let k = get_or (values_of entries) i 0 in
       let inside = root-inside i l in
       let same : row ≡ row_at rows k = get_or_read rows k row inside (read ∙ ap (λ (j : ℕ). get_or rows j row) e) blank in
       subst (λ (o : Option Node). IfSome o (λ x. v ≡ value_of x)) (sym (root-at i l))
       (is
-      ∙ (λ j. value_by (kept Black (same j)) (kept White (same j)))
+      ∙ (λ j. value_by (kept_numbers Black (same j)) (kept_numbers White (same j)))
       ∙ (λ j. value_by (root_kept Black k inside j) (root_kept White k inside j)))
 
   pub valid : IsTreeState g
@@ -432,7 +432,7 @@ module _ (rows : List Row) (entries : List (Board × ℕ)) (space root_space spa
       let few = tree.few in
       let same = ap (λ (h : TreeState). h.spare) is in
       record {
-        sound = subst IsSound (ap (λ (h : TreeState). h.forest) is) tree.sound;
+        sound = subst IsSoundForest (ap (λ (h : TreeState). h.forest) is) tree.sound;
         few = omega (arith, few, same, size-is);
         few_roots = let m = tree.few_roots in omega (arith, m, roots-many);
       }

@@ -92,9 +92,9 @@ own_code =
     (λ o. ((o.number, o.position), (o.facts, o.mark)))
     (λ t. record { number = t.0.0; position = t.0.1; facts = t.1.0; mark = t.1.1 }) (λ _. refl)
 
-abbrev pub written : Forest → List (Option Own)
-written no_node = None ∷ []
-written (node own children others) = Some own ∷ (written children ++ written others)
+abbrev pub flat_forest : Forest → List (Option Own)
+flat_forest no_node = None ∷ []
+flat_forest (node own children others) = Some own ∷ (flat_forest children ++ flat_forest others)
 
 -- read from the end: the lists read so far
 abbrev pub put_node : Own → List Forest → List Forest
@@ -107,29 +107,29 @@ read_all [] = []
 read_all (None ∷ more) = no_node ∷ read_all more
 read_all (Some own ∷ more) = put_node own (read_all more)
 
-abbrev pub first_of : List Forest → Forest
-first_of [] = no_node
-first_of (f ∷ more) = f
+abbrev pub first_forest : List Forest → Forest
+first_forest [] = no_node
+first_forest (f ∷ more) = f
 
 read-written : (f : Forest) (more : List (Option Own))
-    → read_all (written f ++ more) ≡ f ∷ read_all more
+    → read_all (flat_forest f ++ more) ≡ f ∷ read_all more
 read-written no_node more = refl
 read-written (node own children others) more =
     ap (λ (ts : List (Option Own)). put_node own (read_all ts))
-    (append_assoc (written children) (written others) more)
+    (append_assoc (flat_forest children) (flat_forest others) more)
     ∙ ap (put_node own)
-    (read-written children (written others ++ more)
+    (read-written children (flat_forest others ++ more)
     ∙ ap (λ (fs : List Forest). children ∷ fs) (read-written others more))
 
-pub forest_back : (f : Forest) → first_of (read_all (written f)) ≡ f
+pub forest_back : (f : Forest) → first_forest (read_all (flat_forest f)) ≡ f
 forest_back f =
-    ap (λ (ts : List (Option Own)). first_of (read_all ts)) (sym (append-nil (written f)))
-    ∙ ap first_of (read-written f [])
+    ap (λ (ts : List (Option Own)). first_forest (read_all ts)) (sym (append-nil (flat_forest f)))
+    ∙ ap first_forest (read-written f [])
 
 abbrev pub forest_code : Coded Forest
 forest_code =
-    code_by (List (Option Own)) (coded_list (coded_option own_code)) written
-    (λ ts. first_of (read_all ts)) forest_back
+    code_by (List (Option Own)) (coded_list (coded_option own_code)) flat_forest
+    (λ ts. first_forest (read_all ts)) forest_back
 
 abbrev pub state_code : Coded TreeState
 state_code =

@@ -6,8 +6,8 @@ use Rattle.proof_numbers.specs.declared.numbers.Number.{Number}
 use Rattle.proof_numbers.specs.declared.numbers.Number.TheVariants.{Finite, Infinite}
 
 -- 2^64 - 1 stands for infinity
-abbrev pub number_of : ℕ → Number
-number_of word = (if word == 18446744073709551615 then Infinite else Finite word)
+abbrev pub number_of_word : ℕ → Number
+number_of_word word = (if word == 18446744073709551615 then Infinite else Finite word)
 
 abbrev pub word_of : Number → ℕ
 word_of Infinite = 18446744073709551615
@@ -18,7 +18,7 @@ word_by : (word : ℕ) (b : Bool) → (word == 18446744073709551615) ≡ b
 word_by word true e = sym (eqb-true word 18446744073709551615 e)
 word_by word false e = refl
 
-pub word_back : (word : ℕ) → word_of (number_of word) ≡ word
+pub word_back : (word : ℕ) → word_of (number_of_word word) ≡ word
 word_back word = word_by word (word == 18446744073709551615) refl
 
 -- 0 stands for none, and each other word for the number before it

@@ -12,7 +12,7 @@ use Rattle.proof_tree.specs.declared.rows.Row.{Row}
 use Rattle.proof_tree.specs.declared.rows.Mark.TheVariants.{Unexpanded, Expanded, Repeats}
 use Rattle.proof_tree.specs.Changes.{stands_on, expand_own, new_nodes}
 use Rattle.proof_tree.specs.Forest.{Own, Forest, no_node, node, Node, nodes, forest, numbers_at, node_numbers, size}
-use Rattle.proof_tree.specs.Sound.{IsSound}
+use Rattle.proof_tree.specs.Sound.{IsSoundForest}
 use Rattle.std.specs.Map.{keys_of, values_of}
 
 -- what stands past the end: nothing that a reader has to believe depends on it
@@ -62,9 +62,9 @@ abbrev pub forest_of : List Row → List ℕ → Forest
 forest_of rows roots = forest (map (node_in (nodes_from 0 rows)) roots)
 
 -- the numbers that a row keeps for the goal
-abbrev pub kept : Side → Row → Numbers
-kept Black row = row.black
-kept White row = row.white
+abbrev pub kept_numbers : Side → Row → Numbers
+kept_numbers Black row = row.black
+kept_numbers White row = row.white
 
 -- the children of each row stand behind it, and name it as their parent
 pub record AreLinked (rows : List Row) : Type 0 where
@@ -77,11 +77,11 @@ pub record AreLinked (rows : List Row) : Type 0 where
       → (p < k) × ((row_at rows p).first ≤ k) × (k < (row_at rows p).first + (row_at rows p).count)
 
 -- the numbers that row k keeps are those that its children's kept numbers make
-abbrev pub FitsAt : List Row → Side → ℕ → Type 0
-FitsAt rows goal k =
-    kept goal (row_at rows k)
+abbrev pub FitsRow : List Row → Side → ℕ → Type 0
+FitsRow rows goal k =
+    kept_numbers goal (row_at rows k)
     ≡ numbers_at goal (own_of k (row_at rows k))
-    (map (kept goal) (slice_of (row_at rows k) rows))
+    (map (kept_numbers goal) (slice_of (row_at rows k) rows))
 
 -- the positions from a row up to its root, nearest first; `m` bounds the steps
 abbrev pub line : ℕ → List Row → Option ℕ → List Board
@@ -119,8 +119,8 @@ pub record AreRekept (rows after : List Row) : Type 0 where
 
 -- the numbers that row k keeps for both goals are those that its children's kept numbers make
 pub record Fits (rows : List Row) (k : ℕ) : Type 0 where
-  pub black : FitsAt rows Black k
-  pub white : FitsAt rows White k
+  pub black : FitsRow rows Black k
+  pub white : FitsRow rows White k
 
 -- the rows without a parent
 abbrev pub if_root : Option ℕ → ℕ → List ℕ → List ℕ
@@ -140,7 +140,7 @@ pub record IsTree (rows : List Row) (entries : List (Board × ℕ))
   pub counted : AreCounted rows
   pub roots : values_of entries ≡ roots_from 0 rows
   pub keys : keys_of entries ≡ map (λ k. (row_at rows k).position) (values_of entries)
-  pub sound : IsSound (forest_of rows (values_of entries))
+  pub sound : IsSoundForest (forest_of rows (values_of entries))
   pub few : length rows + spare < 2 ^ 57
   pub few_roots : length entries ≤ 65536
   pub room : length rows + spare ≤ space

@@ -34,7 +34,7 @@ occurrences n (node own children others) =
 abbrev pub root_positions : Forest → List Board
 root_positions roots = map (λ root. root.own.position) (nodes roots)
 
-pub record IsSound (roots : Forest) : Type 0 where
+pub record IsSoundForest (roots : Forest) : Type 0 where
   pub each : EachNode IsSoundNode [] roots
   -- nodes are numbered from 0 on, and each number stands at one place
   pub numbered : (n : ℕ) → occurrences n roots ≡ (if nat_lt n (size roots) then 1 else 0)
@@ -47,6 +47,6 @@ pub record TreeState : Type 0 where
 
 -- what every tree keeps
 pub record IsTreeState (tree : TreeState) : Type 0 where
-  pub sound : IsSound tree.forest
+  pub sound : IsSoundForest tree.forest
   pub few : size tree.forest + tree.spare < 2 ^ 60
   pub few_roots : length (nodes tree.forest) ≤ 65536

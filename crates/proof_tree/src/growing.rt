@@ -75,7 +75,8 @@ fn push_children(rows: &mut Vec<Row>, parent: usize, children: &[Child])
     requires few { length rows.old.items + length children.now < 2 ^ 57 }
     requires room { length rows.old.items + length children.now ≤ vec_capacity rows.old }
     ensures items { rows.new.items ≡ rows.old.items
-        ++ new_rows (path rows.old.items (Some parent)) parent (length rows.old.items) children.now }
+        ++ new_rows (path rows.old.items (Some parent)) parent (length rows.old.items)
+        children.now }
     ensures room { vec_capacity rows.old ≤ vec_capacity rows.new }
 {
     let first = rows.len();

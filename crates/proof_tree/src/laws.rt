@@ -1,7 +1,8 @@
 //! Laws over the definitions: each function does nothing, and its contract is the law.
 ghost use Rattle.proof_tree.specs.Laws.{UnsettledRootsAreOpen};
 
-/// Work goes on until every root is settled: where nothing is taken, an unsettled root has a leaf to work on.
+/// Work goes on until every root is settled: where nothing is taken, an unsettled root has a leaf
+/// to work on.
 pub fn unsettled_roots_are_open()
     ensures { UnsettledRootsAreOpen }
 {}

@@ -6,7 +6,7 @@ ghost use Rattle.proof_numbers.specs.Numbers.{least_of, total_of};
 ghost use Rattle.proof_tree.specs.Changes.{learn};
 ghost use Rattle.proof_tree.specs.Forest.{folded, numbers_at};
 ghost use Rattle.proof_tree.specs.Picking.{left_to_show};
-ghost use Rattle.proof_tree.specs.Rows.{kept, row_at, own_of, slice_of, AreLinked, AreRekept, HaveSameLinks, Fits, AreCounted, IsCounted};
+ghost use Rattle.proof_tree.specs.Rows.{kept_numbers, row_at, own_of, slice_of, AreLinked, AreRekept, HaveSameLinks, Fits, AreCounted, IsCounted};
 ghost use Rattle.proof_tree.specs.Sums.{finite_sum, IsKeepable};
 
 use crate::rows::{KeptNumbers, Mark, Row};
@@ -26,7 +26,8 @@ pub(crate) fn left_to_show(by_proof: bool, numbers: Numbers) -> Number
 
 /// The least of the children's proof numbers, or of their disproof numbers.
 fn least_among(children: &[Row], goal: Side, by_proof: bool) -> Number
-    ensures { result ≡ least_of (map (λ r. left_to_show by_proof (kept goal r)) children.now) }
+    ensures { result
+        ≡ least_of (map (λ r. left_to_show by_proof (kept_numbers goal r)) children.now) }
 {
     let mut best = Number::Infinite;
     for child in children {
@@ -37,8 +38,10 @@ fn least_among(children: &[Row], goal: Side, by_proof: bool) -> Number
 
 /// The sum of the children's proof numbers, or of their disproof numbers.
 fn total_among(children: &[Row], goal: Side, by_proof: bool) -> Number
-    requires { finite_sum (map (λ r. left_to_show by_proof (kept goal r)) children.now) < 2 ^ 128 }
-    ensures { result ≡ total_of (map (λ r. left_to_show by_proof (kept goal r)) children.now) }
+    requires { finite_sum (map (λ r. left_to_show by_proof (kept_numbers goal r)) children.now)
+        < 2 ^ 128 }
+    ensures { result
+        ≡ total_of (map (λ r. left_to_show by_proof (kept_numbers goal r)) children.now) }
 {
     let mut sum = Number::Finite(0);
     for child in children {
@@ -49,10 +52,11 @@ fn total_among(children: &[Row], goal: Side, by_proof: bool) -> Number
 
 /// The numbers of an expanded node that its facts do not decide, by those that its children keep.
 fn folded(children: &[Row], goal: Side, goal_moves: bool) -> Numbers
-    requires proof { finite_sum (map (λ r. left_to_show true (kept goal r)) children.now) < 2 ^ 63 }
-    requires disproof { finite_sum (map (λ r. left_to_show false (kept goal r)) children.now)
+    requires proof { finite_sum (map (λ r. left_to_show true (kept_numbers goal r)) children.now)
         < 2 ^ 63 }
-    ensures { result ≡ folded goal_moves (map (kept goal) children.now) }
+    requires disproof { finite_sum
+        (map (λ r. left_to_show false (kept_numbers goal r)) children.now) < 2 ^ 63 }
+    ensures { result ≡ folded goal_moves (map (kept_numbers goal) children.now) }
 {
     if goal_moves {
         Numbers {
@@ -67,7 +71,8 @@ fn folded(children: &[Row], goal: Side, goal_moves: bool) -> Numbers
     }
 }
 
-/// The numbers of a row's node, by those that its children keep, where each row behind it keeps right ones.
+/// The numbers of a row's node, by those that its children keep, where each row behind it keeps
+/// right ones.
 fn numbers_of(rows: &[Row], at: usize, goal: Side) -> Numbers
     requires inside { at < length rows.now }
     requires linked { AreLinked rows.now }
@@ -75,7 +80,7 @@ fn numbers_of(rows: &[Row], at: usize, goal: Side) -> Numbers
     requires counted { IsCounted rows.now at }
     requires fits { (k : ℕ) → at < k → k < length rows.now → Fits rows.now k }
     ensures value { result ≡ numbers_at goal (own_of at (row_at rows.now at))
-        (map (kept goal) (slice_of (row_at rows.now at) rows.now)) }
+        (map (kept_numbers goal) (slice_of (row_at rows.now at) rows.now)) }
     ensures keepable { IsKeepable result }
 {
     let row = &rows[at];

@@ -1,13 +1,13 @@
 //! The walk down to the leaf to work on next.
 //!
-//! It tries the children of a node in rising order of what is left to show, and of place, goes down where a child is
-//! expanded, and back where all below it is taken. It keeps nothing but the row where it stands and the child that was
-//! tried last.
+//! It tries the children of a node in rising order of what is left to show, and of place, goes down
+//! where a child is expanded, and back where all below it is taken. It keeps nothing but the row
+//! where it stands and the child that was tried last.
 ghost use Rattle.std.specs.Prelude.{◌≡◌, ℕ, ◌<◌, ◌≤◌, ◌+◌, ◌^◌, true, false, length, Some, None};
 ghost use Rattle.draughts_board.specs.Board.{same_side};
 ghost use Rattle.proof_tree.specs.Picking.{is_below, left_to_show};
-ghost use Rattle.proof_tree.specs.Rows.{row_at, kept, AreLinked};
-ghost use Rattle.proof_tree.specs.Walking.{is_before, key, comes, is_behind, is_candidate, first_of, IsFirst};
+ghost use Rattle.proof_tree.specs.Rows.{row_at, kept_numbers, AreLinked};
+ghost use Rattle.proof_tree.specs.Walking.{is_before, key, comes, is_behind, is_candidate, first_child_of, IsFirst};
 
 use crate::numbering::left_to_show;
 use crate::rows::{Mark, NodeId, Row};
@@ -99,7 +99,7 @@ fn first_of(
 ) -> Option<usize>
     requires inside { k < length rows.now }
     requires best { (a : ℕ) → best ≡ Some a → a < length rows.now }
-    ensures { result ≡ first_of rows.now goal by_proof best k }
+    ensures { result ≡ first_child_of rows.now goal by_proof best k }
 {
     match best {
         None => Some(k),
@@ -126,7 +126,7 @@ pub trait Taken {
 
 ghost use Rattle.proof_numbers.specs.Numbers.{is_resolved};
 ghost use Rattle.proof_tree.specs.Picking.{leaf_below};
-ghost use Rattle.proof_tree.specs.Rows.{nodes_from, node_in, FitsAt};
+ghost use Rattle.proof_tree.specs.Rows.{nodes_from, node_in, FitsRow};
 
 /// The goal's side is to move at the row.
 fn goal_moves(rows: &[Row], at: usize, goal: Side) -> bool
@@ -140,9 +140,9 @@ fn goal_moves(rows: &[Row], at: usize, goal: Side) -> bool
 fn search<T: Taken>(rows: &[Row], root: usize, goal: Side, taken: &T) -> Option<usize>
     requires inside { root < length rows.now }
     requires linked { AreLinked rows.now }
-    requires fits { (k : ℕ) → k < length rows.now → FitsAt rows.now goal k }
+    requires fits { (k : ℕ) → k < length rows.now → FitsRow rows.now goal k }
     requires top { (row_at rows.now root).parent ≡ None }
-    requires open { is_resolved (kept goal (row_at rows.now root)) ≡ false }
+    requires open { is_resolved (kept_numbers goal (row_at rows.now root)) ≡ false }
     requires inner { (row_at rows.now root).mark ≡ Mark.Expanded }
     ensures { result ≡ leaf_below goal (T.taken taken.now) (node_in (nodes_from 0 rows.now) root) }
 {
@@ -182,7 +182,7 @@ fn search<T: Taken>(rows: &[Row], root: usize, goal: Side, taken: &T) -> Option<
 fn leaf_from<T: Taken>(rows: &[Row], root: usize, goal: Side, taken: &T) -> Option<usize>
     requires inside { root < length rows.now }
     requires linked { AreLinked rows.now }
-    requires fits { (k : ℕ) → k < length rows.now → FitsAt rows.now goal k }
+    requires fits { (k : ℕ) → k < length rows.now → FitsRow rows.now goal k }
     requires top { (row_at rows.now root).parent ≡ None }
     ensures { result ≡ leaf_below goal (T.taken taken.now) (node_in (nodes_from 0 rows.now) root) }
 {
@@ -264,8 +264,10 @@ pub(crate) fn pick_from<T: Taken>(
     requires linked { AreLinked rows.now }
     requires fits { (k : ℕ) → k < length rows.now → Fits rows.now k }
     requires inside { (i : ℕ) → i < length roots.now → slice_index roots.now i < length rows.now }
-    requires tops { (i : ℕ) → i < length roots.now → (row_at rows.now (slice_index roots.now i)).parent ≡ None }
-    ensures { result ≡ pick_from (T.taken taken.now) (map (node_in (nodes_from 0 rows.now)) roots.now) }
+    requires tops { (i : ℕ) → i < length roots.now
+        → (row_at rows.now (slice_index roots.now i)).parent ≡ None }
+    ensures { result ≡ pick_from (T.taken taken.now)
+        (map (node_in (nodes_from 0 rows.now)) roots.now) }
 {
     for root in roots {
         if let Some(found) = pick_at(rows, *root, taken) {

@@ -3,7 +3,8 @@ use draughts_board::{Position, Side};
 use proof_numbers::{Facts, Number, Numbers};
 use std::marker::Model;
 
-/// Names a node. Nodes are numbered from 0 in the order in which they were made, and a contract sees the number.
+/// Names a node. Nodes are numbered from 0 in the order in which they were made, and a contract
+/// sees the number.
 #[derive(Clone, Copy, PartialEq, Eq, Debug)]
 pub struct NodeId(pub(crate) u64);
 
@@ -53,7 +54,7 @@ fn word_of(number: Number) -> u64
 
 /// The number of a word.
 fn number_of(word: u64) -> Number
-    ensures { result ≡ number_of word }
+    ensures { result ≡ number_of_word word }
 {
     if word == INFINITE {
         Number::Infinite
@@ -64,10 +65,11 @@ fn number_of(word: u64) -> Number
 
 ghost use Rattle.std.specs.Prelude.{◌≡◌, ◌-◌, ◌<◌, ◌^◌};
 ghost use Rattle.proof_numbers.specs.Numbers.{IsFinitely};
-ghost use Rattle.proof_tree.specs.Kept.{number_of, word_of};
+ghost use Rattle.proof_tree.specs.Kept.{number_of_word, word_of};
 ghost use Rattle.proof_tree.specs.Sums.{IsKeepable};
 
-/// A proof and a disproof number as a row keeps them, in eight bytes each. A contract sees the numbers.
+/// A proof and a disproof number as a row keeps them, in eight bytes each. A contract sees the
+/// numbers.
 #[derive(Clone, Copy)]
 pub(crate) struct KeptNumbers {
     proof: u64,
@@ -76,15 +78,21 @@ pub(crate) struct KeptNumbers {
 
 impl Model for KeptNumbers {
     ghost use Rattle.proof_numbers.specs.declared.numbers.Numbers.{Numbers};
-    ghost use Rattle.proof_tree.specs.Kept.{number_of, word_of, word_back};
+    ghost use Rattle.proof_tree.specs.Kept.{number_of_word, word_of, word_back};
 
     ghost Value = { Numbers };
 
-    ghost view = { λ k. record { proof = number_of k.proof; disproof = number_of k.disproof } };
+    ghost view = { λ k. record {
+      proof = number_of_word k.proof;
+      disproof = number_of_word k.disproof;
+    } };
 
     ghost inverse = { λ n. record { proof = word_of n.proof; disproof = word_of n.disproof } };
 
-    ghost inverse_ok = { λ k h i. record { proof = word_back k.proof i; disproof = word_back k.disproof i } };
+    ghost inverse_ok = { λ k h i. record {
+      proof = word_back k.proof i;
+      disproof = word_back k.disproof i;
+    } };
 }
 
 impl KeptNumbers {
@@ -167,7 +175,8 @@ pub(crate) struct Row {
     pub(crate) moves: u8,
     /// The number of its parent.
     pub(crate) parent: ParentLink,
-    /// The number of its first child; the others follow. Without children it is the number of the next row.
+    /// The number of its first child; the others follow. Without children it is the number of the
+    /// next row.
     pub(crate) first: usize,
     /// How many children it has.
     pub(crate) count: usize,
@@ -178,11 +187,11 @@ pub(crate) struct Row {
 }
 
 impl Row {
-    ghost use Rattle.proof_tree.specs.Rows.{kept};
+    ghost use Rattle.proof_tree.specs.Rows.{kept_numbers};
 
     /// The numbers that it keeps for the goal.
     pub(crate) fn kept(&self, goal: Side) -> Numbers
-        ensures { result ≡ kept goal self.now }
+        ensures { result ≡ kept_numbers goal self.now }
     {
         match goal {
             Side::Black => self.black.numbers(),

@@ -1,28 +1,14 @@
-//! The start and its first moves, a repetition, facts, and trees of 300 expansions beside a plain fold that the tests
-//! write down by themselves.
-use crate::{Mark, NodeId, Taken, Tree};
+//! The start and its first moves, a repetition, facts, and trees of 300 expansions beside a plain
+//! fold that the tests write down by themselves.
+use crate::{Free, Mark, NodeId, Taken, Tree, unknown_child, unknown_children};
 use draughts_board::{Cell, PlaceRefusal, Position, Side, Value};
-use draughts_rules::successors;
-use proof_numbers::{Child, Facts, Number, Numbers, mobility};
+use proof_numbers::{Child, Facts, Number, Numbers};
 use std::alloc::{AllocError, Global};
 use std::test::Fail;
 
 mod plain;
 
 use plain::{Dice, PlainTree};
-
-/// Nothing is taken.
-struct Free;
-
-impl Taken for Free {
-    ghost use Rattle.std.specs.Prelude.{false};
-
-    ghost taken = { λ s n. false };
-
-    fn is_taken(&self, _n: NodeId) -> bool {
-        false
-    }
-}
 
 /// Each node whose number leaves this rest when divided by 3 is taken.
 #[derive(Clone, Copy)]
@@ -40,40 +26,14 @@ impl Taken for Third {
     }
 }
 
-ghost use Rattle.std.specs.Prelude.{◌≡◌, ◌<◌, map, IfOk, IsSomeAnd};
-ghost use Rattle.draughts_board.specs.Play.{successors_of};
+ghost use Rattle.std.specs.Prelude.{◌≡◌, ◌<◌, IsSomeAnd};
 ghost use Rattle.proof_tree.specs.Forest.{node_at};
-
-/// A position of which nothing is known.
-fn unknown(alloc: Global, p: Position) -> Result<Child, AllocError>
-    ensures { IfOk result (λ child. child.position ≡ p) }
-{
-    let moves = mobility(successors(alloc, &p)?.len());
-    Ok(Child {
-        position: p,
-        facts: Facts::none(),
-        moves,
-    })
-}
-
-/// The successors of a position, of which nothing is known.
-fn children_of(alloc: Global, p: &Position) -> Result<Vec<Child>, AllocError>
-    ensures { IfOk result (λ children.
-        map (λ child. child.position) children.items ≡ successors_of p.now) }
-{
-    let next = successors(alloc, p)?;
-    let mut children = Vec::new(alloc);
-    for q in &next {
-        children.push(unknown(alloc, *q)?)?;
-    }
-    Ok(children)
-}
 
 /// Expands a leaf.
 fn grow(alloc: Global, tree: &mut Tree, n: NodeId) -> Result<Vec<Child>, AllocError>
     requires { IsSomeAnd (node_at n tree.old.forest) (λ x. x.own.mark ≡ Mark.Unexpanded) }
 {
-    let children = children_of(alloc, &tree.position(n))?;
+    let children = unknown_children(alloc, &tree.position(n))?;
     tree.reserve(children.len())?;
     tree.expand(n, &children);
     Ok(children)
@@ -91,7 +51,7 @@ fn grow_at(alloc: Global, tree: &mut Tree, number: u64) -> Result<Vec<Child>, Al
 fn planted(alloc: Global, p: Position) -> Result<Tree, AllocError> {
     let mut tree = Tree::new(alloc);
     tree.reserve(1)?;
-    tree.add_root(unknown(alloc, p)?);
+    tree.add_root(unknown_child(alloc, p)?);
     Ok(tree)
 }
 
@@ -219,8 +179,8 @@ fn settles_roots_by_facts(rt: HostRuntime) -> Result<(), Fail> {
     Ok(())
 }
 
-/// One turn: the leaf that is picked is expanded in both trees; with dice, a third of its children learn facts. False
-/// where no leaf is picked.
+/// One turn: the leaf that is picked is expanded in both trees; with dice, a third of its children
+/// learn facts. False where no leaf is picked.
 fn turn(
     alloc: Global,
     tree: &mut Tree,
@@ -245,11 +205,11 @@ fn turn(
     Ok(true)
 }
 
-/// The number of turns, at most 300, until no leaf is picked; none where after each tenth one, or with dice after each, the
-/// two trees do not have the same numbers and the same next leaf.
+/// The number of turns, at most 300, until no leaf is picked; none where after each tenth one, or
+/// with dice after each, the two trees do not have the same numbers and the same next leaf.
 fn turns(alloc: Global, taken: u64, mut dice: Option<Dice>) -> Result<Option<u32>, AllocError> {
     let mut tree = planted(alloc, Position::start())?;
-    let mut plain = PlainTree::new(alloc, &unknown(alloc, Position::start())?)?;
+    let mut plain = PlainTree::new(alloc, &unknown_child(alloc, Position::start())?)?;
     for count in 0..300 {
         let third = Third { rest: taken };
         if !turn(alloc, &mut tree, &mut plain, &third, &mut dice)? {

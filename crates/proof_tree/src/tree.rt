@@ -18,8 +18,9 @@ const MOST_NODES: usize = 1 << 57;
 
 /// A forest of positions with proof and disproof numbers, grown from its roots.
 ///
-/// A contract sees the forest as a recursive value, and for how many more nodes there is room. The numbers of every
-/// node are kept for both goals, and mended along one path where something changes.
+/// A contract sees the forest as a recursive value, and for how many more nodes there is room. The
+/// numbers of every node are kept for both goals, and mended along one path where something
+/// changes.
 #[derive(Drop)]
 pub struct Tree {
     /// One for each node, in the order in which they were made.
@@ -71,7 +72,8 @@ impl Tree {
         }
     }
 
-    /// Makes room for so many more nodes. After want of memory, which a tree of 2^57 nodes meets too, it is as it was.
+    /// Makes room for so many more nodes. After want of memory, which a tree of 2^57 nodes meets
+    /// too, it is as it was.
     pub fn reserve(&mut self, nodes: usize) -> Result<(), AllocError>
         ensures ok { OnOk result (self.new.forest ≡ self.old.forest) }
         ensures room { OnOk result (nodes ≤ self.new.spare) }
@@ -93,7 +95,8 @@ impl Tree {
         Ok(())
     }
 
-    /// Adds a root, which gets the next number, and gives its place among the roots, counted from 1.
+    /// Adds a root, which gets the next number, and gives its place among the roots, counted from
+    /// 1.
     pub fn add_root(&mut self, root: Child) -> u32
         requires absent { ¬ Contains (root_positions self.old.forest) root.position }
         requires few { length (nodes self.old.forest) < 65536 }
@@ -111,7 +114,8 @@ impl Tree {
         self.roots.len() as u32
     }
 
-    /// Gives a node its children, one for each successor of its position in order, which get the next numbers.
+    /// Gives a node its children, one for each successor of its position in order, which get the
+    /// next numbers.
     pub fn expand(&mut self, n: NodeId, children: &[Child])
         requires there { IsSomeAnd (node_at n self.old.forest) (λ x. x.own.mark ≡ Mark.Unexpanded) }
         requires successors { IfSome (node_at n self.old.forest) (λ x.
@@ -126,7 +130,8 @@ impl Tree {
         self.spare -= children.len();
     }
 
-    /// Adds these facts to those of a node. The caller knows that the two do not contradict each other.
+    /// Adds these facts to those of a node. The caller knows that the two do not contradict each
+    /// other.
     pub fn bound(&mut self, n: NodeId, facts: &Facts)
         requires there { IsSomeAnd (node_at n self.old.forest) (λ x. x.own.mark ≡ Mark.Unexpanded) }
         requires agree { IfSome (node_at n self.old.forest) (λ x.
@@ -179,7 +184,8 @@ impl Tree {
         Some(NodeId(number))
     }
 
-    /// The node with this number, where it is unexpanded; none exactly where no unexpanded node has it.
+    /// The node with this number, where it is unexpanded; none exactly where no unexpanded node has
+    /// it.
     pub fn leaf(&self, number: u64) -> Option<NodeId>
         ensures value { IfSome result (λ n. n ≡ number) }
         ensures there { IsSome result
@@ -286,13 +292,13 @@ impl Tree {
         self.row(n).kept(goal)
     }
 
-    /// The leaf to work on next, and the side whose win is sought there; none exactly where no unsettled root has a leaf
-    /// that is open.
+    /// The leaf to work on next, and the side whose win is sought there; none exactly where no
+    /// unsettled root has a leaf that is open.
     ///
-    /// A leaf is open for a goal where it is unexpanded, unresolved for it and not taken, and a node above it where it is
-    /// unresolved and has an open child. At the first unsettled root that is open for its goal the walk begins, and goes
-    /// on to the first open child with the least proof number where the goal moves, with the least disproof number
-    /// elsewhere.
+    /// A leaf is open for a goal where it is unexpanded, unresolved for it and not taken, and a
+    /// node above it where it is unresolved and has an open child. At the first unsettled root that
+    /// is open for its goal the walk begins, and goes on to the first open child with the least
+    /// proof number where the goal moves, with the least disproof number elsewhere.
     pub fn pick<T: Taken>(&self, taken: &T) -> Option<(NodeId, Side)>
         ensures value { result ≡ pick (T.taken taken.now) self.now.forest }
         ensures leaf { IfSome result (λ found.

@@ -2,10 +2,11 @@
 //!
 //! Without words it prints for each list, table and depth how many positions are settled by value, and how many nodes that
 //! takes (a node is a position of which the table is asked); for the first list also the nodes with a memory of one
-//! position, which has to settle the same. `fixed.txt` has positions 30 to 119 plies into random games, `values.txt`
-//! positions of three to six pieces with values that a program of another kind worked out backwards from the end, and
-//! `random.txt` positions of at most three pieces a side from random games. A value that is found and is not the list's ends
-//! the program with an error.
+//! position, which has to settle the same. `fixed.txt` has positions 30 to 119 plies into random games, and `values.txt`
+//! positions of three to six pieces. `random.txt` has one position of each of 168 random games, drawn evenly among its
+//! positions with at most three pieces a side and more than three pieces, and `first.txt` the first position with at most
+//! three pieces a side of each of 168 others. The values in these lists were worked out backwards from the end by programs of
+//! another kind. A value that is found and is not the list's ends the program with an error.
 //!
 //! With the word `time` it prints nodes a second, the time that a position of the first list takes, and what share of the
 //! nodes a memory of one position takes.
@@ -24,7 +25,7 @@ use crate::measure::best_time;
 use crate::settling::{Tally, settle_all};
 use anyhow::{Result, ensure};
 use endgame_table::{Table, fill};
-use leaf_search::Memo;
+use leaf_search::{MOST_DEPTH, Memo};
 use std::alloc::Global;
 use std::env;
 use std::rt::{Clock, Files};
@@ -135,6 +136,9 @@ fn tell_all(
     for depth in [4, 6, 8, 10, 12] {
         tell_list(rt, random.as_slice(), depth, &tables[1])?;
     }
+    let first = read_rows(rt, "first.txt")?;
+    println!(rt; "first positions of random games, table of 3")?;
+    tell_list(rt, first.as_slice(), MOST_DEPTH, &tables[1])?;
     Ok(())
 }
 

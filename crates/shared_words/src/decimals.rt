@@ -1,4 +1,5 @@
-//! Numbers in decimal: the one spelling that `decimal` names, without sign and without leading zeros.
+//! Numbers in decimal: the one spelling that `decimal` names, without sign and without leading
+//! zeros.
 ghost use Rattle.std.specs.Prelude.{◌≡◌, ◌≢◌, ◌++◌, ◌<◌, ◌≤◌, ◌^◌, ℕ, IfSome, IfNone, OnOk, OnErr, decimal};
 
 use itoa::Buffer;

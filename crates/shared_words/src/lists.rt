@@ -1,7 +1,8 @@
 //! A list that a contract sees as a list.
 use std::marker::Model;
 
-/// A list, kept in a `Vec`. A contract sees it as the list of its items, and so compares lists by their items.
+/// A list, kept in a `Vec`. A contract sees it as the list of its items, and so compares lists by
+/// their items.
 #[derive(Debug, Drop)]
 pub struct ItemList<T> {
     values: Vec<T>,

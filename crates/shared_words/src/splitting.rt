@@ -2,7 +2,8 @@
 ghost use Rattle.std.specs.Prelude.{◌≡◌, ◌++◌, ◌∷◌, IfSome, IfNone};
 ghost use Rattle.shared_words.specs.Bytes.{Lacks};
 
-/// The bytes before the first such byte, and those behind it; none where it does not stand in the text.
+/// The bytes before the first such byte, and those behind it; none where it does not stand in the
+/// text.
 pub fn split_once(text: &[u8], byte: u8) -> Option<(&[u8], &[u8])>
     ensures before { IfSome result (λ halves. Lacks byte halves.0.now) }
     ensures whole { IfSome result (λ halves. text.now ≡ halves.0.now ++ byte ∷ halves.1.now) }

@@ -11,7 +11,7 @@ use Rattle.draughts_board.proofs.Members.{Contains-filter, Contains-map}
 use Rattle.strategy_certificate.specs.declared.oracle.Answer.{Answer}
 use Rattle.strategy_certificate.specs.declared.entries.WinEntry.{WinEntry}
 use Rattle.strategy_certificate.specs.Tables.{TableWins, TableHolds}
-use Rattle.strategy_certificate.specs.Parts.{WinList, HoldList, HasDistinctPositions, entry_of, smaller, improved, new_rows, without_rank, hold_of}
+use Rattle.strategy_certificate.specs.Parts.{WinList, HoldList, HasDistinctPositions, entry_of, smaller, improved, added_rows, without_rank, hold_of}
 use Rattle.strategy_certificate.specs.Certificates.{HasDueMove, due_positions, HasRank, IsReached, IsReachedBelow, IsGoodWinEntry, IsGoodWinPart, IsHeld, IsGoodHoldEntry, IsGoodHoldPart}
 use Rattle.strategy_certificate.specs.Laws.{ReachesNoLater, HoldsAsMuch, merged_win_list, merged_hold_list, MergedWinsAreGood, MergedHoldsAreGood, GoodWinsHold}
 use Rattle.strategy_certificate.proofs.MergeLemmas.{equal_boards, none_or_some, pick, pick-all}
@@ -41,7 +41,7 @@ module _ (answer : Board → Option Answer) (part other : HoldList) (side : part
 
 module _ {E : Type 0} (into from : List (Board × E)) where
   -- the row of a position without entry is new
-  new_row : (q : Board) (e : E) → Contains from (q, e) → entry_of into q ≡ None → Contains (new_rows into from) (q, e)
+  new_row : (q : Board) (e : E) → Contains from (q, e) → entry_of into q ≡ None → Contains (added_rows into from) (q, e)
   new_row q e there none = Contains-filter (λ row. is_none (entry_of into row.0)) from (q, e) there (ap is_none none)
 
   found_row : (rows : List (Board × E)) (q : Board) (e : E) → entry_of rows q ≡ Some e → Contains rows (q, e)
@@ -71,14 +71,14 @@ module _ (answer : Board → Option Answer) (into from : WinList) (side : into.s
       let best = pick e (entry_of from.entries q) in
       let row : Contains (map (improved from.entries) into.entries) (q, best) = Contains-map (improved from.entries) into.entries (q, e) there in
       let le = pick-first e (entry_of from.entries q) in
-      (best.rank, (omega arith, (best, (Contains-append_left (map (improved from.entries) into.entries) (new_rows into.entries from.entries) (q, best) row, refl))))
+      (best.rank, (omega arith, (best, (Contains-append_left (map (improved from.entries) into.entries) (added_rows into.entries from.entries) (q, best) row, refl))))
 
   from_rank : (r : ℕ) (q : Board) → HasRank from r q → (m : ℕ) × ((m ≤ r) × HasRank (merged_win_list into from) m q)
   from_rank r q (e, (there, is)) =
       elim (none_or_some (entry_of into.entries q)) [
         | inl none ↦ (
             let row = new_row into.entries from.entries q e there none in
-            (r, (omega arith, (e, (Contains-append_right (map (improved from.entries) into.entries) (new_rows into.entries from.entries) (q, e) row, is)))))
+            (r, (omega arith, (e, (Contains-append_right (map (improved from.entries) into.entries) (added_rows into.entries from.entries) (q, e) row, is)))))
         | inr some ↦ (
             let kept = some.0 in
             let known : entry_of from.entries q ≡ Some e = lookup-from_Contains same_board-equivalence q e from.entries distinct there in
@@ -87,7 +87,7 @@ module _ (answer : Board → Option Answer) (into from : WinList) (side : into.s
             let row : Contains (map (improved from.entries) into.entries) (q, best) =
             subst (λ o. Contains (map (improved from.entries) into.entries) (q, pick kept o)) known (Contains-map (improved from.entries) into.entries (q, kept) old) in
             let le = smaller-second kept e in
-            (best.rank, (omega arith, (best, (Contains-append_left (map (improved from.entries) into.entries) (new_rows into.entries from.entries) (q, best) row, refl)))))
+            (best.rank, (omega arith, (best, (Contains-append_left (map (improved from.entries) into.entries) (added_rows into.entries from.entries) (q, best) row, refl)))))
       ]
 
   into_reaches : ReachesNoLater answer into (merged_win_list into from)
@@ -120,7 +120,7 @@ module _ (answer : Board → Option Answer) (into from : WinList) (side : into.s
 
     merged_wins_good : IsGoodWinPart (merged_win_list into from) answer
     merged_wins_good =
-        All-append IsGoodRow (map (improved from.entries) into.entries) (new_rows into.entries from.entries)
+        All-append IsGoodRow (map (improved from.entries) into.entries) (added_rows into.entries from.entries)
         (All-map IsGoodRow (improved from.entries) into.entries
         (All-weaker (λ row. IsGoodWinEntry into answer row.0 row.1) (λ row. IsGoodRow (improved from.entries row)) improved_row into.entries good_into))
         (All-filter (λ row. is_none (entry_of into.entries row.0)) IsGoodRow from.entries
@@ -135,20 +135,20 @@ merged_wins_are_good answer into from side distinct good_into good_from =
 module _ (answer : Board → Option Answer) (into from : HoldList) (side : into.side ≡ from.side) where
   into_holds : HoldsAsMuch answer into (merged_hold_list into from)
   into_holds q (inl (chosen, there)) =
-      inl (chosen, Contains-append_left into.entries (new_rows into.entries from.entries) (q, chosen) there)
+      inl (chosen, Contains-append_left into.entries (added_rows into.entries from.entries) (q, chosen) there)
   into_holds q (inr table) = inr table
 
   from_holds : HoldsAsMuch answer from (merged_hold_list into from)
   from_holds q (inl (chosen, there)) =
       elim (none_or_some (entry_of into.entries q)) [
-        | inl none ↦ inl (chosen, Contains-append_right into.entries (new_rows into.entries from.entries) (q, chosen) (new_row into.entries from.entries q chosen there none))
-        | inr some ↦ inl (some.0, Contains-append_left into.entries (new_rows into.entries from.entries) (q, some.0) (found_row into.entries from.entries into.entries q some.0 some.1))
+        | inl none ↦ inl (chosen, Contains-append_right into.entries (added_rows into.entries from.entries) (q, chosen) (new_row into.entries from.entries q chosen there none))
+        | inr some ↦ inl (some.0, Contains-append_left into.entries (added_rows into.entries from.entries) (q, some.0) (found_row into.entries from.entries into.entries q some.0 some.1))
       ]
   from_holds q (inr table) = inr (subst (λ s. TableHolds draughts answer s q) (sym side) table)
 
   merged_holds_good : IsGoodHoldPart into answer → IsGoodHoldPart from answer → IsGoodHoldPart (merged_hold_list into from) answer
   merged_holds_good good_into good_from =
-      All-append (λ row. IsGoodHoldEntry (merged_hold_list into from) answer row.0 row.1) into.entries (new_rows into.entries from.entries)
+      All-append (λ row. IsGoodHoldEntry (merged_hold_list into from) answer row.0 row.1) into.entries (added_rows into.entries from.entries)
       (All-weaker (λ row. IsGoodHoldEntry into answer row.0 row.1) (λ row. IsGoodHoldEntry (merged_hold_list into from) answer row.0 row.1)
       (λ row. good_hold_stays answer into (merged_hold_list into from) refl into_holds row.0 row.1) into.entries good_into)
       (All-filter (λ row. is_none (entry_of into.entries row.0)) (λ row. IsGoodHoldEntry (merged_hold_list into from) answer row.0 row.1) from.entries

@@ -1,5 +1,6 @@
 pub mod Tables
 pub mod TableRanks
+pub mod ClaimLemmas
 pub mod PartLemmas
 pub mod MergeLemmas
 pub mod GoodMerges

@@ -12,7 +12,7 @@ use Rattle.indexmap.specs.IndexMap.{insert_entry}
 use Rattle.draughts_board.specs.Board.{Board, same_board}
 use Rattle.draughts_board.specs.Same.{same_board-Decides, same_board-equivalence}
 use Rattle.strategy_certificate.specs.declared.entries.WinEntry.{WinEntry}
-use Rattle.strategy_certificate.specs.Parts.{HasDistinctPositions, positions_of, entry_of, smaller, improved, new_rows, merged_wins, merged_holds, without_rank}
+use Rattle.strategy_certificate.specs.Parts.{HasDistinctPositions, positions_of, entry_of, smaller, improved, added_rows, merged_wins, merged_holds, without_rank}
 
 -- ---- positions that are the same
 
@@ -69,7 +69,7 @@ module _ {E : Type 0} where
   entry_of-push [] last q other = entry_of-there q last [] other
   entry_of-push (row ∷ rows) last q other = ap (cond (same_board q row.0) (Some row.1)) (entry_of-push rows last q other)
 
-  pub new_rows-push : (into : List (Board × E)) (last : Board × E) (rest : List (Board × E)) → HasNone rest last.0 → new_rows (into ++ last ∷ []) rest ≡ new_rows into rest
+  pub new_rows-push : (into : List (Board × E)) (last : Board × E) (rest : List (Board × E)) → HasNone rest last.0 → added_rows (into ++ last ∷ []) rest ≡ added_rows into rest
   new_rows-push into last [] none = refl
   new_rows-push into last (row ∷ rest) none =
       let other : same_board row.0 last.0 ≡ false = same_board-equivalence.symm row.0 last.0 ∙ none_head last.0 row rest none in
@@ -83,8 +83,8 @@ pub merged_holds-step : (into : List (Board × Option (List ℕ))) (row : Board 
     → HasNone rest row.0 → merged_holds (merged_holds into (row ∷ [])) rest ≡ merged_holds into (row ∷ rest)
 merged_holds-step into row rest none = by (is_none (entry_of into row.0))
   where
-    by : (b : Bool) → merged_holds (into ++ cond b (row ∷ []) []) rest ≡ into ++ cond b (row ∷ new_rows into rest) (new_rows into rest)
-    by true = ap (λ rows. (into ++ row ∷ []) ++ rows) (new_rows-push into row rest none) ∙ append_assoc into (row ∷ []) (new_rows into rest)
+    by : (b : Bool) → merged_holds (into ++ cond b (row ∷ []) []) rest ≡ into ++ cond b (row ∷ added_rows into rest) (added_rows into rest)
+    by true = ap (λ rows. (into ++ row ∷ []) ++ rows) (new_rows-push into row rest none) ∙ append_assoc into (row ∷ []) (added_rows into rest)
     by false = ap (λ rows. merged_holds rows rest) (append-nil into)
 
 pub merged_holds-new : (into : List (Board × Option (List ℕ))) (row : Board × Option (List ℕ)) → HasNone into row.0 → into ++ row ∷ [] ≡ merged_holds into (row ∷ [])
@@ -148,7 +148,7 @@ is_none-improved from (x ∷ into) q = by (same_board q x.0) (is_none-improved f
     by true more = refl
     by false more = more
 
-new_rows-improved : (from into rest : List (Board × WinEntry)) → new_rows (map (improved from) into) rest ≡ new_rows into rest
+new_rows-improved : (from into rest : List (Board × WinEntry)) → added_rows (map (improved from) into) rest ≡ added_rows into rest
 new_rows-improved from into [] = refl
 new_rows-improved from into (row ∷ rest) =
     let same = is_none-improved from into row.0 in
@@ -166,13 +166,13 @@ merged_wins-step into row rest none = by (is_none (entry_of into row.0))
     one : List (Board × WinEntry)
     one = map (improved (row ∷ [])) into
 
-    by : (b : Bool) → merged_wins (one ++ cond b (row ∷ []) []) rest ≡ map (improved (row ∷ rest)) into ++ cond b (row ∷ new_rows into rest) (new_rows into rest)
+    by : (b : Bool) → merged_wins (one ++ cond b (row ∷ []) []) rest ≡ map (improved (row ∷ rest)) into ++ cond b (row ∷ added_rows into rest) (added_rows into rest)
     by true =
         let front = map-append (improved rest) one (row ∷ []) in
         let old = map_improved-cons row rest none into in
         let new = improved-none rest row none in
         let back = new_rows-push one row rest none ∙ new_rows-improved (row ∷ []) into rest in
-        (λ i. front i ++ back i) ∙ (λ i. (old i ++ new i ∷ []) ++ new_rows into rest) ∙ append_assoc (map (improved (row ∷ rest)) into) (row ∷ []) (new_rows into rest)
+        (λ i. front i ++ back i) ∙ (λ i. (old i ++ new i ∷ []) ++ added_rows into rest) ∙ append_assoc (map (improved (row ∷ rest)) into) (row ∷ []) (added_rows into rest)
     by false =
         let old = map_improved-cons row rest none into in
         let back = new_rows-improved (row ∷ []) into rest in

@@ -7,7 +7,7 @@ use Rattle.std.proofs.lemmas.Map.Views.{Contains-from_lookup, lookup-from_Contai
 use Rattle.draughts_board.specs.Board.{Board, same_board}
 use Rattle.draughts_board.specs.Same.{same_board-equivalence}
 use Rattle.strategy_certificate.specs.declared.entries.WinEntry.{WinEntry}
-use Rattle.strategy_certificate.specs.Parts.{HasEntry, HasDistinctPositions, entry_of, improved, new_rows, merged_wins, merged_holds, IsInRange, IsWinRow, IsHoldRow, without_rank}
+use Rattle.strategy_certificate.specs.Parts.{HasEntry, HasDistinctPositions, entry_of, improved, added_rows, merged_wins, merged_holds, IsInRange, IsWinRow, IsHoldRow, without_rank}
 use Rattle.strategy_certificate.proofs.MergeLemmas.{equal_boards, HasNone, pick-all}
 
 module _ {E : Type 0} (rows : List (Board × E)) (p : Board) where
@@ -60,13 +60,13 @@ improved-IsWinRow from all row keeps = (
 
 pub All-merged_wins : (into from : List (Board × WinEntry)) → All IsWinRow into → All IsWinRow from → All IsWinRow (merged_wins into from)
 All-merged_wins into from all more =
-    All-append IsWinRow (map (improved from) into) (new_rows into from)
+    All-append IsWinRow (map (improved from) into) (added_rows into from)
     (All-map IsWinRow (improved from) into (All-weaker IsWinRow (λ row. IsWinRow (improved from row)) (improved-IsWinRow from more) into all))
     (All-filter (λ row. is_none (entry_of into row.0)) IsWinRow from more)
 
 pub All-merged_holds : (into from : List (Board × Option (List ℕ))) → All IsHoldRow into → All IsHoldRow from → All IsHoldRow (merged_holds into from)
 All-merged_holds into from all more =
-    All-append IsHoldRow into (new_rows into from) all (All-filter (λ row. is_none (entry_of into row.0)) IsHoldRow from more)
+    All-append IsHoldRow into (added_rows into from) all (All-filter (λ row. is_none (entry_of into row.0)) IsHoldRow from more)
 
 pub All-hold_of : (rows : List (Board × WinEntry)) → All IsWinRow rows → All IsHoldRow (map without_rank rows)
 All-hold_of rows all = All-map IsHoldRow without_rank rows (All-weaker IsWinRow (λ row. IsHoldRow (without_rank row)) (λ row keeps. (keeps.0, keeps.1.1)) rows all)

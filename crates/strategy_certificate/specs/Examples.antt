@@ -65,7 +65,8 @@ pub record WorkedParts : Type 0 where
   pub without_move : ¬ IsGoodWinPart (begun_by (with_rank 1 None)) no_answer
   pub backward : ¬ IsGoodWinPart (begun_by (with_rank 1 (Some (23 ∷ 27 ∷ [])))) no_answer
   pub alone :
-      ¬ IsGoodWinPart (white_wins ((man_to_block, with_rank 1 (Some (23 ∷ 19 ∷ []))) ∷ [])) no_answer
+      ¬ IsGoodWinPart (white_wins ((man_to_block, with_rank 1 (Some (23 ∷ 19 ∷ [])))
+      ∷ [])) no_answer
 
 pub record WorkedMerges : Type 0 where
   -- A smaller rank comes with its move, a new position goes last, and of equal ranks the one that

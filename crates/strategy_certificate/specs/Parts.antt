@@ -73,18 +73,18 @@ abbrev pub improved : List (Board × WinEntry) → Board × WinEntry → Board �
 improved from row = (row.0, option_map_or (smaller row.1) (entry_of from row.0) row.1)
 
 -- the rows of `from` whose positions have no entry yet, in order
-abbrev pub new_rows : {E : Type 0} → List (Board × E) → List (Board × E) → List (Board × E)
-new_rows into from = filter (λ row. is_none (entry_of into row.0)) from
+abbrev pub added_rows : {E : Type 0} → List (Board × E) → List (Board × E) → List (Board × E)
+added_rows into from = filter (λ row. is_none (entry_of into row.0)) from
 
 -- The rows that were there keep their places, each improved by those of `from`, and the new ones go
 -- last.
 abbrev pub merged_wins : List (Board × WinEntry) → List (Board × WinEntry) → List (Board × WinEntry)
-merged_wins into from = map (improved from) into ++ new_rows into from
+merged_wins into from = map (improved from) into ++ added_rows into from
 
 -- The rows that were there stay, and the new ones go last.
 abbrev pub merged_holds : List (Board × Option (List ℕ)) → List (Board × Option (List ℕ))
     → List (Board × Option (List ℕ))
-merged_holds into from = into ++ new_rows into from
+merged_holds into from = into ++ added_rows into from
 
 abbrev pub without_rank : Board × WinEntry → Board × Option (List ℕ)
 without_rank row = (row.0, row.1.chosen)

@@ -1,9 +1,9 @@
 //! Certificates: a position, a claim, and the strategies that show it.
 use crate::claims::Claim;
 use crate::hold_parts::HoldPart;
-use crate::lists::ItemList;
 use crate::win_parts::WinPart;
 use draughts_board::Position;
+use shared_words::ItemList;
 
 /// One strategy of a certificate.
 #[derive(Drop)]
@@ -34,7 +34,8 @@ pub type PartList = ItemList<Part>;
 
 /// A claim about a position, and what is to show it.
 ///
-/// Whether it is good, and so its claim true, is a matter of its parts and of the endgame table of `pieces` pieces.
+/// Whether it is good, and so its claim true, is a matter of its parts and of the endgame table of
+/// `pieces` pieces.
 #[derive(Drop)]
 pub struct Certificate {
     pub position: Position,

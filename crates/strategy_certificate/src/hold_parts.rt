@@ -9,8 +9,8 @@ use std::marker::Model;
 
 /// Positions that a side holds, each with its move where the side is to move.
 ///
-/// A contract sees the side and the list of entries in the order in which they came. No position stands twice. An
-/// entry is looked up, not searched for.
+/// A contract sees the side and the list of entries in the order in which they came. No position
+/// stands twice. An entry is looked up, not searched for.
 #[derive(Drop)]
 pub struct HoldPart {
     side: Side,
@@ -93,8 +93,8 @@ impl HoldPart {
         find_row(&self.entries, p)
     }
 
-    /// Adds an entry behind the others, unless the position has one; tells whether it had none. The position is
-    /// hashed once.
+    /// Adds an entry behind the others, unless the position has one; tells whether it had none. The
+    /// position is hashed once.
     ///
     /// After want of memory the part is as it was.
     pub fn add_new(&mut self, p: Position, chosen: Option<Move>) -> Result<bool, AllocError>
@@ -123,7 +123,8 @@ impl HoldPart {
         Ok(())
     }
 
-    /// Keeps the first `count` entries and takes back those behind them. Where there are no more, nothing changes.
+    /// Keeps the first `count` entries and takes back those behind them. Where there are no more,
+    /// nothing changes.
     pub fn truncate(&mut self, count: usize)
         ensures { self.new ≡ record self.old { entries = take count self.old.entries } }
     {
@@ -134,8 +135,8 @@ impl HoldPart {
 ghost use Rattle.std.specs.Prelude.{◌≡◌, OnOk, OnErr};
 ghost use Rattle.strategy_certificate.specs.Parts.{merged_holds};
 
-/// Takes over the entries of another part of the same side, in order. A new position goes last; one that is there
-/// keeps its entry.
+/// Takes over the entries of another part of the same side, in order. A new position goes last; one
+/// that is there keeps its entry.
 ///
 /// After want of memory the part is as it was.
 pub fn merge_holds(_alloc: Global, into: &mut HoldPart, from: &HoldPart) -> Result<(), AllocError>

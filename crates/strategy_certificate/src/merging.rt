@@ -9,8 +9,8 @@ use draughts_board::{Move, Position};
 use indexmap::IndexMap;
 use std::alloc::{AllocError, Global};
 
-/// Takes over the entry: a new position goes last, and one that is there takes the entry where its rank is smaller.
-/// There is room for it.
+/// Takes over the entry: a new position goes last, and one that is there takes the entry where its
+/// rank is smaller. There is room for it.
 fn improve(into: &mut IndexMap<Position, WinEntry>, p: &Position, e: &WinEntry)
     requires room { 0 < spare into.old }
     requires distinct { HasDistinctPositions into.old.entries }
@@ -43,7 +43,8 @@ pub(crate) fn improve_all(
     }
 }
 
-/// Takes over each entry of `from` whose position has none yet, in order. There is room for all of them.
+/// Takes over each entry of `from` whose position has none yet, in order. There is room for all of
+/// them.
 pub(crate) fn add_all_new(
     into: &mut IndexMap<Position, Option<Move>>,
     from: &IndexMap<Position, Option<Move>>,

@@ -1,10 +1,12 @@
 //! Answers of endgame tables, and who gives them.
 use draughts_board::Position;
 
-/// The number of positions of at most three pieces. Each rank in a sound table of two or three pieces is below it.
+/// The number of positions of at most three pieces. Each rank in a sound table of two or three
+/// pieces is below it.
 pub const TABLE_POSITIONS: u64 = 651_010;
 
-/// What an endgame table says of a position, for the side to move, with a bound on the plies to the end.
+/// What an endgame table says of a position, for the side to move, with a bound on the plies to the
+/// end.
 #[derive(Clone, Copy, PartialEq, Eq, Debug)]
 pub enum Answer {
     /// The side to move wins in at most so many plies.
@@ -33,7 +35,8 @@ pub trait Oracle {
         ensures range { IsTableSize result }
         ensures sound { IsSoundTable draughts (piece_limit self.now) (answer_at self.now) };
 
-    /// The answer at this position: none exactly where it has more pieces than that. What it answers is sound.
+    /// The answer at this position: none exactly where it has more pieces than that. What it
+    /// answers is sound.
     fn answer(&self, p: &Position) -> Option<Answer>
         ensures value { result ≡ answer_at self.now p.now }
         ensures sound { IsSoundTable draughts (piece_limit self.now) (answer_at self.now) };

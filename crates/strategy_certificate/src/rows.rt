@@ -29,7 +29,8 @@ pub(crate) fn find_row<E: Copy>(rows: &IndexMap<Position, E>, p: &Position) -> O
     rows.get(p).copied()
 }
 
-/// Adds a row behind the others, unless its position has one; tells whether it had none. The position is hashed once.
+/// Adds a row behind the others, unless its position has one; tells whether it had none. The
+/// position is hashed once.
 ///
 /// After want of memory the rows are as they were.
 pub(crate) fn add_new_row<E: Copy>(

@@ -1,4 +1,5 @@
-//! Parts and how they are merged, on the White win in one: in W:W16,23:B12 the step 23-19 leaves Black without a move.
+//! Parts and how they are merged, on the White win in one: in W:W16,23:B12 the step 23-19 leaves
+//! Black without a move.
 ghost use Rattle.std.specs.Prelude.{◌≡◌, IfOk};
 
 use crate::{

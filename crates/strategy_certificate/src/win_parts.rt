@@ -10,8 +10,8 @@ use std::marker::Model;
 
 /// Positions in which a side wins, each with a rank and, where the side is to move, its move.
 ///
-/// A contract sees the side and the list of entries in the order in which they came. No position stands twice, and
-/// no rank is above [`MOST_RANK`]. An entry is looked up, not searched for.
+/// A contract sees the side and the list of entries in the order in which they came. No position
+/// stands twice, and no rank is above [`MOST_RANK`]. An entry is looked up, not searched for.
 #[derive(Drop)]
 pub struct WinPart {
     side: Side,
@@ -88,8 +88,8 @@ impl WinPart {
         find_row(&self.entries, p)
     }
 
-    /// Adds an entry behind the others, unless the position has one; tells whether it had none. The position is
-    /// hashed once.
+    /// Adds an entry behind the others, unless the position has one; tells whether it had none. The
+    /// position is hashed once.
     ///
     /// After want of memory the part is as it was.
     pub fn add_new(&mut self, p: Position, e: WinEntry) -> Result<bool, AllocError>
@@ -120,7 +120,8 @@ impl WinPart {
         Ok(())
     }
 
-    /// Keeps the first `count` entries and takes back those behind them. Where there are no more, nothing changes.
+    /// Keeps the first `count` entries and takes back those behind them. Where there are no more,
+    /// nothing changes.
     pub fn truncate(&mut self, count: usize)
         ensures { self.new ≡ record self.old { entries = take count self.old.entries } }
     {
@@ -131,8 +132,8 @@ impl WinPart {
 ghost use Rattle.std.specs.Prelude.{◌≡◌, IfOk, OnOk, OnErr};
 ghost use Rattle.strategy_certificate.specs.Parts.{merged_wins, hold_of};
 
-/// Takes over the entries of another part of the same side, in order. A new position goes last; one that is there
-/// takes the other entry, its rank and its move, exactly where that rank is smaller.
+/// Takes over the entries of another part of the same side, in order. A new position goes last; one
+/// that is there takes the other entry, its rank and its move, exactly where that rank is smaller.
 ///
 /// After want of memory the part is as it was.
 pub fn merge_wins(_alloc: Global, into: &mut WinPart, from: &WinPart) -> Result<(), AllocError>

@@ -13,7 +13,7 @@ use Rattle.std.specs.Int.Bits.{bit_and, bit_or}
 use Rattle.draughts_board.specs.Rules.{is_own}
 use Rattle.swift_moves.specs.declared.forces.Forces.{Forces}
 use Rattle.draughts_board.specs.Masks.{IsMaskOf, stands_in}
-use Rattle.swift_moves.specs.Forces.{AreForces, is_man, is_king}
+use Rattle.swift_moves.specs.Forces.{AreForces, is_man, is_king_of}
 use Rattle.swift_moves.specs.Ways.{forward, ways_of}
 use Rattle.draughts_board.proofs.Bits.{stands_in-and, stands_in-or}
 use Rattle.draughts_board.proofs.OnSquares.{square_is}
@@ -30,7 +30,7 @@ four false false false true = refl
 four false false false false = refl
 
 pub going_law : (s : Side) (c : Cell) (open_way : Way → Bool)
-    → ((is_man s c && forward s (open_way UpLeft || open_way UpRight) (open_way DownLeft || open_way DownRight)) || (is_king s c && ((open_way UpLeft || open_way UpRight) || (open_way DownLeft || open_way DownRight))))
+    → ((is_man s c && forward s (open_way UpLeft || open_way UpRight) (open_way DownLeft || open_way DownRight)) || (is_king_of s c && ((open_way UpLeft || open_way UpRight) || (open_way DownLeft || open_way DownRight))))
     ≡ (belongs s c && list_any open_way (ways_of c))
 going_law s Empty o = refl
 going_law Black (Man Black) o = two (o DownLeft) (o DownRight)
@@ -72,7 +72,7 @@ or_false true = refl
 or_false false = refl
 
 -- a side's pieces are its men and its kings
-pub man_or_king : (s : Side) (c : Cell) → (is_man s c || is_king s c) ≡ belongs s c
+pub man_or_king : (s : Side) (c : Cell) → (is_man s c || is_king_of s c) ≡ belongs s c
 man_or_king s Empty = refl
 man_or_king s (Man t) = or_false (belongs s (Man t))
 man_or_king s (King t) = refl

@@ -16,8 +16,8 @@ use Rattle.swift_moves.specs.Ways.{next_is}
 abbrev pub is_man : Side → Cell → Bool
 is_man s c = same_cell (Man s) c
 
-abbrev pub is_king : Side → Cell → Bool
-is_king s c = same_cell (King s) c
+abbrev pub is_king_of : Side → Cell → Bool
+is_king_of s c = same_cell (King s) c
 
 -- square n is empty, or holds an enemy of the mover
 abbrev pub is_free : Board → ℕ → Bool
@@ -30,7 +30,7 @@ is_enemy p n = belongs (other p.to_move) (cell_at p n)
 pub record AreForces (p : Board) (f : Forces) : Type 0 where
   pub mover : p.to_move ≡ f.mover
   pub men : IsMaskOf (λ n. is_man p.to_move (cell_at p n)) f.men
-  pub kings : IsMaskOf (λ n. is_king p.to_move (cell_at p n)) f.kings
+  pub kings : IsMaskOf (λ n. is_king_of p.to_move (cell_at p n)) f.kings
   pub enemies : IsMaskOf (is_enemy p) f.enemies
   pub free : IsMaskOf (is_free p) f.free
 

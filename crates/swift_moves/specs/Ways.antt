@@ -1,4 +1,5 @@
--- The four ways on the board. Only the proofs meet them: what a step or a jump is stands in the rules.
+-- The four ways on the board. Only the proofs meet them: what a step or a jump is stands in the
+-- rules.
 use Rattle.std.specs.Prelude.{ℕ, ◌+◌, ◌-◌, ◌%◌, Bool, ◌&&◌, ◌==◌, List, [], ◌∷◌, if◌then◌else◌}
 use Rattle.draughts_board.specs.Geometry.{is_square, row}
 use Rattle.draughts_board.specs.declared.pieces.Side.{Side}
@@ -8,7 +9,8 @@ use Rattle.draughts_board.specs.declared.pieces.Cell.TheVariants.{Empty, Man, Ki
 use Rattle.swift_moves.specs.declared.ways.Way.{Way}
 use Rattle.swift_moves.specs.declared.ways.Way.TheVariants.{UpLeft, UpRight, DownLeft, DownRight}
 
--- the square next to x that way (left is towards lower columns, up towards lower rows); 0 where there is none
+-- the square next to x that way (left is towards lower columns, up towards lower rows); 0 where
+-- there is none
 unfoldable pub next : Way → ℕ → ℕ
 next UpLeft x = (if row x % 2 == 0 then x - 4 else (if x % 4 == 1 then 0 else x - 5))
 next UpRight x = (if row x % 2 == 0 then (if x % 4 == 0 then 0 else x - 3) else x - 4)

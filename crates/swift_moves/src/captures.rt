@@ -67,7 +67,8 @@ pub(crate) fn with_jump(path: &[Square], taken: u32, to: Square) -> u32
     taken | last(path).between(to).bit()
 }
 
-/// Adds the captures that begin with the trail, which has jumped over the pieces of `taken`, in rising order.
+/// Adds the captures that begin with the trail, which has jumped over the pieces of `taken`, in
+/// rising order.
 fn grow(
     p: &Position,
     f: &Forces,

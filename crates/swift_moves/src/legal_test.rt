@@ -14,8 +14,8 @@ use crate::steps::step_targets;
 use draughts_board::path_ends::{first, last};
 use draughts_board::{Move, Position, Square};
 
-/// The capture goes on behind the path, which has jumped over the pieces of `taken`, with a jump to the square: no
-/// crowning ends it before.
+/// The capture goes on behind the path, which has jumped over the pieces of `taken`, with a jump to
+/// the square: no crowning ends it before.
 fn is_continued(p: &Position, f: &Forces, path: &[Square], taken: u32, to: Square) -> bool
     requires forces { AreForces p.now f.now }
     requires some { 1 ≤ length path.now }

@@ -8,7 +8,8 @@ ghost use Rattle.swift_moves.specs.Moved.{in_turn, is_king_at_rest, stands_moved
 use crate::masks::holds;
 use draughts_board::{Side, Square};
 
-/// Of Black's men and kings and White's, those of the mover first; the same again gives back the order of colours.
+/// Of Black's men and kings and White's, those of the mover first; the same again gives back the
+/// order of colours.
 #[inline]
 pub(crate) fn in_turn(masks: [u32; 4], mover: Side) -> [u32; 4]
     ensures { result ≡ in_turn mover masks }
@@ -31,7 +32,8 @@ fn farthest_row(side: Side) -> u8
     }
 }
 
-/// The side's piece that goes from the one square to the other, where these are its kings, is a king at the end.
+/// The side's piece that goes from the one square to the other, where these are its kings, is a
+/// king at the end.
 #[inline]
 fn is_king_at_rest(side: Side, kings: u32, from: Square, to: Square) -> bool
     ensures { result ≡ is_king_at_rest side kings from to }
@@ -58,8 +60,8 @@ fn untaken(mask: u32, taken: u32) -> u32
     mask & !taken
 }
 
-/// The masks, those of the mover first, once its piece has gone from the one square to the other and taken the pieces of
-/// `taken`.
+/// The masks, those of the mover first, once its piece has gone from the one square to the other
+/// and taken the pieces of `taken`.
 #[inline]
 pub(crate) fn masks_moved(
     masks: [u32; 4],

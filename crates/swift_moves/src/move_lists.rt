@@ -11,14 +11,15 @@ use crate::steps::add_steps;
 use draughts_board::{Move, Position};
 use std::alloc::{AllocError, Global};
 
-/// How many moves or positions a new list has room for: more than nearly all positions have, so that it does not grow.
+/// How many moves or positions a new list has room for: more than nearly all positions have, so
+/// that it does not grow.
 pub(crate) const ROOM: usize = 16;
 
-/// Puts the legal moves in place of what the list held, each once, in rising order of their paths, which are compared
-/// square by square. Takes memory only where the list's own is too small.
+/// Puts the legal moves in place of what the list held, each once, in rising order of their paths,
+/// which are compared square by square. Takes memory only where the list's own is too small.
 ///
-/// A side that can capture must (WCDF rules), so these are the captures where there is one, and else the steps. There
-/// is none where the player to move is blocked or has no pieces.
+/// A side that can capture must (WCDF rules), so these are the captures where there is one, and
+/// else the steps. There is none where the player to move is blocked or has no pieces.
 pub fn legal_moves_into(p: &Position, moves: &mut Vec<Move>) -> Result<(), AllocError>
     ensures exact { OnOk result (moves.new.items ≡ legal_paths p.now) }
     ensures rules { OnOk result (AreLegalPaths p.now moves.new.items) }
@@ -35,8 +36,8 @@ pub fn legal_moves_into(p: &Position, moves: &mut Vec<Move>) -> Result<(), Alloc
 
 /// The legal moves, each once, in rising order of their paths, which are compared square by square.
 ///
-/// A side that can capture must (WCDF rules), so these are the captures where there is one, and else the steps. There
-/// is none where the player to move is blocked or has no pieces.
+/// A side that can capture must (WCDF rules), so these are the captures where there is one, and
+/// else the steps. There is none where the player to move is blocked or has no pieces.
 pub fn legal_moves(alloc: Global, p: &Position) -> Result<Vec<Move>, AllocError>
     ensures exact { IfOk result (λ moves. moves.items ≡ legal_paths p.now) }
     ensures rules { IfOk result (λ moves. AreLegalPaths p.now moves.items) }

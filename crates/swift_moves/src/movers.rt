@@ -11,7 +11,8 @@ use crate::masks::is_any;
 use crate::ways::{Way, before, forward};
 use draughts_board::{Position, Square};
 
-/// The pieces that go one of the ways: `up` and `down` hold the squares from which some way up or down is open.
+/// The pieces that go one of the ways: `up` and `down` hold the squares from which some way up or
+/// down is open.
 #[inline]
 fn going(f: &Forces, up: u32, down: u32) -> u32
     ensures { IsMaskOf (λ n. (stands_in f.now.men n && stands_in (forward f.now.mover up down) n)
@@ -20,7 +21,8 @@ fn going(f: &Forces, up: u32, down: u32) -> u32
     (f.men & forward(f.mover, up, down)) | (f.kings & (up | down))
 }
 
-/// The squares from which the way leads over an enemy to an empty square, on the board that these are the forces of.
+/// The squares from which the way leads over an enemy to an empty square, on the board that these
+/// are the forces of.
 #[inline]
 fn leaping(f: &Forces, way: Way) -> u32
     ensures { (p : Board) → AreForces p f.now → IsMaskOf (leaps p way) result }
@@ -38,7 +40,8 @@ pub(crate) fn jumpers(f: &Forces) -> u32
     going(f, up, down)
 }
 
-/// The mover's pieces that have a step, whether or not a jump forbids it, on the board that these are the forces of.
+/// The mover's pieces that have a step, whether or not a jump forbids it, on the board that these
+/// are the forces of.
 #[inline]
 pub(crate) fn steppers(f: &Forces) -> u32
     ensures { (p : Board) → AreForces p f.now → IsMaskOf (is_stepper p) result }

@@ -53,8 +53,8 @@ fn position_after(p: &Position, path: &[Square], taken: u32) -> Position
     position_of(p, black_men, black_kings, white_men, white_kings)
 }
 
-/// The position after a legal move: the piece stands on the path's last square, the pieces that it jumped over are
-/// gone, a man on its farthest row is a king, and the other side is to move.
+/// The position after a legal move: the piece stands on the path's last square, the pieces that it
+/// jumped over are gone, a man on its farthest row is a king, and the other side is to move.
 pub fn apply(p: &Position, m: &Move) -> Position
     requires { IsLegal p.now m.now }
     ensures { result ≡ after p.now m.now }
@@ -63,7 +63,8 @@ pub fn apply(p: &Position, m: &Move) -> Position
     position_after(p, path, jumped_over(path))
 }
 
-/// Adds the positions after the steps of the mover's piece on the square, in the order of these steps.
+/// Adds the positions after the steps of the mover's piece on the square, in the order of these
+/// steps.
 #[inline]
 fn add_stepped_of(
     p: &Position,
@@ -118,8 +119,8 @@ fn add_distinct(p: &Position, moves: &[Move], next: &mut Vec<Position>) -> Resul
     Ok(())
 }
 
-/// Adds the positions after the captures, each at its first place only; `jumpers` holds the mover's pieces that have a
-/// jump.
+/// Adds the positions after the captures, each at its first place only; `jumpers` holds the mover's
+/// pieces that have a jump.
 fn add_captured(
     alloc: Global,
     p: &Position,
@@ -139,9 +140,10 @@ fn add_captured(
     add_distinct(p, &moves, next)
 }
 
-/// Puts the successors in place of what the list held: the positions that the legal moves lead to, each once, in the
-/// order of the first move that gives it. Takes memory for the captures, if there are any, and where the list's own is too
-/// small. No step leads where another does, so duplicates are looked for among captures alone.
+/// Puts the successors in place of what the list held: the positions that the legal moves lead to,
+/// each once, in the order of the first move that gives it. Takes memory for the captures, if there
+/// are any, and where the list's own is too small. No step leads where another does, so duplicates
+/// are looked for among captures alone.
 pub fn successors_into(
     alloc: Global,
     p: &Position,
@@ -160,7 +162,8 @@ pub fn successors_into(
     }
 }
 
-/// The positions that the legal moves lead to, each once, in the order of the first move that gives it.
+/// The positions that the legal moves lead to, each once, in the order of the first move that gives
+/// it.
 pub fn successors(alloc: Global, p: &Position) -> Result<Vec<Position>, AllocError>
     ensures exact { IfOk result (λ next. next.items ≡ successors_of p.now) }
     ensures rules { IfOk result (λ next. AreSuccessors p.now next.items) }
@@ -183,7 +186,8 @@ fn first_to(p: &Position, next: &Position, moves: &[Move]) -> Option<Move>
     None
 }
 
-/// The first legal move, in rising order of path, that leads to `next`; none exactly where no legal move leads there.
+/// The first legal move, in rising order of path, that leads to `next`; none exactly where no legal
+/// move leads there.
 pub fn move_to(alloc: Global, p: &Position, next: &Position) -> Result<Option<Move>, AllocError>
     ensures exact { IfOk result (λ found. found ≡ first_to p.now next.now (legal_paths p.now)) }
     ensures some { IfOk result (λ found. IfSome found (λ path.

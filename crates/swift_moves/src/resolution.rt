@@ -1,7 +1,8 @@
 //! Which legal move a written one means.
 ghost use Rattle.std.specs.Prelude.{◌≡◌, ℕ, List, Contains, IfOk};
 ghost use Rattle.draughts_board.specs.Rules.{IsLegal};
-ghost use Rattle.draughts_board.specs.Resolution.{elsewhere, first_of, matches, meaning, UnlessMemory};
+ghost use Rattle.draughts_board.specs.Resolution.{elsewhere, first_of, matches, meaning, resolve_wants_memory};
+ghost use Rattle.shared_words.specs.Answers.{Unless};
 
 use crate::move_lists::legal_moves;
 use crate::next::apply;
@@ -37,10 +38,10 @@ fn meaning(p: &Position, moves: &[Move]) -> Result<Move, ResolveRefusal>
 
 /// The legal move that is written with these ends and, if any are named, these squares in between.
 ///
-/// With an empty `middle` every legal move from `from` that ends on `to` matches, else only the one whose path is
-/// `from`, `middle`, `to`. `Ok` gives the first match in rising order of path, where all matches lead to one position.
-/// Refused as `Illegal` exactly where nothing matches, and as `Ambiguous` exactly where two matches lead to different
-/// positions.
+/// With an empty `middle` every legal move from `from` that ends on `to` matches, else only the one
+/// whose path is `from`, `middle`, `to`. `Ok` gives the first match in rising order of path, where
+/// all matches lead to one position. Refused as `Illegal` exactly where nothing matches, and as
+/// `Ambiguous` exactly where two matches lead to different positions.
 pub fn resolve(
     alloc: Global,
     p: &Position,
@@ -48,7 +49,8 @@ pub fn resolve(
     middle: &[Square],
     to: Square,
 ) -> Result<Move, ResolveRefusal>
-    ensures exact { UnlessMemory result (result ≡ meaning p.now (matches p.now from middle.now to)) }
+    ensures exact { Unless resolve_wants_memory result
+        (result ≡ meaning p.now (matches p.now from middle.now to)) }
     ensures legal { IfOk result (IsLegal p.now) }
 {
     let mut moves = legal_moves(alloc, p).map_err(ResolveRefusal::Memory)?;

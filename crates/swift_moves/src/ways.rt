@@ -6,8 +6,8 @@ ghost use Rattle.swift_moves.specs.Ways.{next_is, opposite, of_way, ways_of, for
 
 use draughts_board::{Cell, Side};
 
-/// A way that a piece goes: up towards lower rows, left towards lower columns. The order of the ways is that of the
-/// squares where a step or a jump ends.
+/// A way that a piece goes: up towards lower rows, left towards lower columns. The order of the
+/// ways is that of the squares where a step or a jump ends.
 #[derive(Clone, Copy, PartialEq, Eq, Debug)]
 pub(crate) enum Way {
     UpLeft,
@@ -72,7 +72,8 @@ pub(crate) fn by_ways(
     down_right: u32,
 ) -> u32
     ensures { IsMaskOf (λ n. list_any
-        (λ w. stands_in (of_way up_left up_right down_left down_right w) n) (ways_of piece)) result }
+        (λ w. stands_in (of_way up_left up_right down_left down_right w) n)
+        (ways_of piece)) result }
 {
     match piece {
         Cell::Empty => 0,

@@ -1,8 +1,8 @@
 //! Fills the endgame tables of two and three pieces and checks their bytes.
 //!
-//! Without words it prints how many entries each table has, how many positions are won, lost and drawn for the side to
-//! move, and the greatest rank. With the word `time` it prints how long filling and checking take, in milliseconds of the
-//! clock.
+//! Without words it prints how many entries each table has, how many positions are won, lost and
+//! drawn for the side to move, and the greatest rank. With the word `time` it prints how long
+//! filling and checking take, in milliseconds of the clock.
 #![tactic(auto)]
 
 ghost use Rattle.strategy_certificate.specs.Tables.{IsTableSize};
@@ -64,7 +64,8 @@ fn tell(rt: &(impl Print + Alloc<A = Global>), pieces: u8) -> Result<()>
         rank,
     } = count_answers(&checked);
     println!(rt;
-        "table {pieces}: {entries} entries, {won} won, {lost} lost, {drawn} drawn, greatest rank {rank}"
+        "table {pieces}: {entries} entries, {won} won, {lost} lost, {drawn} drawn, \
+        greatest rank {rank}"
     )?;
     Ok(())
 }

@@ -6,8 +6,8 @@ use Rattle.std.proofs.lemmas.List.Concat.{flat_map-cons}
 use Rattle.std.proofs.lemmas.List.Elements.{All-push}
 use Rattle.std.proofs.lemmas.Grind.{flat_map-append}
 use Rattle.std.proofs.lemmas.Nat.{be_bytes_4}
-use Rattle.endgame_table.specs.Bytes.{head, number_bytes, bytes_of}
-use Rattle.table_checker.specs.Faults.{BeginsTable, HasForm, due_length}
+use Rattle.endgame_table.specs.Bytes.{table_head, number_bytes, bytes_of}
+use Rattle.table_checker.specs.Faults.{BeginsTable, HasTableForm, due_length}
 
 -- ---- lengths
 
@@ -22,9 +22,9 @@ length-numbers (n ∷ numbers) =
     ∙ (let one = length-number_bytes n in let rest = length-numbers numbers in omega arith)
 
 pub length-bytes_of : (k : ℕ) (numbers : List ℕ) → length (bytes_of k numbers) ≡ 8 + 4 * length numbers
-length-bytes_of k numbers = length-append (head k) (flat_map number_bytes numbers) ∙ ap (λ n. 8 + n) (length-numbers numbers)
+length-bytes_of k numbers = length-append (table_head k) (flat_map number_bytes numbers) ∙ ap (λ n. 8 + n) (length-numbers numbers)
 
-pub head-bytes_of : (k : ℕ) (numbers : List ℕ) → take 8 (bytes_of k numbers) ≡ head k
+pub head-bytes_of : (k : ℕ) (numbers : List ℕ) → take 8 (bytes_of k numbers) ≡ table_head k
 head-bytes_of k numbers = refl
 
 -- ---- reading
@@ -88,7 +88,7 @@ words_more bytes rest old new n fit is words number more =
 
 -- bytes of a table's head and length, whose rest is these numbers, have the form
 pub form-read : (k : ℕ) (bytes rest numbers : List ℕ) → BeginsTable k bytes → length bytes ≡ due_length k → rest ≡ drop 8 bytes
-    → rest ≡ flat_map number_bytes numbers → All (λ n. n < 2 ^ 32) numbers → HasForm k numbers bytes
+    → rest ≡ flat_map number_bytes numbers → All (λ n. n < 2 ^ 32) numbers → HasTableForm k numbers bytes
 form-read k bytes rest numbers begins long behind read words =
     let after : length rest ≡ length bytes - 8 = ap length behind ∙ length-drop 8 bytes in
     let four : length rest ≡ 4 * length numbers = ap length read ∙ length-numbers numbers in
@@ -96,14 +96,14 @@ form-read k bytes rest numbers begins long behind read words =
       size = begins.size;
       entries = omega arith;
       words = words;
-      written = sym (take-append-drop 8 bytes) ∙ ap (λ l. l ++ drop 8 bytes) begins.head ∙ ap (λ l. head k ++ l) (sym behind ∙ read);
+      written = sym (take-append-drop 8 bytes) ∙ ap (λ l. l ++ drop 8 bytes) begins.head ∙ ap (λ l. table_head k ++ l) (sym behind ∙ read);
     }
 
 -- bytes of the form begin as a table does, and have its length
-pub begins-form : (k : ℕ) (numbers bytes : List ℕ) → HasForm k numbers bytes → BeginsTable k bytes
+pub begins-form : (k : ℕ) (numbers bytes : List ℕ) → HasTableForm k numbers bytes → BeginsTable k bytes
 begins-form k numbers bytes form = record { size = form.size; head = ap (take 8) form.written ∙ head-bytes_of k numbers }
 
-pub length-form : (k : ℕ) (numbers bytes : List ℕ) → HasForm k numbers bytes → length bytes ≡ due_length k
+pub length-form : (k : ℕ) (numbers bytes : List ℕ) → HasTableForm k numbers bytes → length bytes ≡ due_length k
 length-form k numbers bytes form =
     let long : length bytes ≡ 8 + 4 * length numbers = ap length form.written ∙ length-bytes_of k numbers in
     let entries = form.entries in

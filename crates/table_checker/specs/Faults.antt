@@ -1,7 +1,7 @@
 -- Why bytes are no endgame table.
 use Rattle.std.specs.Prelude.{◌≡◌, ◌≢◌, ℕ, ◌+◌, ◌*◌, ◌^◌, ◌<◌, Bool, true, false, List, length, take, All, slice_index}
 use Rattle.table_index.specs.Order.{entry_count}
-use Rattle.endgame_table.specs.Bytes.{head, bytes_of}
+use Rattle.endgame_table.specs.Bytes.{table_head, bytes_of}
 use Rattle.strategy_certificate.specs.Tables.{IsTableSize}
 use Rattle.endgame_table.specs.Entries.{Entries, FitsAt, IsTable}
 use Rattle.table_checker.specs.declared.refusal.TableRefusal.{TableRefusal}
@@ -10,7 +10,7 @@ use Rattle.table_checker.specs.declared.refusal.TableRefusal.TheVariants.{BadHea
 -- the bytes begin with the head of a table of k pieces
 pub record BeginsTable (k : ℕ) (bytes : List ℕ) : Type 0 where
   pub size : IsTableSize k
-  pub head : take 8 bytes ≡ head k
+  pub head : take 8 bytes ≡ table_head k
 
 -- the head, and 4 bytes for each index
 abbrev pub due_length : ℕ → ℕ
@@ -18,22 +18,22 @@ due_length k = 8 + 4 * entry_count k
 
 -- The bytes have the form of a table of k pieces: the head, and behind it a number of 4 bytes for
 -- each index.
-pub record HasForm (k : ℕ) (numbers : List ℕ) (bytes : List ℕ) : Type 0 where
+pub record HasTableForm (k : ℕ) (numbers : List ℕ) (bytes : List ℕ) : Type 0 where
   pub size : IsTableSize k
   pub entries : length numbers ≡ entry_count k
   pub words : All (λ n. n < 2 ^ 32) numbers
   pub written : bytes ≡ bytes_of k numbers
 
 -- the rule fails at this index of a table of k pieces, and at none before it
-pub record FailsFirst (k : ℕ) (numbers : List ℕ) (index : ℕ) : Type 0 where
+pub record FailsFirstAt (k : ℕ) (numbers : List ℕ) (index : ℕ) : Type 0 where
   pub below : index < entry_count k
   pub before : (i : ℕ) → i < index → FitsAt k numbers i
   pub fails : FitsAt k numbers index → ⊥
 
 -- memory ran out
-abbrev pub is_memory : TableRefusal → Bool
-is_memory (Memory e) = true
-is_memory other = false
+abbrev pub table_wants_memory : TableRefusal → Bool
+table_wants_memory (Memory e) = true
+table_wants_memory other = false
 
 -- the bytes are those of this table
 abbrev pub AreBytesOf : List ℕ → Entries → Type 0
@@ -51,6 +51,6 @@ IsTableFault bytes (WrongLength found due) =
     × ((found ≡ length bytes) × ((due ≡ due_length k) × (found ≢ due))))
 IsTableFault bytes (BadEntry index kept) =
     (k : ℕ) × ((numbers : List ℕ)
-    × (HasForm k numbers bytes
-    × (FailsFirst k numbers index × (kept ≡ slice_index numbers index))))
+    × (HasTableForm k numbers bytes
+    × (FailsFirstAt k numbers index × (kept ≡ slice_index numbers index))))
 IsTableFault bytes (Memory e) = ⊥

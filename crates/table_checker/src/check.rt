@@ -3,7 +3,7 @@ ghost use Rattle.std.specs.Prelude.{◌≡◌, IfOk, IfErr};
 ghost use Rattle.std.specs.Bool.{OnFalse};
 ghost use Rattle.shared_words.specs.Answers.{IsExact};
 ghost use Rattle.strategy_certificate.specs.Tables.{IsTableSize};
-ghost use Rattle.table_checker.specs.Faults.{AreBytesOf, IsTableFault, is_memory, due_length};
+ghost use Rattle.table_checker.specs.Faults.{AreBytesOf, IsTableFault, table_wants_memory, due_length};
 
 use crate::bytes::{pieces_of_head, read_numbers};
 use crate::entries::first_bad_entry;
@@ -20,14 +20,14 @@ fn due_length(pieces: u8) -> usize
     8 + 4 * entry_count(pieces) as usize
 }
 
-/// The table that these bytes are: the head, the numbers of the indices in 4 bytes each, the most significant first,
-/// and the rule of tables at each index.
+/// The table that these bytes are: the head, the numbers of the indices in 4 bytes each, the most
+/// significant first, and the rule of tables at each index.
 ///
-/// Refused exactly where they are none, for what fails first: the head, the length, an index. Want of memory may be
-/// answered for any bytes.
+/// Refused exactly where they are none, for what fails first: the head, the length, an index. Want
+/// of memory may be answered for any bytes.
 pub fn check_table(alloc: Global, bytes: &[u8]) -> Result<Table, TableRefusal>
     // The table that these bytes are, or what fails first: exactly that, unless memory ran out.
-    ensures { IsExact is_memory (AreBytesOf bytes.now) (IsTableFault bytes.now) result }
+    ensures { IsExact table_wants_memory (AreBytesOf bytes.now) (IsTableFault bytes.now) result }
 {
     read_table(alloc, bytes)
 }
@@ -35,7 +35,8 @@ pub fn check_table(alloc: Global, bytes: &[u8]) -> Result<Table, TableRefusal>
 /// Reads the head, the numbers, and tests one index after the other.
 fn read_table(alloc: Global, bytes: &[u8]) -> Result<Table, TableRefusal>
     ensures table { IfOk result (AreBytesOf bytes.now) }
-    ensures refused { IfErr result (λ e. OnFalse (is_memory e) (IsTableFault bytes.now e)) }
+    ensures refused { IfErr result (λ e. OnFalse (table_wants_memory e)
+        (IsTableFault bytes.now e)) }
 {
     let pieces = pieces_of_head(bytes).ok_or(TableRefusal::BadHead)?;
     let due = due_length(pieces);

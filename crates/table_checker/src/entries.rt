@@ -4,7 +4,7 @@ ghost use Rattle.draughts_board.specs.Play.{successors_of};
 ghost use Rattle.table_index.specs.Order.{entry_count};
 ghost use Rattle.endgame_table.specs.Entries.{FitsAt};
 ghost use Rattle.strategy_certificate.specs.Tables.{IsTableSize};
-ghost use Rattle.table_checker.specs.Faults.{FailsFirst};
+ghost use Rattle.table_checker.specs.Faults.{FailsFirstAt};
 ghost use Rattle.table_checker.specs.Fitting.{FitsNext};
 ghost use Rattle.table_checker.specs.Kept.{IsKept, kept_answer};
 
@@ -32,7 +32,8 @@ fn kept_answers(
     Ok(answers)
 }
 
-/// The answer at the position fits those that the numbers keep for the positions that the moves lead to.
+/// The answer at the position fits those that the numbers keep for the positions that the moves
+/// lead to.
 fn fits_position(
     alloc: Global,
     numbers: &[u32],
@@ -75,7 +76,7 @@ pub(crate) fn first_bad_entry(
     requires entries { length numbers.now ≡ entry_count pieces }
     ensures { IfOk result (λ found. MatchOption found
         ((i : ℕ) → i < entry_count pieces → FitsAt pieces numbers.now i)
-        (FailsFirst pieces numbers.now)) }
+        (FailsFirstAt pieces numbers.now)) }
 {
     for index in 0..entry_count(pieces) {
         if !fits_at(alloc, pieces, numbers, index)? {

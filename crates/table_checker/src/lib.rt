@@ -1,9 +1,9 @@
 //! The checker of endgame tables.
 //!
-//! [`check_table`] believes nothing of who wrote the bytes. It reads them, and tests at each index that the number
-//! there fits those of the positions that `draughts_rules` says the moves lead to. With the filler of `endgame_table`
-//! it shares the type [`Table`](endgame_table::Table), what the numbers mean and the order of positions, which are the
-//! format's.
+//! [`check_table`] believes nothing of who wrote the bytes. It reads them, and tests at each index
+//! that the number there fits those of the positions that `draughts_rules` says the moves lead to.
+//! With the filler of `endgame_table` it shares the type [`Table`](endgame_table::Table), what the
+//! numbers mean and the order of positions, which are the format's.
 #![tactic(auto)]
 
 mod bytes;

@@ -96,11 +96,13 @@ fn refuses_the_first_entry_that_does_not_fit(rt: HostRuntime) -> Result<(), Fail
     let alloc = rt.alloc();
     let bytes = bytes_of_two(alloc)?;
     for (index, number, first, kept) in [
-        // B:WK32:BK1 lost: W:WK27:BK1 comes first, a draw with that position behind one of its moves.
+        // B:WK32:BK1 lost: W:WK27:BK1 comes first, a draw with that position behind one of its
+        // moves.
         (1232, 1, 1073, 0),
         // Neither side has a piece, so the one to move has lost.
         (0, 0, 0, 0),
-        // A position without an answer. White reaches it from 27 and 28, and draws there by other moves too.
+        // A position without an answer. White reaches it from 27 and 28, and draws there by other
+        // moves too.
         (1232, 4_294_967_295, 1232, 4_294_967_295),
         // A Black man on 29 is no position.
         (226, 0, 226, 0),

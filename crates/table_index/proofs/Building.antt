@@ -14,14 +14,15 @@ use Rattle.draughts_board.specs.Board.{Board, IsLawful, pieces, piece_count, is_
 use Rattle.draughts_board.specs.Rules.{put}
 use Rattle.draughts_board.proofs.Allowed.{allowed_at, allowed_from}
 use Rattle.table_index.specs.Counting.{choose}
-use Rattle.table_index.specs.Order.{choices, kind, piece_of, with_pieces, first_index, entry_count, block_of, if_lawful, board_of, side_of, index_of, position_at}
+use Rattle.table_index.specs.Order.{choices, kind, piece_numbered, with_pieces_on, first_index, entry_count, block_of, if_lawful, board_of, side_numbered, index_of, position_at}
 use Rattle.table_index.proofs.CellsFrom.{held, later, digits, digits-lt, kind-lt, piece-of_kind, pieces-held}
 use Rattle.table_index.proofs.OrderLemmas.{cells-of_choice, choice-at, IsInBlock, find-block, block-is, block-step, place-below, kinds-below, at-index, if-lawful, indices_hold_positions}
+use Rattle.table_index.proofs.Choosing.{choose-none, choose-one}
 use Rattle.table_index.proofs.Tally.{later-lt}
 
 -- the cells with pieces of these kinds on the squares of the choice at this place
 abbrev pub wanted : ℕ → ℕ → ℕ → List Cell
-wanted n place kinds = with_pieces (replicate 32 Empty) (slice_index_or (choices n squares) place []) kinds
+wanted n place kinds = with_pieces_on (replicate 32 Empty) (slice_index_or (choices n squares) place []) kinds
 
 -- The cells stand up to place i; behind it a choice of a squares, at place b among such choices, and kinds k are left.
 pub record IsBuilt (all : List Cell) (i a b k : ℕ) (cells : List Cell) : Type 0 where
@@ -39,8 +40,8 @@ get-index [] i x d e = absurd (cc)
 get-index (y ∷ xs) zero x d e = cc
 get-index (y ∷ xs) (suc i) x d e = get-index xs i x d e
 
-pub wanted-chosen : (n place kinds : ℕ) (choice : List ℕ) → slice_get (choices n squares) place ≡ Some choice → wanted n place kinds ≡ with_pieces (replicate 32 Empty) choice kinds
-wanted-chosen n place kinds choice e = ap (λ c. with_pieces (replicate 32 Empty) c kinds) (get-index (choices n squares) place choice [] e)
+pub wanted-chosen : (n place kinds : ℕ) (choice : List ℕ) → slice_get (choices n squares) place ≡ Some choice → wanted n place kinds ≡ with_pieces_on (replicate 32 Empty) choice kinds
+wanted-chosen n place kinds choice e = ap (λ c. with_pieces_on (replicate 32 Empty) c kinds) (get-index (choices n squares) place choice [] e)
 
 pub built-start : (n place kinds : ℕ) → n ≤ 3 → place < choose n 32 → kinds < 4 ^ n → IsBuilt (wanted n place kinds) 0 n place kinds (replicate 32 Empty)
 built-start n place kinds most below small =
@@ -159,7 +160,7 @@ allowed-more all i before here m h =
 
 -- the piece at place i, and what is left behind it
 pub record IsPieceStep (all : List Cell) (i a k : ℕ) : Type 0 where
-  pub piece : piece_of (k / 4 ^ (a - 1)) ≡ get_or all i Empty
+  pub piece : piece_numbered (k / 4 ^ (a - 1)) ≡ get_or all i Empty
   pub digit : k / 4 ^ (a - 1) < 4
   pub rest : k % 4 ^ (a - 1) ≡ digits (drop (i + 1) all)
 
@@ -175,14 +176,14 @@ piece-step all i a b k cells built some h below =
     let whole = built.kinds ∙ n.digits_full e in
     let first : k / 4 ^ (a - 1) ≡ kind c = ap₂ (λ x m. x / 4 ^ m) whole less ∙ div-mul-add (kind c) (4 ^ held rest) (digits rest) (digits-lt rest) in
     record {
-      piece = ap piece_of first ∙ piece-of_kind c e;
+      piece = ap piece_numbered first ∙ piece-of_kind c e;
       digit = subst (λ x. x < 4) (sym first) (kind-lt c);
       rest = ap₂ (λ x m. x % 4 ^ m) whole less ∙ mod-mul-add (kind c) (4 ^ held rest) (digits rest) (digits-lt rest);
     }
 
 pub built-piece : (all : List Cell) (i a b k : ℕ) (cells : List Cell) → IsBuilt all i a b k cells → 0 < a → i < 32 → b < choose (a - 1) (31 - i)
-    → is_allowed (i + 1) (piece_of (k / 4 ^ (a - 1))) ≡ true
-    → IsBuilt all (i + 1) (a - 1) b (k % 4 ^ (a - 1)) (set cells i (piece_of (k / 4 ^ (a - 1))))
+    → is_allowed (i + 1) (piece_numbered (k / 4 ^ (a - 1))) ≡ true
+    → IsBuilt all (i + 1) (a - 1) b (k % 4 ^ (a - 1)) (set cells i (piece_numbered (k / 4 ^ (a - 1))))
 built-piece all i a b k cells built some h below fine =
     let n = next all i built.long h in
     let e = full-from_place all i a b k cells built some h below in
@@ -228,7 +229,7 @@ built-none all i a b k cells built some h least =
     }
 
 pub refused : (all : List Cell) (i a b k : ℕ) (cells : List Cell) → IsBuilt all i a b k cells → 0 < a → i < 32 → b < choose (a - 1) (31 - i)
-    → is_allowed (i + 1) (piece_of (k / 4 ^ (a - 1))) ≡ false → all_allowed 1 all ≡ false
+    → is_allowed (i + 1) (piece_numbered (k / 4 ^ (a - 1))) ≡ false → all_allowed 1 all ≡ false
 refused all i a b k cells built some h below bad =
     let step = piece-step all i a b k cells built some h below in
     let long = built.long in
@@ -319,8 +320,72 @@ rebuilt all i a b k x y z cells found built e f g h =
     subst (λ m. IsBuilt all i m y z found) (sym e) (subst (λ m. IsBuilt all i a m z found) (sym f) (subst (λ m. IsBuilt all i a b m found) (sym g) (subst (IsBuilt all i a b k) (sym h) built)))
 
 -- the piece that the code makes of the kinds' first digit
-pub code-piece : (k a weight : ℕ) (piece : Cell) → weight ≡ 4 ^ (a - 1) → piece ≡ piece_of (k / weight) → piece ≡ piece_of (k / 4 ^ (a - 1))
-code-piece k a weight piece w e = e ∙ ap (λ m. piece_of (k / m)) w
+pub code-piece : (k a weight : ℕ) (piece : Cell) → weight ≡ 4 ^ (a - 1) → piece ≡ piece_numbered (k / weight) → piece ≡ piece_numbered (k / 4 ^ (a - 1))
+code-piece k a weight piece w e = e ∙ ap (λ m. piece_numbered (k / m)) w
+
+-- ---- the last piece: each square that is left is a choice of its own
+
+-- the next d squares, behind each of which a choice is left, stay empty
+built-skip : (all : List Cell) (d i b k : ℕ) (cells : List Cell) → IsBuilt all i 1 (d + b) k cells → IsBuilt all (i + d) 1 b k cells
+built-skip all zero i b k cells built =
+    let here : i ≡ i + 0 = omega arith in
+    let left : 0 + b ≡ b = omega arith in
+    subst (λ m. IsBuilt all m 1 b k cells) here (subst (λ m. IsBuilt all i 1 m k cells) left built)
+built-skip all (suc d) i b k cells built =
+    let place = built.place in
+    let left = choose-one (32 - i) (omega arith) in
+    let one = choose-none (31 - i) in
+    let next = built-none all i 1 (suc d + b) k cells built (omega arith) (omega arith) (omega arith) in
+    let less : suc d + b - choose 0 (31 - i) ≡ d + b = omega arith in
+    let on : i + suc d ≡ i + 1 + d = omega arith in
+    subst (λ m. IsBuilt all m 1 b k cells) (sym on)
+    (built-skip all d (i + 1) b k cells (subst (λ m. IsBuilt all (i + 1) 1 m k cells) less next))
+
+-- where the last piece is put, and what stands then
+pub record IsLastStep (all : List Cell) (i b k : ℕ) (cells : List Cell) : Type 0 where
+  pub inside : i + b < 32
+  pub digit : k < 4
+  pub lawful : is_allowed (i + b + 1) (piece_numbered k) ≡ true → (s : Side)
+      → IsLawful (record { cells = put cells (i + b + 1) (piece_numbered k); to_move = s })
+  pub done : is_allowed (i + b + 1) (piece_numbered k) ≡ true
+      → (put cells (i + b + 1) (piece_numbered k) ≡ all) × (all_allowed 1 all ≡ true)
+  pub bad : is_allowed (i + b + 1) (piece_numbered k) ≡ false → all_allowed 1 all ≡ false
+
+pub last-step : (all : List Cell) (i a b k : ℕ) (cells : List Cell) → IsBuilt all i a b k cells → a ≡ 1 → IsLastStep all i b k cells
+last-step all i a b k cells built one =
+    let first : IsBuilt all i 1 (b + 0) k cells = subst (λ m. IsBuilt all i m (b + 0) k cells) one (subst (λ m. IsBuilt all i a m k cells) (omega arith) built) in
+    let place = first.place in
+    let left = choose-one (32 - i) (omega arith) in
+    let here = built-skip all b i 0 k cells first in
+    let inside : i + b < 32 = omega arith in
+    let none = choose-none (31 - (i + b)) in
+    let below : 0 < choose (1 - 1) (31 - (i + b)) = omega arith in
+    let step = piece-step all (i + b) 1 0 k cells here (omega arith) inside below in
+    let whole : k / 4 ^ (1 - 1) ≡ k = omega arith in
+    let piece = ap piece_numbered whole in
+    let fine = λ (e : is_allowed (i + b + 1) (piece_numbered k) ≡ true).
+    built-piece all (i + b) 1 0 k cells here (omega arith) inside below (subst (λ c. is_allowed (i + b + 1) c ≡ true) (sym piece) e) in
+    let there : put cells (i + b + 1) (piece_numbered k) ≡ set cells (i + b) (piece_numbered (k / 4 ^ (1 - 1))) =
+    put-there cells (i + b) (i + b + 1) (piece_numbered k) refl ∙ ap (set cells (i + b)) (sym piece) in
+    record {
+      inside = inside;
+      digit = subst (λ m. m < 4) whole step.digit;
+      lawful = λ e s. subst (λ all. IsLawful (record { cells = all; to_move = s })) (sym there)
+          (built-lawful _ _ _ _ _ _ s (fine e) (omega arith));
+      done = λ e. let end = built-end _ _ _ _ _ _ (fine e) (omega arith) refl in (there ∙ end.0, end.1);
+      bad = λ e. refused all (i + b) 1 0 k cells here (omega arith) inside below (subst (λ c. is_allowed (i + b + 1) c ≡ false) (sym piece) e);
+    }
+
+-- what the last piece's test tells of the whole choice
+pub last-result : (o : Option Board) (all : List Cell) (i b k : ℕ) (cells : List Cell) (piece : Cell) (s : Side) → IsLastStep all i b k cells → piece ≡ piece_numbered k
+    → MatchOption o (IsFalse (is_allowed (i + b + 1) piece)) (λ q. (q ≡ record { cells = put cells (i + b + 1) piece; to_move = s }) × IsTrue (is_allowed (i + b + 1) piece))
+    → MatchOption o (IsFalse (all_allowed 1 all)) (λ q. (q ≡ record { cells = all; to_move = s }) × IsTrue (all_allowed 1 all))
+last-result None all i b k cells piece s step e got = step.bad (ap (is_allowed (i + b + 1)) (sym e) ∙ got)
+last-result (Some q) all i b k cells piece s step e got =
+    let fine = ap (is_allowed (i + b + 1)) (sym e) ∙ got.1 in
+    let end = step.done fine in
+    let cells : put cells (i + b + 1) piece ≡ all = ap (put cells (i + b + 1)) e ∙ end.0 in
+    (got.0 ∙ (λ j. record { cells = cells j; to_move = s }), end.1)
 
 -- ---- what stands at an index, by the numbers that the code has of it
 
@@ -335,7 +400,7 @@ pub record IsFound (i n f w : ℕ) (chosen : List ℕ) : Type 0 where
   pub choice : (i - f) / 2 / w < choose n 32
   pub kinds : (i - f) / 2 % w < 4 ^ n
   pub there : slice_get (choices n squares) ((i - f) / 2 / w) ≡ Some chosen
-  pub at : position_at i ≡ if_lawful (board_of chosen ((i - f) / 2 % w) (side_of ((i - f) % 2)))
+  pub at : position_at i ≡ if_lawful (board_of chosen ((i - f) / 2 % w) (side_numbered ((i - f) % 2)))
 
 found-in : (i n : ℕ) → IsInBlock 3 i n → (chosen : List ℕ) × IsFound i n (first_index n) (4 ^ n) chosen
 found-in i n among =
@@ -351,7 +416,7 @@ found-in i n among =
         choice = below;
         kinds = kinds-below n j;
         there = got.1;
-        at = at-index n i among.few least most ∙ ap (option_and_then (λ choice. if_lawful (board_of choice (j / 2 % 4 ^ n) (side_of (j % 2))))) got.1;
+        at = at-index n i among.few least most ∙ ap (option_and_then (λ choice. if_lawful (board_of choice (j / 2 % 4 ^ n) (side_numbered (j % 2))))) got.1;
       },
     )
 
@@ -364,9 +429,9 @@ found i n f w below block first weight =
 pub none-lawful : (p : Board) → all_allowed 1 p.cells ≡ false → if_lawful p ≡ None
 none-lawful p h = ap (λ b. cond b (Some p) None) (and_right (length p.cells == 32 && nat_le (pieces Black p.cells) 12 && nat_le (pieces White p.cells) 12) (all_allowed 1 p.cells) h)
 
-pub few-lawful : (i n f w : ℕ) (chosen : List ℕ) → IsFound i n f w chosen → let b = board_of chosen ((i - f) / 2 % w) (side_of ((i - f) % 2)) in all_allowed 1 b.cells ≡ true → IsLawful b
+pub few-lawful : (i n f w : ℕ) (chosen : List ℕ) → IsFound i n f w chosen → let b = board_of chosen ((i - f) / 2 % w) (side_numbered ((i - f) % 2)) in all_allowed 1 b.cells ≡ true → IsLawful b
 few-lawful i n f w chosen is h =
-    let board : Board = board_of chosen ((i - f) / 2 % w) (side_of ((i - f) % 2)) in
+    let board : Board = board_of chosen ((i - f) / 2 % w) (side_numbered ((i - f) % 2)) in
     let are = cells-of_choice n ((i - f) / 2 / w) ((i - f) / 2 % w) chosen is.there is.kinds in
     let both = pieces-held board.cells in
     let count = are.count in
@@ -377,14 +442,14 @@ pub first-least : (i n f : ℕ) → i < entry_count 3 → n ≡ block_of i → f
 first-least i n f below block first = subst (λ x. x ≤ i) (sym (first ∙ ap first_index block)) (block-at i below).least
 
 -- what the code made of the choice is what stands at the index
-pub made-is : (i n f w : ℕ) (chosen : List ℕ) (s : Side) (r : Option Board) → IsFound i n f w chosen → s ≡ side_of ((i - f) % 2)
-    → (let cells = with_pieces (replicate 32 Empty) chosen ((i - f) / 2 % w) in
+pub made-is : (i n f w : ℕ) (chosen : List ℕ) (s : Side) (r : Option Board) → IsFound i n f w chosen → s ≡ side_numbered ((i - f) % 2)
+    → (let cells = with_pieces_on (replicate 32 Empty) chosen ((i - f) / 2 % w) in
     MatchOption r (IsFalse (all_allowed 1 cells)) (λ p. (p ≡ record { cells = cells; to_move = s }) × IsTrue (all_allowed 1 cells)))
     → r ≡ position_at i
-made-is i n f w chosen s None is side h = sym (is.at ∙ none-lawful (board_of chosen ((i - f) / 2 % w) (side_of ((i - f) % 2))) h)
+made-is i n f w chosen s None is side h = sym (is.at ∙ none-lawful (board_of chosen ((i - f) / 2 % w) (side_numbered ((i - f) % 2))) h)
 made-is i n f w chosen s (Some p) is side h =
-    let cells : List Cell = with_pieces (replicate 32 Empty) chosen ((i - f) / 2 % w) in
-    let board : Board = board_of chosen ((i - f) / 2 % w) (side_of ((i - f) % 2)) in
+    let cells : List Cell = with_pieces_on (replicate 32 Empty) chosen ((i - f) / 2 % w) in
+    let board : Board = board_of chosen ((i - f) / 2 % w) (side_numbered ((i - f) % 2)) in
     ap Some (h.0 ∙ ap (λ (m : Side). record { cells = cells; to_move = m }) side) ∙ sym (is.at ∙ if-lawful board (few-lawful i n f w chosen is h.1))
 
 pub record IsHeld (i : ℕ) (r : Option Board) : Type 0 where

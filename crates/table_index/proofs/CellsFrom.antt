@@ -10,7 +10,7 @@ use Rattle.draughts_board.specs.declared.pieces.Cell.{Cell}
 use Rattle.draughts_board.specs.declared.pieces.Cell.TheVariants.{Empty, Man, King}
 use Rattle.draughts_board.specs.Board.{is_empty, belongs, pieces}
 use Rattle.table_index.specs.Counting.{choose}
-use Rattle.table_index.specs.Order.{choices, kind, piece_of, with_pieces}
+use Rattle.table_index.specs.Order.{choices, kind, piece_numbered, with_pieces_on}
 use Rattle.table_index.proofs.Choosing.{length-choices, place_in, place-with, place-without, get-left, get-right}
 
 -- the m squares from n on
@@ -175,7 +175,7 @@ fold-digits before (c ∷ cells) n start h =
 
 -- ---- the cells put back
 
-pub piece-of_kind : (c : Cell) → is_empty c ≡ false → piece_of (kind c) ≡ c
+pub piece-of_kind : (c : Cell) → is_empty c ≡ false → piece_numbered (kind c) ≡ c
 piece-of_kind Empty e = absurd (cc)
 piece-of_kind (Man Black) e = refl
 piece-of_kind (Man White) e = refl
@@ -184,30 +184,30 @@ piece-of_kind (King White) e = refl
 
 -- one more piece, where the rest is put behind it
 put-piece : (before cells : List Cell) (n : ℕ) (d : Cell) → length before + 1 ≡ n → is_empty d ≡ false
-    → with_pieces (before ++ d ∷ replicate (length cells) Empty) (stood (suc n) cells) (digits cells) ≡ before ++ d ∷ cells
-    → with_pieces (before ++ replicate (suc (length cells)) Empty) (n ∷ stood (suc n) cells) (kind d * 4 ^ held cells + digits cells) ≡ before ++ d ∷ cells
+    → with_pieces_on (before ++ d ∷ replicate (length cells) Empty) (stood (suc n) cells) (digits cells) ≡ before ++ d ∷ cells
+    → with_pieces_on (before ++ replicate (suc (length cells)) Empty) (n ∷ stood (suc n) cells) (kind d * 4 ^ held cells + digits cells) ≡ before ++ d ∷ cells
 put-piece before cells n d h full behind =
     let w = length-stood (suc n) cells in
     let number : ℕ = kind d * 4 ^ held cells + digits cells in
     let first : number / 4 ^ length (stood (suc n) cells) ≡ kind d = ap (λ l. number / 4 ^ l) w ∙ div-mul-add (kind d) (4 ^ held cells) (digits cells) (digits-lt cells) in
     let rest : number % 4 ^ length (stood (suc n) cells) ≡ digits cells = ap (λ l. number % 4 ^ l) w ∙ mod-mul-add (kind d) (4 ^ held cells) (digits cells) (digits-lt cells) in
-    let put_there : set (before ++ replicate (suc (length cells)) Empty) (n - 1) (piece_of (number / 4 ^ length (stood (suc n) cells))) ≡ before ++ d ∷ replicate (length cells) Empty =
-    ap (λ k. set (before ++ replicate (suc (length cells)) Empty) (n - 1) (piece_of k)) first
+    let put_there : set (before ++ replicate (suc (length cells)) Empty) (n - 1) (piece_numbered (number / 4 ^ length (stood (suc n) cells))) ≡ before ++ d ∷ replicate (length cells) Empty =
+    ap (λ k. set (before ++ replicate (suc (length cells)) Empty) (n - 1) (piece_numbered k)) first
     ∙ ap (set (before ++ replicate (suc (length cells)) Empty) (n - 1)) (piece-of_kind d full)
     ∙ set_at before Empty (replicate (length cells) Empty) d (n - 1) (omega arith) in
-    ap₂ (λ all k. with_pieces all (stood (suc n) cells) k) put_there rest ∙ behind
+    ap₂ (λ all k. with_pieces_on all (stood (suc n) cells) k) put_there rest ∙ behind
 
 put-cell : (before cells : List Cell) (n : ℕ) (d : Cell) → length before + 1 ≡ n
-    → with_pieces (before ++ d ∷ replicate (length cells) Empty) (stood (suc n) cells) (digits cells) ≡ before ++ d ∷ cells
-    → with_pieces (before ++ replicate (suc (length cells)) Empty) (stood n (d ∷ cells)) (digits (d ∷ cells)) ≡ before ++ d ∷ cells
+    → with_pieces_on (before ++ d ∷ replicate (length cells) Empty) (stood (suc n) cells) (digits cells) ≡ before ++ d ∷ cells
+    → with_pieces_on (before ++ replicate (suc (length cells)) Empty) (stood n (d ∷ cells)) (digits (d ∷ cells)) ≡ before ++ d ∷ cells
 put-cell before cells n Empty h behind = behind
 put-cell before cells n (Man s) h behind = put-piece before cells n (Man s) h refl behind
 put-cell before cells n (King s) h behind = put-piece before cells n (King s) h refl behind
 
 -- Pieces of their kinds put on their squares of an empty board give the cells.
-pub with-stood : (before cells : List Cell) (n : ℕ) → length before + 1 ≡ n → with_pieces (before ++ replicate (length cells) Empty) (stood n cells) (digits cells) ≡ before ++ cells
+pub with-stood : (before cells : List Cell) (n : ℕ) → length before + 1 ≡ n → with_pieces_on (before ++ replicate (length cells) Empty) (stood n cells) (digits cells) ≡ before ++ cells
 with-stood before [] n h = refl
 with-stood before (c ∷ cells) n h =
     put-cell before cells n c h
-    (ap (λ all. with_pieces all (stood (suc n) cells) (digits cells)) (sym (append_assoc before (c ∷ []) (replicate (length cells) Empty)))
+    (ap (λ all. with_pieces_on all (stood (suc n) cells) (digits cells)) (sym (append_assoc before (c ∷ []) (replicate (length cells) Empty)))
     ∙ with-stood (before ++ c ∷ []) cells (suc n) (omega (arith, length_push before c)) ∙ append_assoc before (c ∷ []) cells)

@@ -8,7 +8,7 @@ use Rattle.draughts_board.specs.declared.pieces.Cell.{Cell}
 use Rattle.draughts_board.specs.declared.pieces.Cell.TheVariants.{Empty, Man, King}
 use Rattle.draughts_board.specs.Board.{is_empty}
 use Rattle.table_index.specs.Counting.{choose}
-use Rattle.table_index.specs.Order.{choices, kind, piece_of}
+use Rattle.table_index.specs.Order.{choices, kind, piece_numbered}
 use Rattle.table_index.proofs.Choosing.{length-choices, get-left, get-right}
 use Rattle.table_index.proofs.CellsFrom.{from, held, stood, later, digits, length-from}
 
@@ -20,7 +20,7 @@ pub record AreCellsOf (n m a i : ℕ) (choice : List ℕ) (kinds : ℕ) (cells :
   pub numbers : digits cells ≡ kinds
   pub behind : later cells + i + 1 ≡ choose n m
 
-piece-full : (k : ℕ) → is_empty (piece_of k) ≡ false
+piece-full : (k : ℕ) → is_empty (piece_numbered k) ≡ false
 piece-full k = full (k == 0) (k == 1) (k == 2)
   where
     full : (a b c : Bool) → is_empty (cond a (Man Black) (cond b (King Black) (cond c (Man White) (King White)))) ≡ false
@@ -29,7 +29,7 @@ piece-full k = full (k == 0) (k == 1) (k == 2)
     full false false true = refl
     full false false false = refl
 
-kind-of_piece : (k : ℕ) → k < 4 → kind (piece_of k) ≡ k
+kind-of_piece : (k : ℕ) → k < 4 → kind (piece_numbered k) ≡ k
 kind-of_piece zero h = refl
 kind-of_piece (suc zero) h = refl
 kind-of_piece (suc (suc zero)) h = refl
@@ -60,7 +60,7 @@ with_piece : (n m a i : ℕ) (choice : List ℕ) (kinds : ℕ) → kinds < 4 ^ s
 unfolding choose
 with_piece n m a i choice kinds small (cells, h) =
     let behind = h.behind in
-    let piece = piece_of (kinds / 4 ^ n) in
+    let piece = piece_numbered (kinds / 4 ^ n) in
     let full = piece-full (kinds / 4 ^ n) in
     let p = pow-suc 4 n in
     let below : kinds / 4 ^ n < 4 = div_below kinds (4 ^ n) 4 (one-le-pow n 4 (omega arith)) (subst (λ w. kinds < w) (p ∙ mul_comm (4 ^ n) 4) small) in (

@@ -10,7 +10,7 @@ use Rattle.draughts_board.specs.Geometry.{squares}
 use Rattle.draughts_board.specs.Board.{Board, cell_at, is_empty, IsLawful, is_lawful, piece_count}
 use Rattle.draughts_board.proofs.Successors.{is_lawful-true, lawful-from_test}
 use Rattle.table_index.specs.Counting.{choose}
-use Rattle.table_index.specs.Order.{choices, first_index, entry_count, occupied, place_of, kind, kinds_of, side_number, side_of, index_of, with_pieces, board_of, if_lawful, position_in_block, block_of, position_at}
+use Rattle.table_index.specs.Order.{choices, first_index, entry_count, occupied, place_of_choice, kind, kinds_of, side_number, side_numbered, index_of, with_pieces_on, board_of, if_lawful, position_in_block, block_of, position_at}
 use Rattle.table_index.specs.Laws.{BlockSizes, PositionsHaveIndices, PositionsStandAtTheirIndices, NoIndexIsShared, IndicesHoldPositions, IsPositionOf}
 use Rattle.table_index.proofs.Choosing.{length-choices, place_in}
 use Rattle.table_index.proofs.CellsFrom.{from, held, stood, later, digits, digits-lt, length-stood, placed, IsPlaced, pieces-held, filter-stood, fold-digits, with-stood}
@@ -113,19 +113,19 @@ has_index p long =
       place = place_in squares those;
       whole = is.whole ∙ ap₂ choose many all;
       there = subst (λ n. slice_get (choices n squares) (place_in squares those) ≡ Some those) many is.there;
-      index = ap₂ (λ n x. first_index n + (place_of (occupied p) * 4 ^ n + x) * 2 + side_number p.to_move) (count-held p) (kinds-digits p long)
-          ∙ ap (λ choice. first_index (held p.cells) + (place_of choice * 4 ^ held p.cells + digits p.cells) * 2 + side_number p.to_move) (occupied-stood p long);
+      index = ap₂ (λ n x. first_index n + (place_of_choice (occupied p) * 4 ^ n + x) * 2 + side_number p.to_move) (count-held p) (kinds-digits p long)
+          ∙ ap (λ choice. first_index (held p.cells) + (place_of_choice choice * 4 ^ held p.cells + digits p.cells) * 2 + side_number p.to_move) (occupied-stood p long);
     }
 
 side-lt : (s : Side) → side_number s < 2
 side-lt Black = omega arith
 side-lt White = omega arith
 
-side-of_number : (s : Side) → side_of (side_number s) ≡ s
+side-of_number : (s : Side) → side_numbered (side_number s) ≡ s
 side-of_number Black = refl
 side-of_number White = refl
 
-number-of_side : (s : ℕ) → s < 2 → side_number (side_of s) ≡ s
+number-of_side : (s : ℕ) → s < 2 → side_number (side_numbered s) ≡ s
 number-of_side zero h = refl
 number-of_side (suc zero) h = refl
 number-of_side (suc (suc s)) h = absurd (omega arith)
@@ -168,15 +168,15 @@ positions_have_indices p k lawful few most = index-below p k lawful.squares few
 
 -- what stands at a place of a block, by the parts of the place
 in-block : (n place kinds s : ℕ) (choice : List ℕ) → slice_get (choices n squares) place ≡ Some choice → kinds < 4 ^ n → s < 2
-    → position_in_block n ((place * 4 ^ n + kinds) * 2 + s) ≡ if_lawful (board_of choice kinds (side_of s))
+    → position_in_block n ((place * 4 ^ n + kinds) * 2 + s) ≡ if_lawful (board_of choice kinds (side_numbered s))
 in-block n place kinds s choice there small bit =
     let half = div-mul-add (place * 4 ^ n + kinds) 2 s bit in
     let side = mod-mul-add (place * 4 ^ n + kinds) 2 s bit in
     let first : ((place * 4 ^ n + kinds) * 2 + s) / 2 / 4 ^ n ≡ place = ap (λ h. h / 4 ^ n) half ∙ div-mul-add place (4 ^ n) kinds small in
     let rest : ((place * 4 ^ n + kinds) * 2 + s) / 2 % 4 ^ n ≡ kinds = ap (λ h. h % 4 ^ n) half ∙ mod-mul-add place (4 ^ n) kinds small in
-    ap₂ (λ k t. option_and_then (λ c. if_lawful (board_of c k (side_of t))) (slice_get (choices n squares) (((place * 4 ^ n + kinds) * 2 + s) / 2 / 4 ^ n))) rest side
-    ∙ ap (λ c. option_and_then (λ c. if_lawful (board_of c kinds (side_of s))) (slice_get (choices n squares) c)) first
-    ∙ ap (option_and_then (λ c. if_lawful (board_of c kinds (side_of s)))) there
+    ap₂ (λ k t. option_and_then (λ c. if_lawful (board_of c k (side_numbered t))) (slice_get (choices n squares) (((place * 4 ^ n + kinds) * 2 + s) / 2 / 4 ^ n))) rest side
+    ∙ ap (λ c. option_and_then (λ c. if_lawful (board_of c kinds (side_numbered s))) (slice_get (choices n squares) c)) first
+    ∙ ap (option_and_then (λ c. if_lawful (board_of c kinds (side_numbered s)))) there
 
 -- what stands at an index of a block
 pub at-index : (n i : ℕ) → n ≤ 3 → first_index n ≤ i → i < first_index (suc n) → position_at i ≡ position_in_block n (i - first_index n)
@@ -187,10 +187,10 @@ pub if-lawful : (p : Board) → IsLawful p → if_lawful p ≡ Some p
 if-lawful p h = ap (λ b. cond b (Some p) None) (is_lawful-true p h)
 
 -- the board that is made of what a board holds is that board
-pub board-again : (p : Board) → length p.cells ≡ 32 → board_of (stood 1 p.cells) (digits p.cells) (side_of (side_number p.to_move)) ≡ p
+pub board-again : (p : Board) → length p.cells ≡ 32 → board_of (stood 1 p.cells) (digits p.cells) (side_numbered (side_number p.to_move)) ≡ p
 board-again p long =
-    let cells : with_pieces (replicate 32 Empty) (stood 1 p.cells) (digits p.cells) ≡ p.cells =
-    ap (λ m. with_pieces (replicate m Empty) (stood 1 p.cells) (digits p.cells)) (sym long) ∙ with-stood [] p.cells 1 refl in
+    let cells : with_pieces_on (replicate 32 Empty) (stood 1 p.cells) (digits p.cells) ≡ p.cells =
+    ap (λ m. with_pieces_on (replicate m Empty) (stood 1 p.cells) (digits p.cells)) (sym long) ∙ with-stood [] p.cells 1 refl in
     let side = side-of_number p.to_move in
     λ i. record { cells = cells i; to_move = side i }
 
@@ -218,20 +218,20 @@ no_index_is_shared p q lawful_p lawful_q few_p few_q same =
 
 -- the cells with pieces on the squares of a choice are the cells of that choice
 pub cells-of_choice : (n place kinds : ℕ) (choice : List ℕ) → slice_get (choices n squares) place ≡ Some choice → kinds < 4 ^ n
-    → AreCellsOf n 32 1 place choice kinds (with_pieces (replicate 32 Empty) choice kinds)
+    → AreCellsOf n 32 1 place choice kinds (with_pieces_on (replicate 32 Empty) choice kinds)
 cells-of_choice n place kinds choice there small =
     let those = made 32 n 1 place choice kinds (subst (λ all. slice_get (choices n all) place ≡ Some choice) squares-from there) small in
-    let same : with_pieces (replicate 32 Empty) choice kinds ≡ those.0 =
-    ap (λ m. with_pieces (replicate m Empty) choice kinds) (sym those.1.long)
-    ∙ ap₂ (with_pieces (replicate (length those.0) Empty)) (sym those.1.squares) (sym those.1.numbers)
+    let same : with_pieces_on (replicate 32 Empty) choice kinds ≡ those.0 =
+    ap (λ m. with_pieces_on (replicate m Empty) choice kinds) (sym those.1.long)
+    ∙ ap₂ (with_pieces_on (replicate (length those.0) Empty)) (sym those.1.squares) (sym those.1.numbers)
     ∙ with-stood [] those.0 1 refl in
     subst (AreCellsOf n 32 1 place choice kinds) (sym same) those.1
 
 -- the index of the board with pieces on the squares of a choice
 pub index-of_board : (n place kinds s : ℕ) (choice : List ℕ) → slice_get (choices n squares) place ≡ Some choice → kinds < 4 ^ n → s < 2
-    → index_of (board_of choice kinds (side_of s)) ≡ first_index n + (place * 4 ^ n + kinds) * 2 + s
+    → index_of (board_of choice kinds (side_numbered s)) ≡ first_index n + (place * 4 ^ n + kinds) * 2 + s
 index-of_board n place kinds s choice there small bit =
-    let board : Board = board_of choice kinds (side_of s) in
+    let board : Board = board_of choice kinds (side_numbered s) in
     let are = cells-of_choice n place kinds choice there small in
     let h = has_index board are.long in
     let whole = h.whole in
@@ -239,8 +239,8 @@ index-of_board n place kinds s choice there small bit =
     let many = ap (λ m. choose m 32) are.count in
     let same : h.place ≡ place = omega arith in
     h.index
-    ∙ ap (λ m. first_index m + (h.place * 4 ^ m + digits board.cells) * 2 + side_number (side_of s)) are.count
-    ∙ ap₂ (λ x y. first_index n + (x * 4 ^ n + y) * 2 + side_number (side_of s)) same are.numbers
+    ∙ ap (λ m. first_index m + (h.place * 4 ^ m + digits board.cells) * 2 + side_number (side_numbered s)) are.count
+    ∙ ap₂ (λ x y. first_index n + (x * 4 ^ n + y) * 2 + side_number (side_numbered s)) same are.numbers
     ∙ ap (λ t. first_index n + (place * 4 ^ n + kinds) * 2 + t) (number-of_side s bit)
 
 -- an index below the end of its block has a choice of squares
@@ -263,13 +263,13 @@ some-lawful b p = cases (is_lawful b)
     cases false e = absurd (cc)
 
 pub board-holds : (k i n : ℕ) (choice : List ℕ) → IsInBlock k i n → let j = i - first_index n in slice_get (choices n squares) (j / 2 / 4 ^ n) ≡ Some choice
-    → let b = board_of choice (j / 2 % 4 ^ n) (side_of (j % 2)) in (piece_count b ≤ k) × (index_of b ≡ i)
+    → let b = board_of choice (j / 2 % 4 ^ n) (side_numbered (j % 2)) in (piece_count b ≤ k) × (index_of b ≡ i)
 board-holds k i n choice among there =
     let j : ℕ = i - first_index n in
     let small = kinds-below n j in
     let bit : j % 2 < 2 = omega arith in
     let are = cells-of_choice n (j / 2 / 4 ^ n) (j / 2 % 4 ^ n) choice there small in
-    let board : Board = board_of choice (j / 2 % 4 ^ n) (side_of (j % 2)) in
+    let board : Board = board_of choice (j / 2 % 4 ^ n) (side_numbered (j % 2)) in
     let count = count-held board in
     let held_there = are.count in
     let few = among.few in
@@ -289,9 +289,9 @@ indices_hold_positions k i p most below e =
     let j : ℕ = i - first_index n in
     let step = block-step n in
     let got = choice-at n (j / 2 / 4 ^ n) (place-below n j (omega arith)) in
-    let there : position_at i ≡ if_lawful (board_of got.0 (j / 2 % 4 ^ n) (side_of (j % 2))) =
+    let there : position_at i ≡ if_lawful (board_of got.0 (j / 2 % 4 ^ n) (side_numbered (j % 2))) =
     at-index n i (omega arith) least greatest
-    ∙ ap (option_and_then (λ choice. if_lawful (board_of choice (j / 2 % 4 ^ n) (side_of (j % 2))))) got.1 in
-    let is = some-lawful (board_of got.0 (j / 2 % 4 ^ n) (side_of (j % 2))) p (sym there ∙ e) in
+    ∙ ap (option_and_then (λ choice. if_lawful (board_of choice (j / 2 % 4 ^ n) (side_numbered (j % 2))))) got.1 in
+    let is = some-lawful (board_of got.0 (j / 2 % 4 ^ n) (side_numbered (j % 2))) p (sym there ∙ e) in
     let holds = board-holds k i n got.0 among got.1 in
     subst (IsPositionOf k i) is.0 (record { lawful = lawful-from_test _ is.1; few = holds.0; index = holds.1 })

@@ -40,8 +40,8 @@ abbrev pub occupied : Board → List ℕ
 occupied p = filter (λ n. not (is_empty (cell_at p n))) squares
 
 -- the place of a choice of squares among the choices of so many
-abbrev pub place_of : List ℕ → ℕ
-place_of choice =
+abbrev pub place_of_choice : List ℕ → ℕ
+place_of_choice choice =
     position_or_len (λ other. pointwise ◌==◌ other choice) (choices (length choice) squares)
 
 -- a piece's kind as a digit to base 4 (an empty square has none)
@@ -64,30 +64,30 @@ side_number White = 1
 unfoldable pub index_of : Board → ℕ
 index_of p =
     first_index (piece_count p)
-    + (place_of (occupied p) * 4 ^ piece_count p + kinds_of p) * 2 + side_number p.to_move
+    + (place_of_choice (occupied p) * 4 ^ piece_count p + kinds_of p) * 2 + side_number p.to_move
 
 -- ---- the position at an index
 
 -- the piece of a kind
-abbrev pub piece_of : ℕ → Cell
-piece_of k =
+abbrev pub piece_numbered : ℕ → Cell
+piece_numbered k =
     (if k == 0 then Man Black else if k == 1 then King Black else if k == 2 then Man White
     else King White)
 
-abbrev pub side_of : ℕ → Side
-side_of s = (if s == 0 then Black else White)
+abbrev pub side_numbered : ℕ → Side
+side_numbered s = (if s == 0 then Black else White)
 
 -- the cells with a piece put on each of these squares; the first digit of the kinds is the first
 -- square's
-abbrev pub with_pieces : List Cell → List ℕ → ℕ → List Cell
-with_pieces cells [] kinds = cells
-with_pieces cells (n ∷ rest) kinds =
-    with_pieces (put cells n (piece_of (kinds / 4 ^ length rest))) rest (kinds % 4 ^ length rest)
+abbrev pub with_pieces_on : List Cell → List ℕ → ℕ → List Cell
+with_pieces_on cells [] kinds = cells
+with_pieces_on cells (n ∷ rest) kinds =
+    with_pieces_on (put cells n (piece_numbered (kinds / 4 ^ length rest))) rest (kinds % 4 ^ length rest)
 
 -- the board with pieces of these kinds on the chosen squares
 abbrev pub board_of : List ℕ → ℕ → Side → Board
 board_of choice kinds side =
-    record { cells = with_pieces (replicate 32 Empty) choice kinds; to_move = side }
+    record { cells = with_pieces_on (replicate 32 Empty) choice kinds; to_move = side }
 
 -- the board where it keeps the rule on pieces
 abbrev pub if_lawful : Board → Option Board
@@ -97,7 +97,7 @@ if_lawful p = (if is_lawful p then Some p else None)
 -- come the kinds
 abbrev pub position_in_block : ℕ → ℕ → Option Board
 position_in_block n place =
-    let side = side_of (place % 2) in
+    let side = side_numbered (place % 2) in
     let kinds = place / 2 % 4 ^ n in
     option_and_then (λ choice. if_lawful (board_of choice kinds side)) (slice_get
     (choices n squares) (place / 2 / 4 ^ n))

@@ -1,9 +1,10 @@
 //! The index of a position, and the position at an index.
-ghost use Rattle.std.specs.Prelude.{◌≡◌, ◌≤◌, ◌<◌, ◌+◌, ◌*◌, ◌^◌, ℕ, if◌then◌else◌, IfSome, MatchOption, IsTrue, IsFalse, replicate, slice_get, Some, length, List};
+ghost use Rattle.std.specs.Prelude.{◌≡◌, ◌≤◌, ◌<◌, ◌+◌, ◌*◌, ◌^◌, ℕ, if◌then◌else◌, IfSome, MatchOption, IsTrue, IsFalse, replicate, slice_get, Some, true, length, List};
 ghost use Rattle.draughts_board.specs.Board.{IsLawful, piece_count, all_allowed, is_allowed};
-ghost use Rattle.table_index.specs.Order.{entry_count, index_of, position_at, piece_of, choices, with_pieces};
+ghost use Rattle.table_index.specs.Order.{entry_count, index_of, position_at, piece_numbered, choices, with_pieces_on};
 ghost use Rattle.table_index.specs.Counting.{choose};
 ghost use Rattle.draughts_board.specs.Geometry.{IsSquare, squares};
+ghost use Rattle.draughts_board.specs.Rules.{put};
 ghost use Rattle.draughts_board.specs.Masks.{stands_in};
 
 use crate::counts::{block_of, choices_of, first_index, index_at, kinds_of};
@@ -39,7 +40,7 @@ fn kind_in(kings: u32, white: u32, square: Square) -> u32
 /// The piece of a kind.
 fn piece_of(kind: u32) -> Cell
     requires { kind < 4 }
-    ensures { result ≡ piece_of kind }
+    ensures { result ≡ piece_numbered kind }
 {
     match kind {
         0 => Cell::Man(Side::Black),
@@ -87,6 +88,23 @@ fn is_allowed(place: usize, piece: Cell) -> bool
     }
 }
 
+/// The position with the piece on the square of this place, too; none where it may not stand there.
+#[inline]
+fn with_piece(p: &Position, place: usize, piece: Cell, to_move: Side) -> Option<Position>
+    requires place { place < 32 }
+    requires lawful { is_allowed (place + 1) piece ≡ true
+        → IsLawful (record { cells = put p.now.cells (place + 1) piece; to_move = to_move }) }
+    ensures { MatchOption result (IsFalse (is_allowed (place + 1) piece))
+        (λ q. (q ≡ record { cells = put p.now.cells (place + 1) piece; to_move = to_move })
+        × IsTrue (is_allowed (place + 1) piece)) }
+{
+    if is_allowed(place, piece) {
+        Some(p.with(Square::new(place as u8 + 1).unwrap(), piece, to_move))
+    } else {
+        None
+    }
+}
+
 /// The position with pieces of these kinds on the squares of the choice with this place among the choices of so many
 /// squares; none where a man would stand on its farthest row.
 fn position_of(mut pieces: u32, mut choice: u32, mut kinds: u32, to_move: Side) -> Option<Position>
@@ -94,7 +112,7 @@ fn position_of(mut pieces: u32, mut choice: u32, mut kinds: u32, to_move: Side) 
     requires choice { choice < choose pieces 32 }
     requires kinds { kinds < 4 ^ pieces }
     ensures { (chosen : List ℕ) → slice_get (choices pieces squares) choice ≡ Some chosen
-        → let cells = with_pieces (replicate 32 Cell.Empty) chosen kinds in
+        → let cells = with_pieces_on (replicate 32 Cell.Empty) chosen kinds in
         MatchOption result (IsFalse (all_allowed 1 cells))
         (λ p. (p ≡ record { cells = cells; to_move = to_move }) × IsTrue (all_allowed 1 cells)) }
 {
@@ -103,16 +121,19 @@ fn position_of(mut pieces: u32, mut choice: u32, mut kinds: u32, to_move: Side) 
         if pieces == 0 {
             break;
         }
+        if pieces == 1 {
+            // Each square that is left is a choice of its own.
+            return with_piece(&p, i + choice as usize, piece_of(kinds), to_move);
+        }
         // So many of the choices that are left begin with this square.
         let here = choices_of(pieces - 1, 31 - i as u32);
         if choice < here {
             pieces -= 1;
             let weight = kinds_of(pieces);
-            let piece = piece_of(kinds / weight);
-            if !is_allowed(i, piece) {
+            let Some(more) = with_piece(&p, i, piece_of(kinds / weight), to_move) else {
                 return None;
-            }
-            p = p.with(Square::new(i as u8 + 1).unwrap(), piece, to_move);
+            };
+            p = more;
             kinds %= weight;
         } else {
             choice -= here;

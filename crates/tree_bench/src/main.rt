@@ -1,8 +1,8 @@
 //! Grows proof trees from the start position, each time at the leaf that is picked next.
 //!
-//! Without words it prints, for 1,000, 10,000 and 100,000 expansions, how many nodes the tree has and the numbers of its
-//! root for both goals. With the word `time` it prints expansions a second by the clock for each, how much of the time
-//! the tree itself takes, and how the rates compare.
+//! Without words it prints, for 1,000, 10,000 and 100,000 expansions, how many nodes the tree has
+//! and the numbers of its root for both goals. With the word `time` it prints expansions a second
+//! by the clock for each, how much of the time the tree itself takes, and how the rates compare.
 #![tactic(auto)]
 
 mod grow;

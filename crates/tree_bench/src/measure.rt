@@ -1,8 +1,9 @@
 //! How long growing takes.
 ghost use Rattle.std.specs.Prelude.{◌<◌};
 
-use crate::grow::{Free, children_of, planted};
+use crate::grow::planted;
 use anyhow::Result;
+use proof_tree::{Free, unknown_children};
 use std::alloc::Global;
 use std::rt::Clock;
 use std::time::Instant;
@@ -28,7 +29,7 @@ fn times(rt: &(impl Print + Clock + Alloc<A = Global>), expansions: u32) -> Resu
             break;
         };
         spent = spent.saturating_add(start.elapsed(rt)?.as_nanos());
-        let children = children_of(rt.alloc(), &tree.position(n))?;
+        let children = unknown_children(rt.alloc(), &tree.position(n))?;
         let start = Instant::now(rt)?;
         tree.reserve(children.len())?;
         tree.expand(n, &children);
@@ -65,7 +66,8 @@ pub(crate) fn time(rt: &(impl Print + Clock + Alloc<A = Global>), sizes: &[u32])
         let percent = all.saturating_mul(100) / all_first.max(1);
         let percent_alone = alone.saturating_mul(100) / alone_first.max(1);
         println!(rt;
-            "{size} expansions: {all}/s ({percent} % of the first rate); of the tree alone {alone}/s ({percent_alone} %)"
+            "{size} expansions: {all}/s ({percent} % of the first rate); \
+        of the tree alone {alone}/s ({percent_alone} %)"
         )?;
     }
     Ok(())

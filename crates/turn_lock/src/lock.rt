@@ -18,9 +18,10 @@ use std::sync::atomic::AtomicU64;
 #[derive(Drop)]
 pub struct TurnLock<V: Kept> {
     pub(crate) table: LockTable<V>,
-    // How many passes sleep, or are about to. While there are none, `leave` makes no system call. A pass counts itself
-    // before the kernel looks at the turn word for it, and `leave` frees that word before it reads this count, so no
-    // wake is lost. That is not proved: contracts do not speak of waiting.
+    // How many passes sleep, or are about to. While there are none, `leave` makes no system call. A
+    // pass counts itself before the kernel looks at the turn word for it, and `leave` frees that
+    // word before it reads this count, so no wake is lost. That is not proved: contracts do not
+    // speak of waiting.
     pub(crate) sleepers: AtomicU64,
 }
 
@@ -32,11 +33,12 @@ impl<V: Kept> Model for TurnLock<V> {
 
     ghost view = { λ l. l.table.shared.table_id };
 
-    ghost invariant = { λ l. (l.table.shared.table_id.words ≡ 2) × (l.table.shared.table_id.slots ≡ 1) };
+    ghost invariant = { λ l. (l.table.shared.table_id.words ≡ 2)
+        × (l.table.shared.table_id.slots ≡ 1) };
 }
 
-/// What a thread enters a lock with. Contracts see which lock it is of, its front (the entries that it has seen), and
-/// whether it has the turn.
+/// What a thread enters a lock with. Contracts see which lock it is of, its front (the entries that
+/// it has seen), and whether it has the turn.
 ///
 /// A pass that is dropped while it has the turn locks the value away for good.
 pub struct Pass<V: Kept> {
@@ -83,7 +85,8 @@ impl<V: Kept> TurnLock<V> {
 
     /// Waits until the pass has the turn, and hands it the value, for `leave` to take back.
     ///
-    /// It sleeps while another pass has the turn, and never returns where that pass was dropped with it.
+    /// It sleeps while another pass has the turn, and never returns where that pass was dropped
+    /// with it.
     pub fn enter<R: Wait>(&self, rt: &R, pass: &mut Pass<V>) -> V
         requires lock { pass.old.lock ≡ self.now }
         requires outside { pass.old.turn ≡ false }
@@ -98,7 +101,8 @@ impl<V: Kept> TurnLock<V> {
 
     /// Tells the lock that the value has `added` more entries, which may be none.
     ///
-    /// A list in memory has fewer than 2^64 entries, so `fits` holds of each value that keeps its own.
+    /// A list in memory has fewer than 2^64 entries, so `fits` holds of each value that keeps its
+    /// own.
     pub fn note(&self, pass: &mut Pass<V>, value: &V, added: u64)
         requires lock { pass.old.lock ≡ self.now }
         requires turn { pass.old.turn ≡ true }
@@ -136,7 +140,8 @@ impl<V: Kept> TurnLock<V> {
         }
     }
 
-    /// Ends the other pass, and takes the longer of the two fronts, of which the other is a beginning.
+    /// Ends the other pass, and takes the longer of the two fronts, of which the other is a
+    /// beginning.
     pub fn join_pass(&self, pass: &mut Pass<V>, other: Pass<V>)
         requires lock { (pass.old.lock ≡ self.now) × (other.lock ≡ self.now) }
         requires outside { (pass.old.turn ≡ false) × (other.turn ≡ false) }

@@ -22,7 +22,8 @@ impl<V: Kept> Play<Option<V>, SeatView<V::Entry>> for TakeValue {
     ghost then = { TakesValue V.entries V.may_add };
 }
 
-/// The entries that a call of `note` tells. A step does not see the value in its caller's hand, so the call picks them.
+/// The entries that a call of `note` tells. A step does not see the value in its caller's hand, so
+/// the call picks them.
 pub(crate) trait Noted<E> {
     ghost entries: { List E };
 }

@@ -39,7 +39,8 @@ impl<V: Kept> TurnLock<V> {
         unreachable!()
     }
 
-    /// Lets others run, and after some tries sleeps until a turn is given up. It may also return for no reason.
+    /// Lets others run, and after some tries sleeps until a turn is given up. It may also return
+    /// for no reason.
     fn step_aside<R: Wait>(&self, rt: &R, tries: u64) {
         if tries < YIELDS {
             thread::yield_now();

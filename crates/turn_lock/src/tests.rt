@@ -205,8 +205,9 @@ fn wait_for<R: Wait>(rt: &R, count: &AtomicU64, least: u64) {
     }
 }
 
-/// Takes the turn so often. With the turn in hand it waits until every other pass that comes again sleeps, and behind
-/// `leave` until one of them has the turn. So that `leave` alone can wake them: nobody else enters or leaves.
+/// Takes the turn so often. With the turn in hand it waits until every other pass that comes again
+/// sleeps, and behind `leave` until one of them has the turn. So that `leave` alone can wake them:
+/// nobody else enters or leaves.
 fn hand_on<R: Wait>(
     rt: &R,
     lock: &TurnLock<Turns>,
@@ -284,7 +285,8 @@ fn split_off(
     Ok(all)
 }
 
-// Each `leave` has one sleeper, which nothing else wakes: a wake that is lost shows as a test that does not end.
+// Each `leave` has one sleeper, which nothing else wakes: a wake that is lost shows as a test that
+// does not end.
 #[test]
 fn two_passes_hand_the_turn_to_and_fro(rt: HostRuntime) -> Result<(), Fail> {
     assert_eq!(rt; hand_round(&rt, rt.alloc(), 2, 5_000)?, 10_000);

@@ -1,9 +1,10 @@
-//! Turns a second: the turn lock beside std's `Mutex`, both doing the same work. It prints the same at each run, and is
-//! timed from outside.
+//! Turns a second: the turn lock beside std's `Mutex`, both doing the same work. It prints the same
+//! at each run, and is timed from outside.
 //!
-//! `turn_lock_bench lock 4 1000` starts four threads at the lock. Each takes 1,000 turns, and a turn adds one entry, the
-//! number of the thread and the number of its turn, to a history. With `mutex` in place of `lock` the history is under a
-//! `Mutex`. Without words it does both, with 1, 2 and 4 threads and 1,000 turns each.
+//! `turn_lock_bench lock 4 1000` starts four threads at the lock. Each takes 1,000 turns, and a
+//! turn adds one entry, the number of the thread and the number of its turn, to a history. With
+//! `mutex` in place of `lock` the history is under a `Mutex`. Without words it does both, with 1, 2
+//! and 4 threads and 1,000 turns each.
 #![tactic(auto)]
 
 mod history;

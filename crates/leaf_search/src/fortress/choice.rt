@@ -11,6 +11,9 @@ const NEAR_DOUBLE_CORNERS: [u32; 5] = [
     0xEEFF_FF77,
 ];
 
+/// What a step of the way to a double corner costs, in one attempt after the other.
+pub(crate) const CORNER_WEIGHTS: [u32; 3] = [8, 16, 32];
+
 /// The masks of a side's men and kings.
 pub(crate) type Pieces = (u32, u32);
 
@@ -35,13 +38,19 @@ fn corner_distance(kings: u32) -> u32 {
     distance
 }
 
-/// What a move costs: by far the most each position that it brings into the set, then the way of the side's kings to a
-/// double corner, a configuration of its pieces that was not seen before, and each reply that it allows.
-pub(crate) fn cost(fresh: u32, replies: u32, pieces: Pieces, seen: bool) -> u32 {
+/// What a move costs: each position that it brings into the set, the way of the side's kings to a double corner (each
+/// step so much), a configuration of its pieces that was not seen before, and each reply that it allows.
+pub(crate) fn cost(
+    fresh: u32,
+    replies: u32,
+    pieces: Pieces,
+    seen: bool,
+    corner_weight: u32,
+) -> u32 {
     let news = if seen { 0 } else { 4_u32 };
     fresh
         .saturating_mul(4)
-        .saturating_add(corner_distance(pieces.1).saturating_mul(8))
+        .saturating_add(corner_distance(pieces.1).saturating_mul(corner_weight))
         .saturating_add(news)
         .saturating_add(replies)
 }

@@ -73,6 +73,17 @@ struct Candidate {
     next: Position,
 }
 
+/// What became of a set.
+#[derive(Clone, Copy, PartialEq, Eq)]
+pub(crate) enum Growing {
+    /// Each position has what it needs.
+    Closed,
+    /// The first position was refuted: its side does not hold it.
+    Refuted,
+    /// The set was given up: it grew too large, or was looked at too often.
+    GivenUp,
+}
+
 /// A set of positions in which a side looks for a strategy that never leaves it.
 #[derive(Drop)]
 pub(crate) struct Growth {
@@ -88,11 +99,13 @@ pub(crate) struct Growth {
     refuted: Vec<usize>,
     /// The configurations of the side's pieces to which a chosen move has led.
     seen: IndexSet<Pieces>,
+    /// What a step of the way to a double corner costs.
+    corner_weight: u32,
 }
 
 impl Growth {
     /// An empty set for this side. No memory is taken.
-    pub(crate) fn new(alloc: Global, side: Side) -> Growth {
+    pub(crate) fn new(alloc: Global, side: Side, corner_weight: u32) -> Growth {
         Growth {
             side,
             positions: IndexSet::new(alloc),
@@ -101,6 +114,7 @@ impl Growth {
             waiting: Vec::new(alloc),
             refuted: Vec::new(alloc),
             seen: IndexSet::new(alloc),
+            corner_weight,
         }
     }
 
@@ -205,25 +219,28 @@ impl Growth {
         }
     }
 
-    /// Looks at one position after the other until each has what it needs. False where the first was refuted, or the set
-    /// would have more than `most` positions.
+    /// Looks at one position after the other until each has what it needs, or the first was refuted, or the set would have
+    /// more than `most` positions.
     pub(crate) fn close<O: Oracle>(
         &mut self,
         alloc: Global,
         most: usize,
         oracle: &O,
-    ) -> Result<bool, AllocError> {
+    ) -> Result<Growing, AllocError> {
         for _ in 0..most.saturating_mul(MOST_LOOKS) {
-            if self.is_refuted(0) || self.positions.len() > most {
-                return Ok(false);
+            if self.is_refuted(0) {
+                return Ok(Growing::Refuted);
+            }
+            if self.positions.len() > most {
+                return Ok(Growing::GivenUp);
             }
             let Some(place) = self.waiting.pop() else {
-                return Ok(true);
+                return Ok(Growing::Closed);
             };
             self.look(alloc, place, oracle)?;
             self.spread()?;
         }
-        Ok(false)
+        Ok(Growing::GivenUp)
     }
 
     /// Looks at the position at this place, unless nothing rests on it any more.
@@ -388,7 +405,8 @@ impl Growth {
             }
         }
         let pieces = pieces_of(next, self.side);
-        Ok(Some(cost(fresh, replies, pieces, self.seen.contains(&pieces))))
+        let seen = self.seen.contains(&pieces);
+        Ok(Some(cost(fresh, replies, pieces, seen, self.corner_weight)))
     }
 
     /// Plays the move at this place.

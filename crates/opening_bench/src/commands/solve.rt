@@ -1,20 +1,24 @@
-//! `solve`: what the openings of games are worth, as far as a search shows.
-ghost use Rattle.std.specs.Prelude.{◌≡◌, ◌≤◌, ◌↔◌, All, IsTrue, IsSome, IfOk, IfErr};
+//! `solve`: a run on the journal, with the openings of games.
+ghost use Rattle.std.specs.Prelude.{◌≡◌, IfOk, IfErr};
+ghost use Rattle.bench_disk.specs.Disk.{IsHonest};
 ghost use Rattle.bench_edges.specs.Words.{IsWithinLimits};
 ghost use Rattle.bench_edges.specs.declared.words.Command.TheVariants as commands;
-ghost use Rattle.leaf_search.specs.declared.leaf.TheConstants.{MOST_DEPTH};
-ghost use Rattle.opening_bench.specs.Commands.{Answers};
-ghost use Rattle.opening_bench.specs.Solving.{AreRootsOf, IsValued, root_positions};
-ghost use Rattle.opening_bench.specs.Steps.{IsAnswerFault, IsAnswerFaultOnly, SaysTrue};
+ghost use Rattle.journal_runs.specs.Journals.{ReportsTruth, Resumes};
+ghost use Rattle.opening_report.specs.Report.{forest_roots, report_of};
+ghost use Rattle.opening_bench.specs.Bench.{ComesBeforeDisk};
+ghost use Rattle.opening_bench.specs.Disks.{IsRefusedRun, LeavesDisk, of_flaw, of_run};
+ghost use Rattle.opening_bench.specs.Solving.{roots_of_openings};
+ghost use Rattle.opening_bench.specs.Steps.{AcceptsBytes, AnswersBytes, AreRootsIn, IsAnswerFault, IsAnswerFaultOnly, RefusesBytes, SaysTrue};
 
-use crate::commands::showing::shown_facts;
 use crate::output::Output;
+use bench_core::Settings;
+use bench_disk::Disk;
 use bench_edges::Options;
 use draughts_board::Position;
-use endgame_table::{Table, fill};
+use endgame_table::fill;
 use indexmap::IndexSet;
-use leaf_search::Memo;
-use opening_report::{Refusal, Root, report};
+use journal_runs::{JournalFlaw, RunRefusal};
+use opening_report::Refusal;
 use pdn_openings::{Opening, openings};
 use pdn_text::read_games;
 use std::alloc::{AllocError, Global};
@@ -22,53 +26,9 @@ use std::alloc::{AllocError, Global};
 /// The longest source that `solve` reads, in bytes.
 pub const GAMES_LIMIT: usize = 16_777_216;
 
-/// How many positions the memory of the searches keeps at most.
-const MEMO_CAPACITY: usize = 65_536;
-
-/// The root at a position, with the value that is shown.
-fn value_root(
-    alloc: Global,
-    position: Position,
-    depth: u8,
-    table: &Table,
-    memo: &mut Memo,
-) -> Result<Root, AllocError>
-    requires depth { depth ≤ MOST_DEPTH }
-    requires tables { memo.old ≡ table.now.pieces }
-    ensures tables { memo.new ≡ memo.old }
-    ensures same { IfOk result (λ root. root.position ≡ position) }
-    ensures valued { IfOk result (IsValued table.now.pieces depth) }
-{
-    let facts = shown_facts(alloc, &position, depth, table, memo)?;
-    Ok(Root {
-        position,
-        value: facts.value(),
-    })
-}
-
-/// The roots at the positions, in their order.
-fn value_all(
-    alloc: Global,
-    positions: &[Position],
-    depth: u8,
-    table: &Table,
-    memo: &mut Memo,
-) -> Result<Vec<Root>, AllocError>
-    requires depth { depth ≤ MOST_DEPTH }
-    requires tables { memo.old ≡ table.now.pieces }
-    ensures { IfOk result (λ roots. AreRootsOf table.now.pieces depth positions.now roots.items) }
-{
-    let mut roots = Vec::new(alloc);
-    for position in positions {
-        let root = value_root(alloc, *position, depth, table, memo)?;
-        roots.push(root)?;
-    }
-    Ok(roots)
-}
-
 /// The distinct positions of the openings, each at its first place.
 fn distinct_positions(alloc: Global, openings: &[Opening]) -> Result<IndexSet<Position>, AllocError>
-    ensures { IfOk result (λ positions. positions.keys ≡ root_positions openings.now) }
+    ensures { IfOk result (λ positions. positions.keys ≡ roots_of_openings openings.now) }
 {
     let mut positions = IndexSet::new(alloc);
     for opening in openings {
@@ -77,47 +37,108 @@ fn distinct_positions(alloc: Global, openings: &[Opening]) -> Result<IndexSet<Po
     Ok(positions)
 }
 
-/// The roots of the openings: their distinct positions, each with the value that is shown by the table and the depth of
-/// the options.
-fn roots_of(alloc: Global, openings: &[Opening], options: &Options) -> Result<Vec<Root>, AllocError>
-    requires { IsWithinLimits (commands.Solve options.now) }
-    ensures { IfOk result (λ roots. AreRootsOf options.now.pieces options.now.depth
-        (root_positions openings.now) roots.items) }
-{
-    let positions = distinct_positions(alloc, openings)?;
-    let table = fill(alloc, options.pieces)?;
-    let mut memo = Memo::new(alloc, options.pieces, MEMO_CAPACITY)?;
-    value_all(
-        alloc,
-        positions.as_slice(),
-        options.depth,
-        &table,
-        &mut memo,
-    )
-}
-
-/// Every root has a value.
-fn all_settled(roots: &[Root]) -> bool
-    ensures { IsTrue result ↔ All (λ root. IsSome root.value) roots.now }
-{
-    roots.iter().all(|root| root.value.is_some())
-}
-
-/// The report on the openings of the games of a text.
-pub(crate) fn solve(alloc: Global, options: &Options, text: &[u8]) -> Result<Output, Refusal>
-    requires { IsWithinLimits (commands.Solve options.now) }
-    ensures answers { IfOk result (λ output. Answers (commands.Solve options.now) text.now
-        output.text.items output.is_settled) }
-    ensures says { IfOk result (λ output. SaysTrue output.text.items) }
+/// The distinct positions of the openings of the games of a text, each at its first place.
+fn roots_in(alloc: Global, options: &Options, text: &[u8]) -> Result<IndexSet<Position>, Refusal>
+    ensures read { IfOk result (λ positions.
+        AreRootsIn options.now.plies text.now positions.keys) }
     ensures refused { IfErr result (IsAnswerFault (commands.Solve options.now) text.now) }
     ensures accepted { IfErr result (IsAnswerFaultOnly (commands.Solve options.now) text.now) }
 {
     let games = read_games(alloc, text)?;
     let found = openings(alloc, &games, options.plies as u32)?;
-    let roots = roots_of(alloc, &found, options)?;
-    let text = report(alloc, &roots)?;
-    Ok(Output {
-        text,
-        is_settled: all_settled(&roots),
-    })
+    Ok(distinct_positions(alloc, &found)?)
+}
+
+/// The refusal of bytes that are no journal for the tables that are asked for.
+fn refusal_of_flaw(flaw: JournalFlaw) -> Refusal
+    ensures { result ≡ of_flaw flaw }
+{
+    match flaw {
+        JournalFlaw::NotAJournal => Refusal::NotAJournal,
+        JournalFlaw::OtherTable { found, asked } => Refusal::OtherTable { found, asked },
+        JournalFlaw::Damaged(at) => Refusal::Damaged(at),
+    }
+}
+
+/// The refusal of a run on a journal.
+fn refusal_of(refusal: RunRefusal) -> Refusal
+    ensures { result ≡ of_run refusal }
+{
+    match refusal {
+        RunRefusal::Disk => Refusal::Disk,
+        RunRefusal::Journal(flaw) => refusal_of_flaw(flaw),
+        RunRefusal::TooManyRoots => Refusal::TooManyRoots,
+        RunRefusal::Memory => Refusal::Memory,
+    }
+}
+
+/// Runs on the journal of the disk with these positions.
+fn run_with<D: Disk>(
+    alloc: Global,
+    options: &Options,
+    positions: &[Position],
+    disk: D,
+) -> (D, Result<Output, Refusal>)
+    requires { IsWithinLimits (commands.Solve options.now) }
+    ensures leaves { LeavesDisk D.TELLS D.reads D.images D.images_since D.moment D.faults
+        (commands.Solve options.now) disk result.0 }
+    ensures resumes { IsHonest D.TELLS → IfOk result.1 (λ output.
+        Resumes D.reads D.images D.images_since D.moment D.faults
+        (λ roots. report_of (forest_roots roots)) options.now.pieces options.now.budget
+        positions.now disk result.0 output.text.items output.is_settled) }
+    ensures values { IfOk result.1 (λ output. ReportsTruth positions.now output.text.items) }
+    ensures refused { IfErr result.1
+        (IsRefusedRun D.TELLS D.reads D.images D.images_since D.moment D.faults
+        options.now.pieces positions.now disk result.0) }
+    ensures unused { IfErr result.1 (λ r. ComesBeforeDisk r → result.0 ≡ disk) }
+{
+    let table = match fill(alloc, options.pieces) {
+        Ok(table) => table,
+        Err(AllocError) => return (disk, Err(Refusal::Memory)),
+    };
+    let settings = Settings {
+        pieces: options.pieces,
+        depth: options.depth,
+        budget: options.budget,
+        lease: options.lease,
+    };
+    let (disk, answer) = journal_runs::solve(alloc, disk, settings, positions, &table);
+    match answer {
+        Ok(ran) => (
+            disk,
+            Ok(Output {
+                text: ran.text,
+                is_settled: ran.is_settled,
+            }),
+        ),
+        Err(refusal) => (disk, Err(refusal_of(refusal))),
+    }
+}
+
+/// What a run on the journal with the openings of these games has to write, and the disk.
+pub(crate) fn solve<D: Disk>(
+    alloc: Global,
+    options: &Options,
+    text: &[u8],
+    disk: D,
+) -> (D, Result<Output, Refusal>)
+    requires { IsWithinLimits (commands.Solve options.now) }
+    ensures leaves { LeavesDisk D.TELLS D.reads D.images D.images_since D.moment D.faults
+        (commands.Solve options.now) disk result.0 }
+    ensures answers { IfOk result.1 (λ output.
+        AnswersBytes D.TELLS D.reads D.images D.images_since D.moment D.faults
+        (commands.Solve options.now) text.now disk result.0
+        output.text.items output.is_settled) }
+    ensures says { IfOk result.1 (λ output. SaysTrue output.text.items) }
+    ensures refused { IfErr result.1
+        (RefusesBytes D.TELLS D.reads D.images D.images_since D.moment D.faults
+        (commands.Solve options.now) text.now disk result.0) }
+    ensures accepted { IfErr result.1 (AcceptsBytes D.TELLS D.reads
+        (commands.Solve options.now) text.now disk) }
+    ensures unused { IfErr result.1 (λ r. ComesBeforeDisk r → result.0 ≡ disk) }
+{
+    match roots_in(alloc, options, text) {
+        Ok(positions) => run_with(alloc, options, positions.as_slice(), disk),
+        Err(refusal) => (disk, Err(refusal)),
+    }
 }

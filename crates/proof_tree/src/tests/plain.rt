@@ -213,7 +213,8 @@ impl PlainTree {
         Ok(folded)
     }
 
-    /// Which nodes are open for the goal, where a node is taken whose number leaves this rest when divided by 3.
+    /// Which nodes are open for the goal, where a node is taken whose number leaves this rest when
+    /// divided by 3.
     fn open(&self, alloc: Global, folded: &[Pair], taken: u64) -> Result<Vec<bool>, AllocError> {
         let mut open = Vec::new(alloc);
         open.resize(self.nodes.len(), false)?;
@@ -233,7 +234,8 @@ impl PlainTree {
         Ok(open)
     }
 
-    /// The first open child of least proof number where the goal moves, of least disproof number elsewhere.
+    /// The first open child of least proof number where the goal moves, of least disproof number
+    /// elsewhere.
     fn child(&self, at: usize, goal: Side, folded: &[Pair], open: &[bool]) -> Option<usize> {
         let node = self.nodes.get(at)?;
         let goal_moves = node.position.to_move() == goal;

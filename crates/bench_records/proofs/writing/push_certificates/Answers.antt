@@ -3,7 +3,7 @@ use Rattle.std.specs.Prelude.{All}
 use Rattle.std.specs.List.{flat_map}
 use Rattle.strategy_certificate.specs.Certificates.{claim_of}
 use Rattle.strategy_certificate.specs.declared.certificates.Certificate.{Certificate}
-use Rattle.bench_records.specs.Texts.{certificate_text, IsCounted}
+use Rattle.bench_records.specs.Texts.{certificate_text, HasShortCount}
 use Rattle.bench_records.proofs.Written.{at_next, All_next}
 use Rattle.bench_records.proofs.writing.push_certificates.Goals as goal
 
@@ -18,5 +18,5 @@ loop-c-preserved c =
     record {
       text = ap (λ t. t ++ flat_map certificate_text (drop (c.loop-c.c-index + 1) shown)) c.in_ok-push_certificate.ensures.text
           ∙ at_next certificate_text shown c.loop-c.c-index c.c-item.result c.loop-c.text.items _ c.loop-c-test.true c.c-item.is c.loop-c.invariant.text;
-      counted = All_next (λ (one : Certificate). All IsCounted one.parts) shown c.loop-c.c-index c.c-item.result c.loop-c-test.true c.c-item.is c.loop-c.invariant.counted c.in_ok-push_certificate.ensures.counted;
+      counted = All_next (λ (one : Certificate). All HasShortCount one.parts) shown c.loop-c.c-index c.c-item.result c.loop-c-test.true c.c-item.is c.loop-c.invariant.counted c.in_ok-push_certificate.ensures.counted;
     }

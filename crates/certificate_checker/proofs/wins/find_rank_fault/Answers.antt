@@ -1,19 +1,19 @@
 use Rattle.std.proofs.Common.{◌≤◌, ◌∙◌, sym, arith}
 use Rattle.strategy_certificate.specs.Certificates.{IsReachedBelow}
-use Rattle.certificate_checker.specs.Faults.{IsWon}
+use Rattle.certificate_checker.specs.Faults.{IsShownWon}
 use Rattle.certificate_checker.proofs.ListLemmas.{first_failure, one_more, contains_it, all_taken}
 use Rattle.certificate_checker.proofs.wins.find_rank_fault.Goals as goal
 use Rattle.certificate_checker.proofs.wins.find_rank_fault.Goals.{then-least-rank, else-least-rank}
 
 pub returns-in-None : goal.returns-in-None
 returns-in-None g c =
-    first_failure (IsWon c.args.part.now (g.O.Oracle.answer_at c.args.oracle.now)) c.args.due.now c.loop-q.q-index c.q-item.result (omega arith) c.q-item.is
+    first_failure (IsShownWon c.args.part.now (g.O.Oracle.answer_at c.args.oracle.now)) c.args.due.now c.loop-q.q-index c.q-item.result (omega arith) c.q-item.is
     c.loop-q.invariant.won (λ h. c.in-None.ensures h.0 h.1)
 
 pub loop-q-preserved : goal.loop-q-preserved
 loop-q-preserved g c =
     let answer = g.O.Oracle.answer_at c.args.oracle.now in
-    let Won = IsWon c.args.part.now answer in
+    let Won = IsShownWon c.args.part.now answer in
     let Below = IsReachedBelow c.args.part.now answer c.args.rank in
     record {
       won = one_more Won c.args.due.now c.loop-q.q-index c.q-item.result (omega arith) c.q-item.is c.loop-q.invariant.won (c.in-Some.least, c.in-Some.ensures.0);
@@ -36,7 +36,7 @@ loop-q-preserved g c =
 
 pub returns-then-late : goal.returns-then-late
 returns-then-late g c = (
-  all_taken (IsWon c.args.part.now (g.O.Oracle.answer_at c.args.oracle.now)) c.args.due.now c.loop-q.q-index (omega arith) c.loop-q.invariant.won,
+  all_taken (IsShownWon c.args.part.now (g.O.Oracle.answer_at c.args.oracle.now)) c.args.due.now c.loop-q.q-index (omega arith) c.loop-q.invariant.won,
   c.loop-q.invariant.late c.if-late.true,
 )
 

@@ -1,6 +1,6 @@
 use Rattle.std.proofs.Common.{sym, subst, inl, inr}
 use Rattle.std.proofs.lemmas.Result.{on_ok_weaker}
-use Rattle.certificate_joiner.specs.Steps.{IsUsable, AddsHold}
+use Rattle.certificate_joiner.specs.Steps.{IsUsable, JoinsHold}
 use Rattle.certificate_joiner.proofs.StepLemmas.{table_adds_hold, repeats_adds_hold, shown_adds_hold, one_more_adds_hold, both_on_ok}
 use Rattle.certificate_joiner.proofs.joining.add_hold.Goals as goal
 
@@ -12,7 +12,7 @@ returns-in-Shown-clause-holds c =
     let old = c.args.part.now in
     let step = c.args.step.now in
     on_ok_weaker c.merge_shown_hold.result
-    (λ e. subst (AddsHold old step) (sym e) (shown_adds_hold old step.position step.reason c.in-Shown.shown c.in-Shown.is)) c.merge_shown_hold.ensures
+    (λ e. subst (JoinsHold old step) (sym e) (shown_adds_hold old step.position step.reason c.in-Shown.shown c.in-Shown.is)) c.merge_shown_hold.ensures
 
 pub returns-in-Play-clause-holds : goal.returns-in-Play-clause-holds
 returns-in-Play-clause-holds c =

@@ -1,6 +1,6 @@
 use Rattle.std.proofs.Common.{sym, subst, inl, inr}
 use Rattle.std.proofs.lemmas.Result.{on_ok_weaker}
-use Rattle.certificate_joiner.specs.Steps.{IsUsable, AddsWin}
+use Rattle.certificate_joiner.specs.Steps.{IsUsable, JoinsWin}
 use Rattle.certificate_joiner.proofs.StepLemmas.{table_adds_win, repeats_adds_win, part_adds_win, one_more_adds_win, both_on_ok}
 use Rattle.certificate_joiner.proofs.joining.add_win.Goals as goal
 
@@ -12,7 +12,7 @@ returns-in-Shown-clause-wins c =
     let old = c.args.part.now in
     let step = c.args.step.now in
     on_ok_weaker c.merge_shown_win.result
-    (λ e. subst (AddsWin old step c.args.rank) (sym e) (part_adds_win old step.position step.reason c.args.rank c.in-Shown.shown c.in-Shown.is (subst (IsUsable old.side) c.in-Shown.is c.requires.usable).1))
+    (λ e. subst (JoinsWin old step c.args.rank) (sym e) (part_adds_win old step.position step.reason c.args.rank c.in-Shown.shown c.in-Shown.is (subst (IsUsable old.side) c.in-Shown.is c.requires.usable).1))
     c.merge_shown_win.ensures
 
 pub returns-in-Play-clause-wins : goal.returns-in-Play-clause-wins

@@ -5,7 +5,7 @@ use Rattle.draughts_board.proofs.Truth.{one_side}
 use Rattle.draughts_board.proofs.Successors.{path-to_successor}
 use Rattle.certificate_joiner.specs.declared.steps.Reason.TheVariants as reason
 use Rattle.proof_tree.specs.Forest.{nodes}
-use Rattle.certificate_joiner.specs.Strategy.{named, knows, is_repeating, GoesOn}
+use Rattle.certificate_joiner.specs.Strategy.{named, knows, is_repeating, StrategyGoesOn}
 use Rattle.certificate_joiner.proofs.DueLemmas.{at_known, at_repeats, at_all, at_one, at_next, some_child, some_first, expands, due_nodes-known, due_nodes-repeats, due_nodes-mine, due_nodes-theirs}
 use Rattle.draughts_board.proofs.Members.{Contains-head}
 use Rattle.std.specs.Prelude.{Contains}
@@ -24,7 +24,7 @@ returns-then-is_known c =
     let at = said_of roots c.args.n (λ y. p ≡ y.own.position) c.requires.there c.position-position.ensures in
     let r = c.known_reason-reason.result in
     let known : knows aim s x.own.facts ≡ true = sym c.is_known.ensures ∙ c.if-is_known.true in
-    subst (GoesOn k puts aim s x (record { position = p; reason = r })) (sym (due_nodes-known aim s x known))
+    subst (StrategyGoesOn k puts aim s x (record { position = p; reason = r })) (sym (due_nodes-known aim s x known))
     (at_known k puts aim s x p at c.args.n r (sym (number_named roots c.args.n c.requires.there)) known c.known_reason-reason.ensures.usable c.known_reason-reason.ensures.shows)
 
 pub returns-then-is_repeated : goal.returns-then-is_repeated
@@ -39,7 +39,7 @@ returns-then-is_repeated c =
     let at = said_of roots c.args.n (λ y. p ≡ y.own.position) c.requires.there c.position-position.ensures in
     let unknown : knows aim s x.own.facts ≡ false = sym c.is_known.ensures ∙ c.if-is_known.false in
     let repeats : is_repeating x.own.mark ≡ true = sym c.is_repeated.ensures ∙ c.if-is_repeated.true in
-    subst (GoesOn k puts aim s x (record { position = p; reason = reason.Repeats })) (sym (due_nodes-repeats aim s x unknown repeats))
+    subst (StrategyGoesOn k puts aim s x (record { position = p; reason = reason.Repeats })) (sym (due_nodes-repeats aim s x unknown repeats))
     (at_repeats k puts aim s x p at repeats unknown)
 
 pub returns-then-not-is_mover : goal.returns-then-not-is_mover
@@ -55,7 +55,7 @@ returns-then-not-is_mover c =
     let theirs : p.to_move ≡ other s = elim (one_side s p.to_move) [ inl mine ↦ absurd (false≢true (c.if-not-is_mover.ensures.1 mine)) | inr theirs ↦ theirs ] in
     let unknown : knows aim s x.own.facts ≡ false = sym c.is_known.ensures ∙ c.if-is_known.false in
     let once : is_repeating x.own.mark ≡ false = sym c.is_repeated.ensures ∙ c.if-is_repeated.false in
-    subst (GoesOn k puts aim s x (record { position = p; reason = reason.Play None }))
+    subst (StrategyGoesOn k puts aim s x (record { position = p; reason = reason.Play None }))
     (sym (due_nodes-theirs aim s x unknown once (subst (λ (q : Board). q.to_move ≡ other s) at theirs)))
     (at_all k puts aim s x p at theirs unknown once)
 
@@ -101,6 +101,6 @@ returns c =
     let mine : p.to_move ≡ s = c.if-not-is_mover.ensures.0 refl in
     let unknown : knows aim s x.own.facts ≡ false = sym c.is_known.ensures ∙ c.if-is_known.false in
     let once : is_repeating x.own.mark ≡ false = sym c.is_repeated.ensures ∙ c.if-is_repeated.false in
-    subst (GoesOn k puts aim s x (record { position = p; reason = reason.Play (Some c.in-Some-2.m) }))
+    subst (StrategyGoesOn k puts aim s x (record { position = p; reason = reason.Play (Some c.in-Some-2.m) }))
     (sym (due_nodes-mine aim s x unknown once (subst (λ (q : Board). q.to_move ≡ s) at mine) ∙ c.in-Some.ensures.1))
     (at_one k puts aim s x p at child c.position-next.result c.in-Some-2.m mine next leads.0 leads.1)

@@ -1,5 +1,5 @@
 use Rattle.std.proofs.Common.{Result, Ok, Err, Vec, Global, IfOk}
-use Rattle.pdn_openings.specs.Faults.{is_memory, StandsFirst}
+use Rattle.pdn_openings.specs.Faults.{opening_wants_memory, OpeningFaultStandsFirst}
 use Rattle.pdn_openings.specs.Openings.{AreOpenings}
 use Rattle.pdn_openings.specs.declared.opening.Opening.{Opening}
 use Rattle.pdn_openings.specs.declared.refusal.OpeningRefusal.{OpeningRefusal}
@@ -18,7 +18,7 @@ pub returns-clause-exact : goal.returns-clause-exact
 returns-clause-exact c =
     let plies = c.args.plies in
     let games = c.args.games.now in
-    exact_list_from_one is_memory (AreOpenings plies games) (StandsFirst plies games) c.all_openings.result c.all_openings.ensures.openings c.all_openings.ensures.refused
+    exact_list_from_one opening_wants_memory (AreOpenings plies games) (OpeningFaultStandsFirst plies games) c.all_openings.result c.all_openings.ensures.openings c.all_openings.ensures.refused
     (one_list plies games) (openings_or_fault plies games) (one_refusal plies games)
 
 pub returns-clause-count : goal.returns-clause-count

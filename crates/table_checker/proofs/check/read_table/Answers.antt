@@ -5,7 +5,7 @@ use Rattle.std.proofs.lemmas.List.{take_rest, get_or_default}
 use Rattle.table_index.specs.Order.{entry_count}
 use Rattle.endgame_table.specs.Bytes.{number_bytes}
 use Rattle.endgame_table.specs.Entries.{FitsAt}
-use Rattle.table_checker.specs.Faults.{BeginsTable, HasForm, FailsFirst, due_length}
+use Rattle.table_checker.specs.Faults.{BeginsTable, HasTableForm, FailsFirstAt, due_length}
 use Rattle.table_checker.proofs.ByteLemmas.{form-read}
 use Rattle.endgame_table.proofs.Sound.{tables_fit_everywhere}
 use Rattle.table_checker.proofs.check.read_table.Goals as goal
@@ -15,7 +15,7 @@ form : (k : ℕ) (bytes numbers : List ℕ) (pieces : Option ℕ) (due : ℕ)
     → MatchOption pieces ((k : ℕ) → BeginsTable k bytes → ⊥) (λ k. BeginsTable k bytes) → pieces ≡ Some k
     → length bytes ≡ due → due ≡ due_length k
     → take (length bytes - 8) (drop 8 bytes) ≡ flat_map number_bytes numbers → All (λ n. n < 2 ^ 32) numbers
-    → HasForm k numbers bytes
+    → HasTableForm k numbers bytes
 form k bytes numbers pieces due begins is long due_is read words =
     form-read k bytes (take (length bytes - 8) (drop 8 bytes)) numbers
     (subst (λ o. MatchOption o ((k : ℕ) → BeginsTable k bytes → ⊥) (λ k. BeginsTable k bytes)) is begins)
@@ -23,18 +23,18 @@ form k bytes numbers pieces due begins is long due_is read words =
 
 -- what was found, at the numbers as a list
 found-none : (k : ℕ) (numbers items : List ℕ) (found : Option ℕ) → numbers ≡ items → found ≡ None
-    → MatchOption found ((i : ℕ) → i < entry_count k → FitsAt k numbers i) (FailsFirst k numbers)
+    → MatchOption found ((i : ℕ) → i < entry_count k → FitsAt k numbers i) (FailsFirstAt k numbers)
     → (i : ℕ) → i < entry_count k → FitsAt k items i
 found-none k numbers items found same is told =
     subst (λ l. (i : ℕ) → i < entry_count k → FitsAt k l i) same
-    (subst (λ o. MatchOption o ((i : ℕ) → i < entry_count k → FitsAt k numbers i) (FailsFirst k numbers)) is told)
+    (subst (λ o. MatchOption o ((i : ℕ) → i < entry_count k → FitsAt k numbers i) (FailsFirstAt k numbers)) is told)
 
 found-some : (k : ℕ) (numbers items : List ℕ) (found : Option ℕ) (index : ℕ) → numbers ≡ items → found ≡ Some index
-    → MatchOption found ((i : ℕ) → i < entry_count k → FitsAt k numbers i) (FailsFirst k numbers)
-    → FailsFirst k items index
+    → MatchOption found ((i : ℕ) → i < entry_count k → FitsAt k numbers i) (FailsFirstAt k numbers)
+    → FailsFirstAt k items index
 found-some k numbers items found index same is told =
-    subst (λ l. FailsFirst k l index) same
-    (subst (λ o. MatchOption o ((i : ℕ) → i < entry_count k → FitsAt k numbers i) (FailsFirst k numbers)) is told)
+    subst (λ l. FailsFirstAt k l index) same
+    (subst (λ o. MatchOption o ((i : ℕ) → i < entry_count k → FitsAt k numbers i) (FailsFirstAt k numbers)) is told)
 
 pub first_bad_entry-requires-clause-entries : goal.first_bad_entry-requires-clause-entries
 first_bad_entry-requires-clause-entries c =

@@ -1,5 +1,5 @@
 use Rattle.std.proofs.Common.{◌≡◌, ℕ, sym, ap, ◌∙◌, ◌-◌, ◌%◌, arith}
-use Rattle.table_index.specs.Order.{position_at, side_of}
+use Rattle.table_index.specs.Order.{position_at, side_numbered}
 use Rattle.table_index.proofs.Building.{found, first-least, made-is, is-held}
 use Rattle.table_index.proofs.indices.position_at.Goals as goal
 use Rattle.table_index.proofs.indices.position_at.Goals.{then-place-eq0, else-place-eq0}
@@ -15,10 +15,10 @@ the_value : (c : goal.After-position_of) → c.position_of.result ≡ position_a
 the_value c =
     let is = found c.args.index _ _ _ c.requires c.block_of-pieces.ensures c.first_index.ensures c.kinds_of-weight.ensures in
     let side : ℕ = (c.args.index - c.first_index.result) % 2 in
-    let mover : c.if-place-eq0.to_move ≡ side_of side =
+    let mover : c.if-place-eq0.to_move ≡ side_numbered side =
     elim c.if-place-eq0.branch [
-      | then-place-eq0 w ↦ w.to_move-is ∙ sym (ap side_of w.if-place-eq0.true)
-      | else-place-eq0 w ↦ let one : side ≡ 1 = omega arith in w.to_move-is ∙ sym (ap side_of one)
+      | then-place-eq0 w ↦ w.to_move-is ∙ sym (ap side_numbered w.if-place-eq0.true)
+      | else-place-eq0 w ↦ let one : side ≡ 1 = omega arith in w.to_move-is ∙ sym (ap side_numbered one)
     ] in
     made-is c.args.index _ _ _ is.0 c.if-place-eq0.to_move c.position_of.result is.1 mover (c.position_of.ensures is.0 is.1.there)
 

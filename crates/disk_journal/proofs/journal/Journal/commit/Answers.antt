@@ -1,7 +1,7 @@
 use Rattle.std.specs.Prelude.{◌++◌, length, ◌<◌}
 use Rattle.std.proofs.Common.{◌∙◌, ap, subst, arith, length-append}
 use Rattle.bench_disk.specs.Runs.{Leaves, leaves_weaker}
-use Rattle.disk_journal.specs.Format.{HasPayloads, IsFrame, IsJournal, StandsForEither, front}
+use Rattle.disk_journal.specs.Format.{HasPayloads, IsFrame, IsJournal, StandsForEither, journal_front}
 use Rattle.disk_journal.specs.FormatLaws.{journal_once}
 use Rattle.disk_journal.proofs.AtRestLemmas.{either_between}
 use Rattle.disk_journal.proofs.FrameLemmas.{length_body}
@@ -53,7 +53,7 @@ returns-in-Ok-clause-frame g c = rw (← c.self.view_is) (λ tells some frames j
     let is_frame : IsFrame staged = c.text.ensures.frame (omega (arith, c.len.ensures, c.if-len-eq0.false)) in
     let rest = (c.self.invariant.at_rest tells not_failed).1 in
     let same = journal_once c.self.inside.pieces c.self.inside.pieces rest.frames frames (g.D.Disk.reads c.self.inside.disk) rest.journal journal in
-    c.in-Ok.ensures.frame tells c.self.inside.pieces frames staged is_frame c.text.ensures.text (rest.place ∙ ap (λ f. length (front c.self.inside.pieces f)) same) journal)
+    c.in-Ok.ensures.frame tells c.self.inside.pieces frames staged is_frame c.text.ensures.text (rest.place ∙ ap (λ f. length (journal_front c.self.inside.pieces f)) same) journal)
 
 pub returns-in-Ok-clause-atomic : goal.returns-in-Ok-clause-atomic
 returns-in-Ok-clause-atomic g c = rw (← c.self.view_is) (λ tells payloads has.

@@ -7,7 +7,7 @@ use Rattle.std.proofs.lemmas.Map.Made.{filter_same_pairs}
 use Rattle.indexmap.specs.IndexMap.{insert_entry}
 use Rattle.indexmap.proofs.CallerLemmas.{insert_entry-new}
 use Rattle.lease_table.specs.declared.leases.Row.{Row}
-use Rattle.lease_table.specs.Rows.{Table, is_live_row, has_id, is_of, row_with, without, without_node, marked}
+use Rattle.lease_table.specs.Rows.{LeaseRows, is_live_row, has_id, is_of, row_with, without, without_node, marked}
 use Rattle.lease_table.specs.Tables.{rows_of}
 use Rattle.lease_table.proofs.TableLemmas.{row_found, leased_is, noted_lives, node_lives, still_table, rows_filtered, marked_table, marked_is, given_table, none_filtered}
 use Rattle.lease_table.proofs.table.Leases.end.Goals as goal
@@ -24,5 +24,5 @@ returns-clause-ok c =
     let kept = filter_same_pairs _ (λ (e : ℕ × Row). test e.1) _ (λ k v b w f' t. search rules) _ _ c.retain.ensures.filtered in
     let rows : rows_of c.retain.new.self.entries ≡ without c.args.id (rows_of c.self.inside.rows.entries) =
     ap rows_of kept ∙ rows_filtered test c.self.inside.rows.entries ∙ ap (λ n. without n (rows_of c.self.inside.rows.entries)) c.number-number.ensures in
-    let Make : List Row → Table = λ rs. record { limit = c.self.inside.limit; rows = rs } in
+    let Make : List Row → LeaseRows = λ rs. record { limit = c.self.inside.limit; rows = rs } in
     rw (← c.self.view_is) (ap Make rows)

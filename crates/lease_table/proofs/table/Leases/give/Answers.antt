@@ -7,8 +7,8 @@ use Rattle.std.proofs.lemmas.Map.Made.{filter_same_pairs}
 use Rattle.indexmap.specs.IndexMap.{insert_entry}
 use Rattle.indexmap.proofs.CallerLemmas.{insert_entry-new}
 use Rattle.lease_table.specs.declared.leases.Row.{Row}
-use Rattle.lease_table.specs.Rows.{Table, is_live_row, has_id, is_of, row_with, without, without_node, marked}
-use Rattle.lease_table.specs.Tables.{rows_of, IsTable}
+use Rattle.lease_table.specs.Rows.{LeaseRows, is_live_row, has_id, is_of, row_with, without, without_node, marked}
+use Rattle.lease_table.specs.Tables.{rows_of, IsLeaseTable}
 use Rattle.lease_table.proofs.TableLemmas.{row_found, leased_is, noted_lives, node_lives, still_table, rows_filtered, marked_table, marked_is, given_table, none_filtered}
 use Rattle.lease_table.proofs.TableLemmas.{none_known, absent_filtered}
 use Rattle.std.proofs.lemmas.List.{map_push}
@@ -31,13 +31,13 @@ invariant_of-self-2 c =
     let test : Row → Bool = λ r. not (is_of node r) in
     let mid : c.drop_rows_of.new.rows.entries ≡ filter (λ (e : ℕ × Row). test e.1) es =
     c.drop_rows_of.ensures.entries ∙ ap (filter (λ (e : ℕ × Row). test e.1)) c.in_ok-reserve.ensures.entries in
-    let fresh : lookup (eqb now) es ≡ None = row_found now es c.self.invariant.keyed ∙ subst (λ (t : Table). row_with now t.rows ≡ None) (sym c.self.view_is) c.requires.new in
+    let fresh : lookup (eqb now) es ≡ None = row_found now es c.self.invariant.keyed ∙ subst (λ (t : LeaseRows). row_with now t.rows ≡ None) (sym c.self.view_is) c.requires.new in
     let absent : lookup (eqb now) c.drop_rows_of.new.rows.entries ≡ None = ap (lookup (eqb now)) mid ∙ absent_filtered test now es fresh in
     let same : c.insert-2.new.self.entries ≡ filter (λ (e : ℕ × Row). test e.1) es ++ (now, row) ∷ [] =
     c.in-Ok-insert.ensures.entries ∙ insert_entry-new eqb c.drop_rows_of.new.rows now row absent ∙ ap (λ (l : List (ℕ × Row)). l ++ (now, row) ∷ []) mid in
     let nodes : c.insert.new.self.entries ≡ insert_entry eqb c.self.inside.nodes.entries node now =
     c.in-Ok.ensures.entries ∙ ap (λ (ns : List (ℕ × ℕ)). insert_entry eqb ns node now) c.in_ok-reserve-2.ensures.entries in
-    subst (λ (ns : List (ℕ × ℕ)). IsTable c.insert-2.new.self.entries ns) (sym nodes)
+    subst (λ (ns : List (ℕ × ℕ)). IsLeaseTable c.insert-2.new.self.entries ns) (sym nodes)
     (given_table node now c.args.lease es c.insert-2.new.self.entries c.self.inside.nodes.entries c.self.invariant c.in-Ok-insert.ensures.unique c.requires.number refl same)
 
 pub returns-clause-ok : goal.returns-clause-ok
@@ -49,11 +49,11 @@ returns-clause-ok c =
     let test : Row → Bool = λ r. not (is_of node r) in
     let mid : c.drop_rows_of.new.rows.entries ≡ filter (λ (e : ℕ × Row). test e.1) es =
     c.drop_rows_of.ensures.entries ∙ ap (filter (λ (e : ℕ × Row). test e.1)) c.in_ok-reserve.ensures.entries in
-    let fresh : lookup (eqb now) es ≡ None = row_found now es c.self.invariant.keyed ∙ subst (λ (t : Table). row_with now t.rows ≡ None) (sym c.self.view_is) c.requires.new in
+    let fresh : lookup (eqb now) es ≡ None = row_found now es c.self.invariant.keyed ∙ subst (λ (t : LeaseRows). row_with now t.rows ≡ None) (sym c.self.view_is) c.requires.new in
     let absent : lookup (eqb now) c.drop_rows_of.new.rows.entries ≡ None = ap (lookup (eqb now)) mid ∙ absent_filtered test now es fresh in
     let same : c.insert-2.new.self.entries ≡ filter (λ (e : ℕ × Row). test e.1) es ++ (now, row) ∷ [] =
     c.in-Ok-insert.ensures.entries ∙ insert_entry-new eqb c.drop_rows_of.new.rows now row absent ∙ ap (λ (l : List (ℕ × Row)). l ++ (now, row) ∷ []) mid in
     let rows : rows_of c.insert-2.new.self.entries ≡ without_node node (rows_of es) ++ row ∷ [] =
     ap rows_of same ∙ map_push (λ (e : ℕ × Row). e.1) (filter (λ (e : ℕ × Row). test e.1) es) (now, row) ∙ ap (λ (rs : List Row). rs ++ row ∷ []) (rows_filtered test es) in
-    let Make : List Row → Table = λ rs. record { limit = c.self.inside.limit; rows = rs } in
+    let Make : List Row → LeaseRows = λ rs. record { limit = c.self.inside.limit; rows = rs } in
     rw (← c.self.view_is) (ap Make rows)

@@ -7,7 +7,7 @@ use Rattle.std.proofs.lemmas.Map.Made.{filter_same_pairs}
 use Rattle.indexmap.specs.IndexMap.{insert_entry}
 use Rattle.indexmap.proofs.CallerLemmas.{insert_entry-new}
 use Rattle.lease_table.specs.declared.leases.Row.{Row}
-use Rattle.lease_table.specs.Rows.{Table, is_live_row, has_id, is_of, row_with, without, without_node, marked}
+use Rattle.lease_table.specs.Rows.{LeaseRows, is_live_row, has_id, is_of, row_with, without, without_node, marked}
 use Rattle.lease_table.specs.Tables.{rows_of}
 use Rattle.lease_table.proofs.TableLemmas.{row_found, leased_is, noted_lives, node_lives, still_table, rows_filtered, marked_table, marked_is, given_table, none_filtered}
 use Rattle.lease_table.proofs.table.Leases.leased.Goals as goal

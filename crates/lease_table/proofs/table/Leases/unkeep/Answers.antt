@@ -7,7 +7,7 @@ use Rattle.std.proofs.lemmas.Map.Made.{filter_same_pairs}
 use Rattle.indexmap.specs.IndexMap.{insert_entry}
 use Rattle.indexmap.proofs.CallerLemmas.{insert_entry-new}
 use Rattle.lease_table.specs.declared.leases.Row.{Row}
-use Rattle.lease_table.specs.Rows.{Table, is_live_row, has_id, is_of, row_with, without, without_node, marked}
+use Rattle.lease_table.specs.Rows.{LeaseRows, is_live_row, has_id, is_of, row_with, without, without_node, marked}
 use Rattle.lease_table.specs.Tables.{rows_of}
 use Rattle.lease_table.proofs.TableLemmas.{row_found, leased_is, noted_lives, node_lives, still_table, rows_filtered, marked_table, marked_is, given_table, none_filtered}
 use Rattle.lease_table.proofs.table.Leases.unkeep.Goals as goal
@@ -18,7 +18,7 @@ unreachable-requires c =
     let id = c.args.id in
     let known : lookup (eqb id) es ≡ None = sym (c.in_default.ensures ∙ c.get.ensures.value ∙ ap (λ k. lookup (eqb k) es) c.number.ensures) in
     let none : row_with id (rows_of es) ≡ None = sym (row_found id es c.self.invariant.keyed) ∙ known in
-    let kept = subst (λ (t : Table). option_map_or (λ (row : Row). row.kept) (row_with id t.rows) false ≡ true) (sym c.self.view_is) c.requires in
+    let kept = subst (λ (t : LeaseRows). option_map_or (λ (row : Row). row.kept) (row_with id t.rows) false ≡ true) (sym c.self.view_is) c.requires in
     false≢true (sym (ap (λ o. option_map_or (λ (row : Row). row.kept) o false) none) ∙ kept)
 
 pub invariant_of-self : goal.invariant_of-self
@@ -38,5 +38,5 @@ returns c =
     let known : lookup (eqb id) es ≡ Some row = sym (c.in-Some.ensures ∙ c.get.ensures.value ∙ ap (λ k. lookup (eqb k) es) c.number.ensures) in
     let same : c.insert.new.self.entries ≡ insert_entry eqb es id (record row { kept = false }) = c.in-Ok.ensures.entries ∙ ap (λ k. insert_entry eqb es k (record row { kept = false })) c.number-2.ensures in
     let rows : rows_of c.insert.new.self.entries ≡ marked id false (rows_of es) = ap rows_of same ∙ marked_is id false es row c.self.invariant.unique c.self.invariant.keyed known in
-    let Make : List Row → Table = λ rs. record { limit = c.self.inside.limit; rows = rs } in
+    let Make : List Row → LeaseRows = λ rs. record { limit = c.self.inside.limit; rows = rs } in
     rw (← c.self.view_is) (ap Make rows)

@@ -1,0 +1,8 @@
+use Rattle.bench_core.proofs.OneForest.{records_have_one_forest, roots_are_those_begun}
+use Rattle.bench_core.proofs.laws.records_have_one_forest.Goals as goal
+
+pub returns-clause-forest : goal.returns-clause-forest
+returns-clause-forest c = records_have_one_forest
+
+pub returns-clause-roots : goal.returns-clause-roots
+returns-clause-roots c = roots_are_those_begun

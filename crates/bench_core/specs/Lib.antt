@@ -1,0 +1,10 @@
+pub mod Records
+pub mod Growing
+pub mod Grown
+pub mod States
+pub mod Cores
+pub mod Answers
+pub mod Benches
+pub mod Applying
+pub mod Replaying
+pub mod Laws

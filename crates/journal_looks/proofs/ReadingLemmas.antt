@@ -1,0 +1,76 @@
+-- What is read of a journal, and what reading leaves.
+use Rattle.std.proofs.Common.{◌≡◌, ◌≤◌, ℕ, List, [], map, refl, sym, ◌∙◌, ap, subst, ◌⊎◌, inl, inr, ⊎_elim}
+use Rattle.std.specs.Prelude.{Result, Ok, Err, IfOk, IfErr}
+use Rattle.std.specs.Bool.{OnFalse}
+use Rattle.shared_words.specs.Answers.{IsExact}
+use Rattle.shared_words.proofs.Exactness.{on_false}
+use Rattle.bench_disk.specs.Runs.{OnlyLooks}
+use Rattle.disk_journal.specs.declared.payload.Payload.{Payload}
+use Rattle.disk_journal.specs.declared.refusal.JournalRefusal.{JournalRefusal}
+use Rattle.disk_journal.specs.declared.refusal.JournalRefusal.TheVariants.{DiskFault, NotAJournal, OtherTable, Damaged, Memory}
+use Rattle.disk_journal.specs.Contents.{Contents, IsReadAs}
+use Rattle.disk_journal.specs.Format.{HasPayloads, HasPlaces}
+use Rattle.disk_journal.specs.Refusals.{ExplainsAny, says_nothing_of_file}
+use Rattle.bench_core.specs.Cores.{Core}
+use Rattle.bench_core.specs.Growing.{IsForestOf}
+use Rattle.endgame_table.specs.Entries.{Entries}
+use Rattle.tree_manager.specs.Receipts.{SpellsRecords}
+use Rattle.tree_manager.specs.Replaying.{RefusesPayloads, payload_texts}
+use Rattle.tree_manager.proofs.ReplayLemmas.{replay_explained}
+use Rattle.journal_looks.specs.Looks.{ExplainsUnread, HasForest, Stays}
+
+-- ---- what is left
+
+module _ {D : Type 0} (reads : D → List ℕ) (images : D → List ℕ → Type 0) (images_since : D → ℕ → List ℕ → Type 0) (moment : D → ℕ)
+    (now_counts : (disk : D) (t : ℕ) (image : List ℕ) → t ≤ moment disk → images disk image → images_since disk t image) where
+  pub stays_from : (old new : D) → OnlyLooks reads images images_since moment old new → Stays reads images old new
+  stays_from old new looks = record {
+    same = looks.same;
+    none_added = λ image now. looks.run.each image (now_counts new (moment old) image looks.run.later now);
+    none_lost = looks.stays;
+  }
+
+-- ---- why it is not read
+
+pub unread_journal : (file : List ℕ) (refusal : JournalRefusal) → OnFalse (says_nothing_of_file refusal) (ExplainsAny file refusal) → ExplainsUnread file refusal
+unread_journal file refusal = on_false (says_nothing_of_file refusal) (ExplainsAny file refusal) _ (λ e. inl e)
+
+pub unread_payload : (k : ℕ) (file : List ℕ) (payloads : List Payload) (refusal : JournalRefusal) → HasPayloads k file (payload_texts payloads)
+    → HasPlaces k file (map (λ p. p.at) payloads) → RefusesPayloads k payloads refusal → ExplainsUnread file refusal
+unread_payload k file payloads DiskFault has places refused = tt
+unread_payload k file payloads NotAJournal has places refused = absurd refused
+unread_payload k file payloads (OtherTable found asked) has places refused = absurd refused
+unread_payload k file payloads (Damaged at) has places refused =
+    ⊎_elim (λ own. inl (k, own)) (λ stops. inr (k, stops)) (replay_explained k file payloads (Damaged at) has places refused)
+unread_payload k file payloads (Memory error) has places refused = tt
+
+-- ---- a cause of the journal comes first
+
+pub none_read : (file : List ℕ) (read : Contents) (e : JournalRefusal) → IsExact says_nothing_of_file (IsReadAs file) (ExplainsAny file) (Ok read) → ExplainsAny file e → ⊥
+none_read file read e exact stands = subst (λ (x : Result Contents JournalRefusal). IfErr x (λ v. ⊥)) (exact.only_fault e stands) tt
+
+pub cause_is : (file : List ℕ) (refusal e : JournalRefusal) → IsExact {T = Contents} says_nothing_of_file (IsReadAs file) (ExplainsAny file) (Err refusal) → ExplainsAny file e
+    → OnFalse (says_nothing_of_file refusal) (refusal ≡ e)
+cause_is file refusal e exact stands =
+    on_false (says_nothing_of_file refusal) _ (refusal ≡ e) (λ same. subst (λ (x : Result Contents JournalRefusal). IfErr x (λ v. refusal ≡ v)) same refl) (exact.only_fault e stands)
+
+-- ---- the bench that was read, or why there is none
+
+pub forest_read : (k : ℕ) (file : List ℕ) (payloads : List Payload) (answer : Result (Core × Entries) JournalRefusal) → HasPayloads k file (payload_texts payloads)
+    → IfOk answer (λ r. r.1.pieces ≡ k) → IfOk answer (λ r. IsForestOf k r.0.records r.0.state.forest) → IfOk answer (λ r. SpellsRecords k [] r.0.records (payload_texts payloads))
+    → IfOk answer (λ r. HasForest r.1.pieces file r.0.state.forest)
+forest_read k file payloads (Ok r) has table forest spelled =
+    subst (λ n. HasForest n file r.0.state.forest) (sym table) (record {
+      records = r.0.records;
+      read = record { payloads = payload_texts payloads; stands = has; spelled = spelled; lawful = (r.0.state.forest, forest) };
+      forest = forest;
+    })
+forest_read k file payloads (Err refusal) has table forest spelled = tt
+
+pub refused_read : (k : ℕ) (file : List ℕ) (payloads : List Payload) (answer : Result (Core × Entries) JournalRefusal) → HasPayloads k file (payload_texts payloads)
+    → HasPlaces k file (map (λ p. p.at) payloads) → IfErr answer (RefusesPayloads k payloads) → IfErr answer (ExplainsUnread file)
+refused_read k file payloads (Ok r) has places refused = tt
+refused_read k file payloads (Err refusal) has places refused = unread_payload k file payloads refusal has places refused
+
+pub no_fault_read : (k : ℕ) (payloads : List Payload) (answer : Result (Core × Entries) JournalRefusal) → IfErr answer (RefusesPayloads k payloads) → answer ≡ Err DiskFault → ⊥
+no_fault_read k payloads answer refused is = subst (λ (a : Result (Core × Entries) JournalRefusal). IfErr a (RefusesPayloads k payloads)) is refused

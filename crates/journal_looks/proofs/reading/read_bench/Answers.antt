@@ -1,0 +1,47 @@
+use Rattle.std.proofs.Common.{◌≡◌, ℕ, List, [], subst}
+use Rattle.std.specs.Prelude.{IfOk, IfErr}
+use Rattle.disk_journal.specs.declared.payload.Payload.{Payload}
+use Rattle.disk_journal.specs.Contents.{contents_of}
+use Rattle.tree_manager.specs.Receipts.{SpellsRecords}
+use Rattle.tree_manager.specs.Replaying.{RefusesPayloads, payload_texts}
+use Rattle.journal_looks.proofs.ReadingLemmas.{stays_from, unread_journal, none_read, cause_is, forest_read, refused_read, no_fault_read}
+use Rattle.journal_looks.proofs.reading.read_bench.Goals as goal
+
+pub returns-in-Err-clause-refused : goal.returns-in-Err-clause-refused
+returns-in-Err-clause-refused g c honest = unread_journal (g.D.Disk.reads c.args.disk.now) c.in-Err.refusal (c.in-Err.ensures.exact honest).fault
+
+pub returns-in-Err-clause-first : goal.returns-in-Err-clause-first
+returns-in-Err-clause-first g c honest e stands = cause_is (g.D.Disk.reads c.args.disk.now) c.in-Err.refusal e (c.in-Err.ensures.exact honest) stands
+
+pub returns-in-Err-clause-stays : goal.returns-in-Err-clause-stays
+returns-in-Err-clause-stays g c honest =
+    stays_from g.D.Disk.reads g.D.Disk.images g.D.Disk.images_since g.D.Disk.moment (λ disk t image. g.met.D.Disk.now_counts disk t image honest) c.args.disk.now c.read_journal.new.disk
+    (c.in-Err.ensures.looks honest)
+
+pub returns-clause-stays : goal.returns-clause-stays
+returns-clause-stays g c honest =
+    stays_from g.D.Disk.reads g.D.Disk.images g.D.Disk.images_since g.D.Disk.moment (λ disk t image. g.met.D.Disk.now_counts disk t image honest) c.args.disk.now c.read_journal.new.disk
+    (c.in-Ok.ensures.looks honest)
+
+pub returns-clause-forest : goal.returns-clause-forest
+returns-clause-forest g c honest =
+    let k : ℕ = c.in-Ok.read.0 in
+    let file : List ℕ = g.D.Disk.reads c.args.disk.now in
+    let items : List Payload = c.in-Ok.read.1.items in
+    forest_read k file items c.bench_of.result (c.in-Ok.ensures.exact honest).good.0.payloads c.bench_of.ensures.table c.bench_of.ensures.forest
+    (subst (λ (l : List Payload). IfOk c.bench_of.result (λ r. SpellsRecords k [] r.0.records (payload_texts l))) c.deref.ensures.value c.bench_of.ensures.spelled)
+
+pub returns-clause-refused : goal.returns-clause-refused
+returns-clause-refused g c honest =
+    let k : ℕ = c.in-Ok.read.0 in
+    let file : List ℕ = g.D.Disk.reads c.args.disk.now in
+    let items : List Payload = c.in-Ok.read.1.items in
+    refused_read k file items c.bench_of.result (c.in-Ok.ensures.exact honest).good.0.payloads (c.in-Ok.ensures.exact honest).good.0.places
+    (subst (λ (l : List Payload). IfErr c.bench_of.result (RefusesPayloads k l)) c.deref.ensures.value c.bench_of.ensures.refused)
+
+pub returns-clause-first : goal.returns-clause-first
+returns-clause-first g c honest e stands =
+    absurd (none_read (g.D.Disk.reads c.args.disk.now) (contents_of c.in-Ok.read.0 c.in-Ok.read.1.items) e (c.in-Ok.ensures.exact honest) stands)
+
+pub returns-clause-cause : goal.returns-clause-cause
+returns-clause-cause g c is = absurd (no_fault_read c.in-Ok.read.0 c.deref.result.now c.bench_of.result c.bench_of.ensures.refused is)

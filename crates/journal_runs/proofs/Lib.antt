@@ -1,0 +1,5 @@
+pub mod AttachedLines
+pub mod TurnLemmas
+pub mod WorkLemmas
+pub mod UnreadLemmas
+pub mod RunLemmas

@@ -1,0 +1,269 @@
+-- What begun roots and the work behind them come to.
+use Rattle.std.proofs.Common.{length, ◌≡◌, ◌≤◌, ◌⊎◌, inl, inr, ⊎_elim, ℕ, List, [], ◌∷◌, ◌++◌, refl, ap, sym, ◌∙◌, subst, map, append_assoc, append-nil}
+use Rattle.std.specs.Prelude.{All, Contains, filter, Bool, true, false, cond, not, ◌||◌, if◌then◌else◌}
+use Rattle.std.specs.List.{list_any}
+use Rattle.std.proofs.lemmas.Bool.{true≢false, or_cases}
+use Rattle.std.proofs.lemmas.List.Folds.{list_any-append}
+use Rattle.std.proofs.lemmas.List.Elements.{All-head, All-tail, Contains-append_left, Contains-push, Contains-push_cases}
+use Rattle.draughts_board.specs.Board.{Board, same_board}
+use Rattle.draughts_board.specs.Same.{same_board-Decides}
+use Rattle.proof_tree.specs.Forest.{Forest, no_node, Node, nodes}
+use Rattle.proof_tree.specs.Sound.{root_positions}
+use Rattle.lease_table.specs.declared.leases.Row.{Row}
+use Rattle.bench_records.specs.declared.records.BenchRecord.{BenchRecord}
+use Rattle.bench_records.specs.declared.records.BenchRecord.TheVariants.{Begin, Solve, Expand}
+use Rattle.bench_core.specs.Records.{begun, is_work}
+use Rattle.bench_core.specs.Growing.{GrowsWith, GrowsWithAll, IsForestOf}
+use Rattle.bench_core.specs.States.{SessionSettings, are_settled}
+use Rattle.bench_core.specs.Cores.{Core, IsCommitted}
+use Rattle.bench_core.proofs.Lists.{Contains-here, Contains-there, Contains-cases, Contains-map}
+use Rattle.bench_core.proofs.OneForest.{roots_are_those_begun}
+use Rattle.bench_core.proofs.SoundApplied.{roots_grown}
+use Rattle.opening_report.specs.declared.roots.Root.{Root}
+use Rattle.opening_report.specs.Report.{report_of, root_of, forest_roots, AreTrueRoots, AreApart}
+use Rattle.turn_lock.specs.Growth.{GrowsTo}
+use Rattle.tree_manager.specs.declared.entries.Entry.{Entry}
+use Rattle.tree_manager.specs.declared.entries.Entry.TheVariants.{Put, Attached, Leased, Released, Acked, Broken}
+use Rattle.tree_manager.specs.declared.refusals.BeginRefusal.{BeginRefusal}
+use Rattle.tree_manager.specs.declared.refusals.BeginRefusal.TheVariants as begin
+use Rattle.tree_manager.specs.Entries.{record_put, breaks}
+use Rattle.tree_manager.specs.Lines.{recorded, applied_in, unapplied_in, is_failed}
+use Rattle.tree_manager.specs.Histories.{IsCoreOf}
+use Rattle.tree_manager.specs.Sessions.{SessionState, with_roots, with_roots_staged, BeginsRoots, HasBegun, RefusesBegin, MayAddInTurn}
+use Rattle.tree_manager.proofs.LineLemmas.{any_push_yes}
+use Rattle.tree_manager.proofs.CoreLemmas.{run_grown, contains_nothing}
+use Rattle.journal_runs.specs.declared.alone.Ended.{Ended}
+use Rattle.journal_runs.specs.declared.alone.Ended.TheVariants.{Done, Spent}
+use Rattle.journal_runs.specs.Ends.{IsIdle, IsEndedBy, GoesOnFrom, HasWorked}
+use Rattle.journal_runs.specs.Journals.{ReportsTruth}
+use Rattle.journal_runs.proofs.AttachedLines.{all_applied}
+
+-- ---- the roots of a list of records
+
+begun_cons : (r : BenchRecord) (rest : List BenchRecord) → begun (r ∷ rest) ≡ begun (r ∷ []) ++ begun rest
+begun_cons (Begin p) rest = refl
+begun_cons (Solve n p shown) rest = refl
+begun_cons (Expand n) rest = refl
+
+begun_append : (rs qs : List BenchRecord) → begun (rs ++ qs) ≡ begun rs ++ begun qs
+begun_append [] qs = refl
+begun_append (r ∷ rs) qs =
+    begun_cons r (rs ++ qs)
+    ∙ (ap (λ (ps : List Board). begun (r ∷ []) ++ ps) (begun_append rs qs)
+    ∙ (sym (append_assoc (begun (r ∷ [])) (begun rs) (begun qs)) ∙ ap (λ (ps : List Board). ps ++ begun qs) (sym (begun_cons r rs))))
+
+-- ---- no position is two of them
+
+abbrev AreOnce : List Board → Type 0
+AreOnce [] = Unit {0}
+AreOnce (p ∷ ps) = (Contains ps p → ⊥) × AreOnce ps
+
+push_once : (ps : List Board) (q : Board) → AreOnce ps → (Contains ps q → ⊥) → AreOnce (ps ++ q ∷ [])
+push_once [] q once absent = ((λ there. contains_nothing q there), tt)
+push_once (p ∷ ps) q once absent = (
+  (λ there. ⊎_elim once.0 (λ same. absent (subst (λ (x : Board). Contains (p ∷ ps) x) (sym same) (Contains-here p ps))) (Contains-push_cases ps q p there)),
+  push_once ps q once.1 (λ there. absent (Contains-there p q ps there)),
+)
+
+grown_once : (k : ℕ) (f g : Forest) (r : BenchRecord) → GrowsWith k f r g → AreOnce (root_positions f) → AreOnce (root_positions g)
+grown_once k f g (Begin p) grows once = subst AreOnce (sym (roots_grown k f g (Begin p) grows)) (push_once (root_positions f) p once (let may = grows.lawful in may.absent))
+grown_once k f g (Solve n p shown) grows once = subst AreOnce (sym (roots_grown k f g (Solve n p shown) grows ∙ append-nil (root_positions f))) once
+grown_once k f g (Expand n) grows once = subst AreOnce (sym (roots_grown k f g (Expand n) grows ∙ append-nil (root_positions f))) once
+
+all_once : (k : ℕ) (f : Forest) (rs : List BenchRecord) (g : Forest) → GrowsWithAll k f rs g → AreOnce (root_positions f) → AreOnce (root_positions g)
+all_once k f [] g grows once = subst (λ (h : Forest). AreOnce (root_positions h)) (sym grows) once
+all_once k f (r ∷ rs) g grows once = all_once k grows.0 rs g grows.1.1 (grown_once k f grows.0 r grows.1.0 once)
+
+root_places : (xs : List Node) → map (λ (r : Root). r.position) (map root_of xs) ≡ map (λ (x : Node). x.own.position) xs
+root_places [] = refl
+root_places (x ∷ xs) = ap (λ (ps : List Board). x.own.position ∷ ps) (root_places xs)
+
+are_apart : (xs : List Node) → AreOnce (map (λ (x : Node). x.own.position) xs) → AreApart (map root_of xs)
+are_apart [] once = tt
+are_apart (x ∷ xs) once = (
+  (λ q there same. once.0
+      (subst (λ (p : Board). Contains (map (λ (y : Node). y.own.position) xs) p) (sym same)
+      (subst (λ (ps : List Board). Contains ps q.position) (root_places xs) (Contains-map (λ (r : Root). r.position) (map root_of xs) q there)))),
+  are_apart xs once.1,
+)
+
+-- ---- each position is one of them
+
+any_there : (q : Board) (ps : List Board) → list_any (same_board q) ps ≡ true → Contains ps q
+any_there q [] h = absurd (true≢false (sym h))
+any_there q (p ∷ ps) h = ⊎_elim
+    (λ same. subst (λ (x : Board). Contains (p ∷ ps) x) (sym ((same_board-Decides q p).0 same)) (Contains-here p ps))
+    (λ rest. Contains-there p q ps (any_there q ps rest))
+    (or_cases (same_board q p) (list_any (same_board q) ps) h)
+
+more_roots : (b : Bool) (ps : List Board) (q p : Board) → Contains ps p → Contains (cond b ps (ps ++ q ∷ [])) p
+more_roots true ps q p there = there
+more_roots false ps q p there = Contains-append_left ps (q ∷ []) p there
+
+root_stays : (ps qs : List Board) (p : Board) → Contains ps p → Contains (with_roots ps qs) p
+root_stays ps [] p there = there
+root_stays ps (q ∷ qs) p there = root_stays (cond (list_any (same_board q) ps) ps (ps ++ q ∷ [])) qs p (more_roots (list_any (same_board q) ps) ps q p there)
+
+root_comes : (b : Bool) (ps : List Board) (q : Board) → list_any (same_board q) ps ≡ b → Contains (cond b ps (ps ++ q ∷ [])) q
+root_comes true ps q h = any_there q ps h
+root_comes false ps q h = Contains-push ps q
+
+each_comes : (ps qs : List Board) (p : Board) → Contains qs p → Contains (with_roots ps qs) p
+each_comes ps [] p there = absurd (contains_nothing p there)
+each_comes ps (q ∷ qs) p there = ⊎_elim
+    (λ same. subst (λ (x : Board). Contains (with_roots ps (q ∷ qs)) x) same
+    (root_stays (cond (list_any (same_board q) ps) ps (ps ++ q ∷ [])) qs q (root_comes (list_any (same_board q) ps) ps q refl)))
+    (λ rest. each_comes (cond (list_any (same_board q) ps) ps (ps ++ q ∷ [])) qs p rest)
+    (Contains-cases q p qs there)
+
+abbrev RootAt : List Node → Board → Type 0
+RootAt xs p = (r : Root) × (Contains (map root_of xs) r × (r.position ≡ p))
+
+root_found : (xs : List Node) (p : Board) → Contains (map (λ (x : Node). x.own.position) xs) p → RootAt xs p
+root_found [] p there = absurd (contains_nothing p there)
+root_found (x ∷ xs) p there = ⊎_elim
+    (λ same. (root_of x, (Contains-here (root_of x) (map root_of xs), same)))
+    (λ rest. let found = root_found xs p rest in (found.0, (Contains-there (root_of x) found.0 (map root_of xs) found.1.0, found.1.1)))
+    (Contains-cases x.own.position p (map (λ (y : Node). y.own.position) xs) there)
+
+pub reports_truth : (k : ℕ) (rs : List BenchRecord) (f : Forest) (old positions : List Board) (text : List ℕ) → IsForestOf k rs f → AreTrueRoots (forest_roots f) → length (forest_roots f) ≤ 65536 → text ≡ report_of (forest_roots f)
+    → root_positions f ≡ with_roots old positions → ReportsTruth positions text
+reports_truth k rs f old positions text grown values few is roots = record {
+  roots = forest_roots f;
+  few = few;
+  true_values = values;
+  text_is = is;
+  each = λ p there. root_found (nodes f) p (subst (λ (ps : List Board). Contains ps p) (sym roots) (each_comes old positions p there));
+  apart = are_apart (nodes f) (all_once k no_node rs f grown tt);
+}
+
+-- ---- lines
+
+recorded_append : (xs ys : List Entry) → recorded (xs ++ ys) ≡ recorded xs ++ recorded ys
+recorded_append [] ys = refl
+recorded_append (e ∷ xs) ys = ap (λ (rs : List BenchRecord). record_put e ++ rs) (recorded_append xs ys) ∙ sym (append_assoc (record_put e) (recorded xs) (recorded ys))
+
+abbrev begun_in : List Entry → List Board
+begun_in line = begun (recorded line)
+
+in_append : (xs ys : List Entry) → begun_in (xs ++ ys) ≡ begun_in xs ++ begun_in ys
+in_append xs ys = ap begun (recorded_append xs ys) ∙ begun_append (recorded xs) (recorded ys)
+
+abbrev pub root_puts : List Board → List Entry
+root_puts added = map (λ p. Put (Begin p)) added
+
+in_puts : (added : List Board) → begun_in (root_puts added) ≡ added
+in_puts [] = refl
+in_puts (p ∷ added) = ap (λ (ps : List Board). p ∷ ps) (in_puts added)
+
+in_last : (m : ℕ) (last : List Entry) → (last ≡ []) ⊎ (last ≡ Acked m ∷ []) → begun_in last ≡ []
+in_last m last (inl none) = ap begun_in none
+in_last m last (inr acked) = ap begun_in acked
+
+-- turns begin no root
+in_turns : (added : List Entry) → All MayAddInTurn added → begun_in added ≡ []
+in_turns [] all = refl
+in_turns (Put (Begin p) ∷ es) all = absurd (true≢false (sym (All-head MayAddInTurn (Put (Begin p)) es all)))
+in_turns (Put (Solve n p shown) ∷ es) all = in_turns es (All-tail MayAddInTurn (Put (Solve n p shown)) es all)
+in_turns (Put (Expand n) ∷ es) all = in_turns es (All-tail MayAddInTurn (Put (Expand n)) es all)
+in_turns (Attached a ∷ es) all = absurd (All-head MayAddInTurn (Attached a) es all)
+in_turns (Leased l ∷ es) all = in_turns es (All-tail MayAddInTurn (Leased l) es all)
+in_turns (Released id ∷ es) all = in_turns es (All-tail MayAddInTurn (Released id) es all)
+in_turns (Acked m ∷ es) all = in_turns es (All-tail MayAddInTurn (Acked m) es all)
+in_turns (Broken f ∷ es) all = in_turns es (All-tail MayAddInTurn (Broken f) es all)
+
+-- the roots of an idle session's forest
+idle_roots : {D : Type 0} (s : SessionState D) → IsIdle s → IsCoreOf s.line s.core → root_positions s.core.state.forest ≡ begun_in s.line
+idle_roots s idle stands =
+    roots_are_those_begun s.core.state.settings.pieces (applied_in s.line) s.core.state.forest stands.state.forest
+    ∙ ap begun (sym (all_applied s.line (sym stands.staged ∙ idle.none_staged)))
+
+-- ---- behind the beginning of roots
+
+whole_puts : (m : ℕ) (added : List Board) (last : List Entry) → (last ≡ []) ⊎ (last ≡ Acked m ∷ []) → is_failed (root_puts added ++ last) ≡ false
+whole_puts m [] last (inl none) = ap is_failed none
+whole_puts m [] last (inr acked) = ap is_failed acked
+whole_puts m (p ∷ added) last h = whole_puts m added last h
+
+module _ {D : Type 0} (old mid : SessionState D) (positions : List Board) (m : ℕ) (begins : HasBegun old positions m mid) where
+  pub begun_idle : IsIdle old → IsIdle mid
+  begun_idle idle = record {
+    unfailed =
+        ap is_failed begins.roots.line
+        ∙ (list_any-append breaks old.line (root_puts begins.roots.added ++ begins.last)
+        ∙ (ap (λ b. b || is_failed (root_puts begins.roots.added ++ begins.last)) idle.unfailed
+        ∙ whole_puts m begins.roots.added begins.last begins.acknowledged));
+    none_staged = begins.none_staged;
+    unleased = ⊎_elim
+        (λ same. ap (λ (c : Core). c.state.leases.rows) same ∙ idle.unleased)
+        (λ committed. committed.ended ∙ ap (filter (λ (row : Row). not row.kept)) idle.unleased)
+        begins.applied;
+  }
+
+  pub begun_settings : mid.core.state.settings ≡ old.core.state.settings
+  begun_settings = ⊎_elim
+      (λ same. ap (λ (c : Core). c.state.settings) same)
+      (λ committed. (run_grown (with_roots_staged old.core begins.roots.added).state mid.core.state committed.events committed.run).settings)
+      begins.applied
+
+  pub worked_goes_on : (new : List Entry) → GrowsTo MayAddInTurn mid.line new → GoesOnFrom old.line new
+  worked_goes_on new grows = (
+    (root_puts begins.roots.added ++ begins.last) ++ grows.added,
+    sym grows.whole ∙ (ap (λ (l : List Entry). l ++ grows.added) begins.roots.line ∙ append_assoc old.line (root_puts begins.roots.added ++ begins.last) grows.added),
+  )
+
+  module _ (new : SessionState D) (was : IsIdle old) (stood : IsCoreOf old.line old.core) (grows : GrowsTo MayAddInTurn mid.line new.line) (idle : IsIdle new) (stands : IsCoreOf new.line new.core) where
+    mid_roots : begun_in mid.line ≡ begun_in old.line ++ begins.roots.added
+    mid_roots =
+        let puts = root_puts begins.roots.added in
+        ap begun_in begins.roots.line
+        ∙ (in_append old.line (puts ++ begins.last)
+        ∙ ap (λ (ps : List Board). begun_in old.line ++ ps)
+        (in_append puts begins.last
+        ∙ (ap (λ (ps : List Board). begun_in puts ++ ps) (in_last m begins.last begins.acknowledged) ∙ (append-nil (begun_in puts) ∙ in_puts begins.roots.added))))
+
+    pub roots_after : root_positions new.core.state.forest ≡ with_roots (root_positions old.core.state.forest) positions
+    roots_after =
+        idle_roots new idle stands
+        ∙ (ap begun_in (sym grows.whole)
+        ∙ (in_append mid.line grows.added
+        ∙ (ap (λ (ps : List Board). begun_in mid.line ++ ps) (in_turns grows.added grows.allowed)
+        ∙ (append-nil (begun_in mid.line)
+        ∙ (mid_roots
+        ∙ (ap (λ (ps : List Board). ps ++ begins.roots.added) (sym (idle_roots old was stood)) ∙ begins.roots.all))))))
+
+    pub worked_from : (text_of : Forest → List ℕ) (text : List ℕ) (settled : Bool) → text ≡ text_of new.core.state.forest → settled ≡ are_settled new.core.state.forest
+        → (settled ≡ false → new.core.state.settings.budget ≤ new.core.state.work) → HasWorked text_of old positions new text settled
+    worked_from text_of text settled text_is settled_is spent = record { idle = idle; stands = stands; text_is = text_is; roots_are = roots_after; settled_is = settled_is; spent = spent }
+
+    pub truth_after : (text : List ℕ) → AreTrueRoots (forest_roots new.core.state.forest) → length (forest_roots new.core.state.forest) ≤ 65536 → text ≡ report_of (forest_roots new.core.state.forest) → ReportsTruth positions text
+    truth_after text values few is =
+        reports_truth new.core.state.settings.pieces (applied_in new.line) new.core.state.forest (root_positions old.core.state.forest) positions text stands.state.forest values few is roots_after
+
+  -- by how the work ended
+  module _ (new : SessionState D) (was : IsIdle old) (stood : IsCoreOf old.line old.core) (grows : GrowsTo MayAddInTurn mid.line new.line) (stands : IsCoreOf new.line new.core) (how : Ended) (ended : IsEndedBy how new) where
+    pub worked_done : (text_of : Forest → List ℕ) (text : List ℕ) (settled : Bool) → how ≡ Done → settled ≡ true → text ≡ text_of new.core.state.forest → HasWorked text_of old positions new text settled
+    worked_done text_of text settled is_done is_true text_is =
+        let done = subst (λ h. IsEndedBy h new) is_done ended in
+        worked_from new was stood grows done.0 stands text_of text settled text_is (is_true ∙ sym done.1) (λ h. absurd (true≢false (sym is_true ∙ h)))
+
+    pub worked_spent : (text_of : Forest → List ℕ) (text : List ℕ) (settled : Bool) → how ≡ Spent → settled ≡ false → text ≡ text_of new.core.state.forest → HasWorked text_of old positions new text settled
+    worked_spent text_of text settled is_spent is_false text_is =
+        let spent = subst (λ h. IsEndedBy h new) is_spent ended in
+        worked_from new was stood grows spent.0 stands text_of text settled text_is (is_false ∙ sym spent.1.0) (λ h. spent.1.1)
+
+    pub truth_done : (text : List ℕ) → how ≡ Done → AreTrueRoots (forest_roots new.core.state.forest) → length (forest_roots new.core.state.forest) ≤ 65536 → text ≡ report_of (forest_roots new.core.state.forest) → ReportsTruth positions text
+    truth_done text is_done values few is = truth_after new was stood grows (subst (λ h. IsEndedBy h new) is_done ended).0 stands text values few is
+
+    pub truth_spent : (text : List ℕ) → how ≡ Spent → AreTrueRoots (forest_roots new.core.state.forest) → length (forest_roots new.core.state.forest) ≤ 65536 → text ≡ report_of (forest_roots new.core.state.forest) → ReportsTruth positions text
+    truth_spent text is_spent values few is = truth_after new was stood grows (subst (λ h. IsEndedBy h new) is_spent ended).0 stands text values few is
+
+-- ---- refusals of the beginning
+
+pub broken_fails : {D : Type 0} (old new : SessionState D) (positions : List Board) (f : ℕ) → BeginsRoots old positions (Broken f ∷ []) new → is_failed new.line ≡ true
+broken_fails old new positions f h =
+    ap is_failed (h.line ∙ sym (append_assoc old.line (root_puts h.added) (Broken f ∷ []))) ∙ any_push_yes breaks (old.line ++ root_puts h.added) (Broken f) refl
+
+pub begin_failed : {D : Type 0} (faults : D → ℕ) (old new : SessionState D) (positions : List Board) (refusal : BeginRefusal) → RefusesBegin faults old positions new refusal → refusal ≡ begin.Disk → is_failed new.line ≡ true
+begin_failed faults old new positions refusal h is =
+    let broken = subst (RefusesBegin faults old positions new) is h in broken_fails old new positions (faults new.disk) broken.1.0

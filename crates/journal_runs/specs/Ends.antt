@@ -1,0 +1,77 @@
+-- How the work on a session ends, and what it has come to by then.
+use Rattle.std.specs.Prelude.{◌≡◌, ◌≤◌, ◌<◌, ◌⊎◌, ℕ, Bool, true, false, List, [], ◌∷◌, ◌++◌, length}
+use Rattle.draughts_board.specs.Board.{Board}
+use Rattle.disk_journal.specs.Refusals.{says_nothing_of_file}
+use Rattle.disk_journal.specs.declared.refusal.JournalRefusal.{JournalRefusal}
+use Rattle.disk_journal.specs.declared.refusal.JournalRefusal.TheVariants as journal
+use Rattle.proof_tree.specs.Forest.{Forest}
+use Rattle.proof_tree.specs.Sound.{root_positions}
+use Rattle.bench_core.specs.States.{are_settled}
+use Rattle.tree_manager.specs.declared.entries.Entry.{Entry}
+use Rattle.tree_manager.specs.Lines.{is_failed}
+use Rattle.tree_manager.specs.Histories.{IsCoreOf}
+use Rattle.tree_manager.specs.Sessions.{SessionState, with_roots}
+use Rattle.journal_runs.specs.declared.alone.Ended.{Ended}
+use Rattle.journal_runs.specs.declared.alone.Ended.TheVariants.{Done, Spent, Failed, Memory}
+use Rattle.journal_runs.specs.declared.refusals.JournalFlaw.{JournalFlaw}
+use Rattle.journal_runs.specs.declared.refusals.JournalFlaw.TheVariants as flaw
+use Rattle.journal_runs.specs.declared.refusals.RunRefusal.{RunRefusal}
+use Rattle.journal_runs.specs.declared.refusals.RunRefusal.TheVariants as refusal
+
+-- ---- a session's work
+
+-- The session has not failed, nothing is staged, and no lease lives.
+pub record IsIdle {D : Type 0} (s : SessionState D) : Type 0 where
+  pub unfailed : is_failed s.line ≡ false
+  pub none_staged : s.core.staged ≡ []
+  pub unleased : s.core.state.leases.rows ≡ []
+
+-- With `Done` and `Spent` the session is idle. After want of memory nothing is said.
+abbrev pub IsEndedBy : {D : Type 0} → Ended → SessionState D → Type 0
+IsEndedBy Done s = IsIdle s × (are_settled s.core.state.forest ≡ true)
+IsEndedBy Spent s =
+    IsIdle s × ((are_settled s.core.state.forest ≡ false)
+    × (s.core.state.settings.budget ≤ s.core.state.work))
+IsEndedBy Failed s = is_failed s.line ≡ true
+IsEndedBy Memory s = Unit {0}
+
+-- the line goes on from the old one
+abbrev pub GoesOnFrom : List Entry → List Entry → Type 0
+GoesOnFrom old new = (rest : List Entry) × (new ≡ old ++ rest)
+
+-- The roots were begun, all that was added is applied, and the text is that of the forest. A root
+-- is unsettled only where the session's budget is spent. The line stands for the core.
+pub record HasWorked {D : Type 0} (text_of : Forest → List ℕ) (old : SessionState D)
+    (positions : List Board) (new : SessionState D) (text : List ℕ)
+    (is_settled : Bool) : Type 0 where
+  pub idle : IsIdle new
+  pub stands : IsCoreOf new.line new.core
+  pub text_is : text ≡ text_of new.core.state.forest
+  pub roots_are : root_positions new.core.state.forest
+      ≡ with_roots (root_positions old.core.state.forest) positions
+  pub settled_is : is_settled ≡ are_settled new.core.state.forest
+  pub spent : is_settled ≡ false → new.core.state.settings.budget ≤ new.core.state.work
+
+-- ---- refusals
+
+-- why a session's work is refused
+abbrev pub IsWorkRefusal : {D : Type 0} → SessionState D → List Board → RunRefusal → Type 0
+IsWorkRefusal s positions refusal.Disk = Unit {0}
+IsWorkRefusal s positions (refusal.Journal e) = ⊥
+IsWorkRefusal s positions refusal.TooManyRoots =
+    65536 < length (with_roots (root_positions s.core.state.forest) positions)
+IsWorkRefusal s positions refusal.Memory = Unit {0}
+
+-- the journal's refusal for what stands on its disk
+abbrev pub refusal_of_flaw : JournalFlaw → JournalRefusal
+refusal_of_flaw flaw.NotAJournal = journal.NotAJournal
+refusal_of_flaw (flaw.OtherTable found asked) = journal.OtherTable found asked
+refusal_of_flaw (flaw.Damaged at) = journal.Damaged at
+
+-- the refusal of a run whose journal is not attached
+abbrev pub IsRefusalOf : JournalRefusal → RunRefusal → Type 0
+IsRefusalOf e refusal.Disk = e ≡ journal.DiskFault
+IsRefusalOf e (refusal.Journal flaw) = e ≡ refusal_of_flaw flaw
+IsRefusalOf e refusal.TooManyRoots = ⊥
+IsRefusalOf e refusal.Memory =
+    (says_nothing_of_file e ≡ true) × (e ≡ journal.DiskFault → ⊥)

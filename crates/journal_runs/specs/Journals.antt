@@ -1,0 +1,99 @@
+-- What a run leaves of the journal on its disk, and what it writes of it. Tables are of so many
+-- pieces.
+use Rattle.std.specs.Prelude.{◌≡◌, ◌≤◌, ◌<◌, ◌⊎◌, ◌+◌, ℕ, Bool, true, false, List, ◌++◌, count_by, length, Contains}
+use Rattle.bench_disk.specs.Disk.{AddsNone, NothingPending}
+use Rattle.shared_words.specs.Counts.{Rose}
+use Rattle.draughts_board.specs.Board.{Board}
+use Rattle.proof_tree.specs.Forest.{Forest}
+use Rattle.proof_tree.specs.Sound.{root_positions}
+use Rattle.bench_records.specs.declared.records.BenchRecord.{BenchRecord}
+use Rattle.bench_core.specs.Records.{is_work, begun}
+use Rattle.bench_core.specs.Growing.{IsForestOf}
+use Rattle.bench_core.specs.States.{are_settled}
+use Rattle.opening_report.specs.declared.roots.Root.{Root}
+use Rattle.opening_report.specs.Report.{report_of, AreTrueRoots, AreApart}
+use Rattle.tree_manager.specs.Receipts.{ReadsRecords, ReadsBetween}
+use Rattle.tree_manager.specs.Replaying.{ExplainsAttach}
+use Rattle.tree_manager.specs.Sessions.{session_budget, with_roots}
+use Rattle.journal_runs.specs.declared.refusals.JournalFlaw.{JournalFlaw}
+use Rattle.journal_runs.specs.declared.refusals.RunRefusal.{RunRefusal}
+use Rattle.journal_runs.specs.declared.refusals.RunRefusal.TheVariants as refusal
+use Rattle.journal_runs.specs.Ends.{refusal_of_flaw}
+
+-- ---- what is left of the disk
+
+-- of the disk at entry, and of the disk that is handed back
+module _ {D : Type 0} (reads : D → List ℕ) (images : D → List ℕ → Type 0)
+    (images_since : D → ℕ → List ℕ → Type 0) (moment faults : D → ℕ) where
+  -- A crash since the opening sync, or one straight behind the run, may leave this image.
+  abbrev pub MayLeave : D → D → List ℕ → Type 0
+  MayLeave old new image = images_since new (moment old + 1) image ⊎ images new image
+
+  -- Each such image reads as the records of before and the first few of those beyond them.
+  abbrev pub Recovers : ℕ → List BenchRecord → List BenchRecord → D → D → Type 0
+  Recovers pieces before most old new =
+      (image : List ℕ) → MayLeave old new image → ReadsBetween pieces before most image
+
+  -- The disk reads as before, and a crash may leave what it might have left before.
+  pub record Stays (old new : D) : Type 0 where
+    pub same : reads new ≡ reads old
+    pub none_added : AddsNone (images old) (images new)
+    pub none_lost : AddsNone (images new) (images old)
+
+  -- However a run ends: what the disk read as is recovered, a disk that read as no such journal
+  -- stays, and nothing is pending, unless faults rose.
+  pub record KeepsJournal (pieces : ℕ) (old new : D) : Type 0 where
+    pub recovers : (before : List BenchRecord) → ReadsRecords pieces (reads old) before
+        → (most : List BenchRecord) × Recovers pieces before most old new
+    pub unread : ((before : List BenchRecord) → ¬ ReadsRecords pieces (reads old) before)
+        → Stays old new
+    pub settled : NothingPending (reads new) (images new) ⊎ Rose (faults old) (faults new)
+
+  -- ---- a run that comes to its output
+
+  -- Each root is settled, or the budget is spent: the run has added that many work records.
+  abbrev pub SettlesOrSpends : ℕ → List BenchRecord → List BenchRecord → Forest → Bool → Type 0
+  SettlesOrSpends budget before added roots true = are_settled roots ≡ true
+  SettlesOrSpends budget before added roots false =
+      (are_settled roots ≡ false) × (session_budget budget before ≤ count_by is_work added)
+
+  -- The run went on from the records of before, and the journal reads as these and those that it
+  -- added. The text is that of their forest, whose roots are the old ones and then the positions
+  -- that were none.
+  pub record Resumes (text_of : Forest → List ℕ) (pieces budget : ℕ) (positions : List Board)
+      (old new : D) (text : List ℕ) (is_settled : Bool) : Type 0 where
+    pub before : List BenchRecord
+    pub added : List BenchRecord
+    pub read_then : ReadsRecords pieces (reads old) before
+    pub reads_now : ReadsRecords pieces (reads new) (before ++ added)
+    pub roots : Forest
+    pub grown : IsForestOf pieces (before ++ added) roots
+    pub text_is : text ≡ text_of roots
+    pub roots_are : root_positions roots ≡ with_roots (begun before) positions
+    pub crash : Recovers pieces before (before ++ added) old new
+    pub ends : SettlesOrSpends budget before added roots is_settled
+
+-- The text is the report of roots, each with no value but the true one. Each of the positions is
+-- one of them, and no position is two of them.
+pub record ReportsTruth (positions : List Board) (text : List ℕ) : Type 0 where
+  pub roots : List Root
+  pub few : length roots ≤ 65536
+  pub true_values : AreTrueRoots roots
+  pub text_is : text ≡ report_of roots
+  pub each : (p : Board) → Contains positions p
+      → (r : Root) × (Contains roots r × (r.position ≡ p))
+  pub apart : AreApart roots
+
+-- ---- why a run is refused
+
+-- Of what the disk read as: it was no journal for the table, and is explained; or there would be
+-- too many roots. A fault of the disk shows in its faults, and want of memory is free.
+abbrev pub IsCaused : ℕ → List Board → List ℕ → RunRefusal → Type 0
+IsCaused pieces positions file refusal.Disk = Unit {0}
+IsCaused pieces positions file (refusal.Journal flaw) =
+    ExplainsAttach file pieces (refusal_of_flaw flaw)
+    × ((before : List BenchRecord) → ¬ ReadsRecords pieces file before)
+IsCaused pieces positions file refusal.TooManyRoots =
+    (before : List BenchRecord) → ReadsRecords pieces file before
+    → 65536 < length (with_roots (begun before) positions)
+IsCaused pieces positions file refusal.Memory = Unit {0}

@@ -1,0 +1,15 @@
+//! A run on a journal by one thread: it goes on with what the journal has, works, and reports.
+//!
+//! What a run leaves of its disk, and what it writes, stands in `specs/Journals.antt`. A crash at any moment loses
+//! nothing that was acknowledged, and the next run goes on from there.
+#![tactic(auto)]
+
+mod alone;
+mod refusals;
+mod runs;
+#[cfg(test)]
+mod tests;
+
+pub use alone::{Ended, work_alone};
+pub use refusals::{JournalFlaw, RunRefusal};
+pub use runs::{Ran, solve};

@@ -1,0 +1,62 @@
+-- What a run on a journal, and a look at one, answer and refuse.
+use Rattle.std.proofs.Common.{◌≡◌, ℕ, ◌<◌, ◌^◌, Bool, List, refl, sym, ◌∙◌, subst, arith, lit<}
+use Rattle.std.specs.Prelude.{IfErr, Result, Ok, Err}
+use Rattle.bench_edges.specs.declared.words.Command.TheVariants.{Solve}
+use Rattle.bench_edges.specs.declared.words.Options.{Options}
+use Rattle.draughts_board.specs.Board.{Board}
+use Rattle.journal_looks.specs.Looks.{IsTrueReport}
+use Rattle.journal_runs.specs.Journals.{IsCaused}
+use Rattle.journal_runs.specs.declared.refusals.RunRefusal.{RunRefusal}
+use Rattle.journal_runs.specs.declared.refusals.RunRefusal.TheVariants as run
+use Rattle.opening_report.specs.declared.refusals.Refusal.{Refusal}
+use Rattle.opening_report.specs.declared.refusals.Refusal.TheVariants as refusal
+use Rattle.opening_report.proofs.ReportLemmas.{report-is_true}
+use Rattle.opening_bench.specs.Accepted.{HasRoom, IsUnrefused}
+use Rattle.opening_bench.specs.Bench.{status_of}
+use Rattle.opening_bench.specs.Disks.{IsRefusedRun, of_run}
+use Rattle.opening_bench.specs.Solving.{roots_of_openings}
+use Rattle.opening_bench.specs.Steps.{AcceptsBytes, AreRootsIn, SaysTrue}
+
+-- the report of a look at a journal says what is true
+pub true_report_says : (text : List ℕ) → IsTrueReport text → SaysTrue text
+true_report_says text p front back whole =
+    let k : 65538 < 2 ^ 64 = lit< tt in
+    let few = p.few in
+    report-is_true p.roots front back (omega (arith, few, k)) p.values (sym p.text_is ∙ whole)
+
+module _ {D : Type 0} (tells : Bool) (reads : D → List ℕ) (images : D → List ℕ → Type 0) (images_since : D → ℕ → List ℕ → Type 0) (moment faults : D → ℕ) where
+  moved : (pieces : ℕ) (seen positions : List Board) (old new : D) (r : Refusal) → seen ≡ positions
+      → IsRefusedRun tells reads images images_since moment faults pieces seen old new r → IsRefusedRun tells reads images images_since moment faults pieces positions old new r
+  moved pieces seen positions old new r same h = subst (λ ps. IsRefusedRun tells reads images images_since moment faults pieces ps old new r) same h
+
+  -- a journal that has room is not refused
+  unrefused : (pieces : ℕ) (positions : List Board) (old new : D) (r : Refusal) (fault : RunRefusal) → r ≡ of_run fault → HasRoom tells reads pieces positions old
+      → IsCaused pieces positions (reads old) fault → IsUnrefused (status_of r)
+  unrefused pieces positions old new r run.Disk is room caused = subst (λ q. IsUnrefused (status_of q)) (sym is) ((λ e. absurd cc), (λ e. absurd cc))
+  unrefused pieces positions old new r (run.Journal flaw) is room caused = absurd (caused.1 room.records room.read)
+  unrefused pieces positions old new r run.TooManyRoots is room caused =
+      let many = caused room.records room.read in
+      let few = room.room in
+      absurd (omega (arith, many, few))
+  unrefused pieces positions old new r run.Memory is room caused = subst (λ q. IsUnrefused (status_of q)) (sym is) ((λ e. absurd cc), (λ e. absurd cc))
+
+  pub run_accepts : (options : Options) (text : List ℕ) (positions seen : List Board) (old new : D) (r : Refusal) → AreRootsIn options.plies text positions → seen ≡ positions
+      → IsRefusedRun tells reads images images_since moment faults options.pieces seen old new r
+      → AcceptsBytes tells reads (Solve options) text old r
+  run_accepts options text positions seen old new r roots same h good room =
+      let all = roots_of_openings roots.openings in
+      let k = moved options.pieces seen all old new r (same ∙ roots.all) h in
+      let there = room roots.openings roots.read in
+      unrefused options.pieces all old new r k.fault k.is there (k.caused there.honest)
+
+  -- the same of an answer, if it is a refusal
+  pub run_all_accepts : {X : Type 0} (options : Options) (text : List ℕ) (positions seen : List Board) (old new : D) (r : Result X Refusal) → AreRootsIn options.plies text positions → seen ≡ positions
+      → IfErr r (IsRefusedRun tells reads images images_since moment faults options.pieces seen old new)
+      → IfErr r (AcceptsBytes tells reads (Solve options) text old)
+  run_all_accepts options text positions seen old new (Ok x) roots same h = tt
+  run_all_accepts options text positions seen old new (Err r) roots same h = run_accepts options text positions seen old new r roots same h
+
+-- want of memory before the disk is used
+pub no_memory : {D : Type 0} (tells : Bool) (reads : D → List ℕ) (images : D → List ℕ → Type 0) (images_since : D → ℕ → List ℕ → Type 0) (moment faults : D → ℕ) (pieces : ℕ) (positions : List Board) (disk : D)
+    → IsRefusedRun tells reads images images_since moment faults pieces positions disk disk refusal.Memory
+no_memory tells reads images images_since moment faults pieces positions disk = record { fault = run.Memory; is = refl; disk = λ e. absurd cc; caused = λ honest. tt }

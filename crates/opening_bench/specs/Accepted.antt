@@ -1,0 +1,60 @@
+-- What is not refused as bad input or as no journal.
+use Rattle.std.specs.Prelude.{◌≡◌, ◌≢◌, ℕ, ◌≤◌, Bool, List, length, Option, IfSome}
+use Rattle.draughts_board.specs.Board.{Board}
+use Rattle.bench_edges.specs.declared.status.Status.{Status}
+use Rattle.bench_edges.specs.declared.status.Status.TheVariants.{Input, Journal}
+use Rattle.bench_edges.specs.declared.words.Command.{Command}
+use Rattle.bench_edges.specs.declared.words.Command.TheVariants.{Solve, Report, Certify, Verify, MakeTable, TableCheck}
+use Rattle.bench_disk.specs.Disk.{IsHonest}
+use Rattle.bench_core.specs.Records.{begun}
+use Rattle.bench_records.specs.declared.records.BenchRecord.{BenchRecord}
+use Rattle.certificate_text.specs.Text.{ReadsAs}
+use Rattle.endgame_table.specs.Bytes.{bytes_of}
+use Rattle.endgame_table.specs.Entries.{IsTable}
+use Rattle.pdn_openings.specs.declared.opening.Opening.{Opening}
+use Rattle.strategy_certificate.specs.Certificates.{IsGood}
+use Rattle.strategy_certificate.specs.declared.certificates.Certificate.{Certificate}
+use Rattle.tree_manager.specs.Receipts.{ReadsRecords}
+use Rattle.tree_manager.specs.Sessions.{with_roots}
+use Rattle.opening_bench.specs.Commands.{source_limit}
+use Rattle.opening_bench.specs.Solving.{OpeningsOf, roots_of_openings}
+
+-- the bytes are good for the command: openings can be read of them, or a good certificate, or a
+-- sound table
+abbrev pub IsGoodFor : Command → List ℕ → Type 0
+IsGoodFor (Solve options) bytes =
+    (openings : List Opening) × OpeningsOf options.plies bytes openings
+IsGoodFor Report bytes = ⊥
+IsGoodFor (Certify root) bytes = ⊥
+IsGoodFor Verify bytes = (c : Certificate) × (IsGood c × ReadsAs bytes c)
+IsGoodFor (MakeTable pieces) bytes = ⊥
+IsGoodFor TableCheck bytes =
+    (k : ℕ) × ((numbers : List ℕ) × (IsTable k numbers × (bytes ≡ bytes_of k numbers)))
+
+-- neither bad input nor no journal
+abbrev pub IsUnrefused : Status → Type 0
+IsUnrefused status = (status ≢ Input) × (status ≢ Journal)
+
+-- The disk reads as a journal for the table, which has room for the roots.
+pub record HasRoom {D : Type 0} (tells : Bool) (reads : D → List ℕ) (pieces : ℕ)
+    (positions : List Board) (disk : D) : Type 0 where
+  pub honest : IsHonest tells
+  pub records : List BenchRecord
+  pub read : ReadsRecords pieces (reads disk) records
+  pub room : length (with_roots (begun records) positions) ≤ 65536
+
+-- .. for the roots of the source's openings
+abbrev pub HasRoomFor : {D : Type 0} → Bool → (D → List ℕ) → Command → List ℕ → D → Type 0
+HasRoomFor tells reads (Solve options) bytes disk =
+    (openings : List Opening) → OpeningsOf options.plies bytes openings
+    → HasRoom tells reads options.pieces (roots_of_openings openings) disk
+HasRoomFor tells reads command bytes disk = Unit {0}
+
+-- A source of the right length that is good for the command, and a journal that has room for it, are
+-- not refused.
+abbrev pub Accepts : {D : Type 0} → Bool → (D → List ℕ) → Command → Option (List ℕ) → D → Status
+    → Type 0
+Accepts tells reads command source disk status =
+    IfSome source (λ told. IsGoodFor command told
+    → IfSome (source_limit command) (λ limit. length told ≤ limit)
+    → HasRoomFor tells reads command told disk → IsUnrefused status)

@@ -1,0 +1,118 @@
+-- Three words by command say all that a command is to its disk: what it leaves of it, what its
+-- output shows of it, and why it is refused for it. A new command has a case in each.
+use Rattle.std.specs.Prelude.{◌≡◌, ◌⊎◌, ℕ, Bool, List}
+use Rattle.bench_disk.specs.Disk.{IsHonest, NothingPending}
+use Rattle.shared_words.specs.Counts.{Rose}
+use Rattle.draughts_board.specs.Board.{Board}
+use Rattle.bench_edges.specs.declared.words.Command.{Command}
+use Rattle.bench_edges.specs.declared.words.Command.TheVariants.{Solve, Report, Certify, Verify, MakeTable, TableCheck}
+use Rattle.bench_edges.specs.declared.words.Options.{Options}
+use Rattle.certificate_text.specs.Text.{ReadsAs}
+use Rattle.disk_journal.specs.declared.refusal.JournalRefusal.TheVariants as journal
+use Rattle.pdn_openings.specs.declared.opening.Opening.{Opening}
+use Rattle.strategy_certificate.specs.declared.certificates.Certificate.{Certificate}
+use Rattle.opening_report.specs.Conversions.{of_journal}
+use Rattle.opening_report.specs.Report.{forest_roots, report_of}
+use Rattle.opening_report.specs.declared.refusals.Refusal.{Refusal}
+use Rattle.opening_report.specs.declared.refusals.Refusal.TheVariants as refusal
+use Rattle.journal_looks.specs.Looks.{Stays, Shows, Certifies, ExplainsNoReport, ExplainsNoCertificate}
+use Rattle.journal_looks.specs.declared.refusals.LookRefusal.{LookRefusal}
+use Rattle.journal_looks.specs.declared.refusals.LookRefusal.TheVariants as look
+use Rattle.journal_runs.specs.Journals.{KeepsJournal, Resumes, IsCaused}
+use Rattle.journal_runs.specs.declared.refusals.JournalFlaw.{JournalFlaw}
+use Rattle.journal_runs.specs.declared.refusals.JournalFlaw.TheVariants as flaw
+use Rattle.journal_runs.specs.declared.refusals.RunRefusal.{RunRefusal}
+use Rattle.journal_runs.specs.declared.refusals.RunRefusal.TheVariants as run
+use Rattle.opening_bench.specs.Solving.{OpeningsOf, roots_of_openings}
+
+-- ---- refusals of a crate below, as the program's own
+
+-- of bytes that are no journal for the tables that are asked for
+abbrev pub of_flaw : JournalFlaw → Refusal
+of_flaw flaw.NotAJournal = refusal.NotAJournal
+of_flaw (flaw.OtherTable found asked) = refusal.OtherTable found asked
+of_flaw (flaw.Damaged at) = refusal.Damaged at
+
+-- of a run on a journal
+abbrev pub of_run : RunRefusal → Refusal
+of_run run.Disk = refusal.Disk
+of_run (run.Journal flaw) = of_flaw flaw
+of_run run.TooManyRoots = refusal.TooManyRoots
+of_run run.Memory = refusal.Memory
+
+-- of a look at a journal
+abbrev pub of_look : LookRefusal → Refusal
+of_look (look.Journal fault) = of_journal fault
+of_look (look.NoRoot n) = refusal.NoRoot n
+of_look (look.UnsettledRoot n) = refusal.UnsettledRoot n
+
+-- ---- of the disk at entry, and of the disk that is handed back
+
+module _ {D : Type 0} (tells : Bool) (reads : D → List ℕ) (images : D → List ℕ → Type 0)
+    (images_since : D → ℕ → List ℕ → Type 0) (moment faults : D → ℕ) where
+  -- What is left of the disk, however the run ends. A run that begins with nothing pending keeps
+  -- the journal, a look at it leaves it, and the others make no call of the disk.
+  abbrev pub LeavesDisk : Command → D → D → Type 0
+  LeavesDisk (Solve options) old new =
+      (new ≡ old)
+      ⊎ (IsHonest tells → NothingPending (reads old) (images old)
+      → KeepsJournal reads images images_since moment faults options.pieces old new)
+  LeavesDisk Report old new = IsHonest tells → Stays reads images old new
+  LeavesDisk (Certify root) old new = IsHonest tells → Stays reads images old new
+  LeavesDisk Verify old new = new ≡ old
+  LeavesDisk (MakeTable pieces) old new = new ≡ old
+  LeavesDisk TableCheck old new = new ≡ old
+
+  -- The run went on from what the disk read as, with the source's openings.
+  pub record HasResumed (options : Options) (source : List ℕ) (old new : D) (text : List ℕ)
+      (settled : Bool) : Type 0 where
+    pub openings : List Opening
+    pub read : OpeningsOf options.plies source openings
+    pub resumed : IsHonest tells →
+        Resumes reads images images_since moment faults (λ roots. report_of (forest_roots roots))
+        options.pieces options.budget (roots_of_openings openings) old new text settled
+
+  -- the text is that of the certificate of a root that the disk reads as
+  abbrev pub HasCertified : ℕ → D → List ℕ → Type 0
+  HasCertified root old text =
+      IsHonest tells → (c : Certificate) × (ReadsAs text c × Certifies (reads old) root c)
+
+  -- what a run that comes to its output shows of the disk
+  abbrev pub ShowsDisk : Command → List ℕ → D → D → List ℕ → Bool → Type 0
+  ShowsDisk (Solve options) source old new text settled =
+      HasResumed options source old new text settled
+  ShowsDisk Report source old new text settled =
+      IsHonest tells → Shows (reads old) text settled
+  ShowsDisk (Certify root) source old new text settled = HasCertified root old text
+  ShowsDisk Verify source old new text settled = Unit {0}
+  ShowsDisk (MakeTable pieces) source old new text settled = Unit {0}
+  ShowsDisk TableCheck source old new text settled = Unit {0}
+
+  -- A run with these positions is refused: the faults of the disk rose, its bytes are no such
+  -- journal, there would be too many roots, or memory ran out.
+  pub record IsRefusedRun (pieces : ℕ) (positions : List Board) (old new : D) (r : Refusal)
+      : Type 0 where
+    pub fault : RunRefusal
+    pub is : r ≡ of_run fault
+    pub disk : fault ≡ run.Disk → Rose (faults old) (faults new)
+    pub caused : IsHonest tells → IsCaused pieces positions (reads old) fault
+
+  -- A look at the disk is refused: its faults rose, or what it reads as explains it so.
+  pub record IsLookFault (Explains : List ℕ → LookRefusal → Type 0) (old new : D) (r : Refusal)
+      : Type 0 where
+    pub fault : LookRefusal
+    pub is : r ≡ of_look fault
+    pub disk : fault ≡ look.Journal journal.DiskFault → Rose (faults old) (faults new)
+    pub explained : IsHonest tells → Explains (reads old) fault
+
+  -- why the disk refuses the command
+  abbrev pub HasDiskFault : Command → List ℕ → D → D → Refusal → Type 0
+  HasDiskFault (Solve options) source old new r =
+      (openings : List Opening) × (OpeningsOf options.plies source openings
+      × IsRefusedRun options.pieces (roots_of_openings openings) old new r)
+  HasDiskFault Report source old new r = IsLookFault ExplainsNoReport old new r
+  HasDiskFault (Certify root) source old new r =
+      IsLookFault (λ file fault. ExplainsNoCertificate file root fault) old new r
+  HasDiskFault Verify source old new r = ⊥
+  HasDiskFault (MakeTable pieces) source old new r = ⊥
+  HasDiskFault TableCheck source old new r = ⊥

@@ -1,0 +1,38 @@
+//! `report`: what the journal holds.
+ghost use Rattle.std.specs.Prelude.{◌≡◌, [], IfOk, IfErr};
+ghost use Rattle.bench_edges.specs.declared.words.Command.TheVariants as commands;
+ghost use Rattle.opening_bench.specs.Bench.{ComesBeforeDisk};
+ghost use Rattle.opening_bench.specs.Disks.{LeavesDisk};
+ghost use Rattle.opening_bench.specs.Steps.{AnswersBytes, RefusesBytes, SaysTrue};
+
+use crate::looking::refusal_of;
+use crate::output::Output;
+use bench_disk::Disk;
+use opening_report::Refusal;
+use std::alloc::Global;
+
+/// The report on the roots of the journal, and the disk. Nothing is written to it.
+pub(crate) fn report<D: Disk>(alloc: Global, disk: D) -> (D, Result<Output, Refusal>)
+    ensures leaves { LeavesDisk D.TELLS D.reads D.images D.images_since D.moment D.faults
+        commands.Report disk result.0 }
+    ensures answers { IfOk result.1 (λ output.
+        AnswersBytes D.TELLS D.reads D.images D.images_since D.moment D.faults
+        commands.Report [] disk result.0 output.text.items output.is_settled) }
+    ensures says { IfOk result.1 (λ output. SaysTrue output.text.items) }
+    ensures refused { IfErr result.1
+        (RefusesBytes D.TELLS D.reads D.images D.images_since D.moment D.faults
+        commands.Report [] disk result.0) }
+    ensures used { IfErr result.1 (λ r. ComesBeforeDisk r → ⊥) }
+{
+    let mut disk = disk;
+    match journal_looks::report(alloc, &mut disk) {
+        Ok(looked) => (
+            disk,
+            Ok(Output {
+                text: looked.text,
+                is_settled: looked.is_settled,
+            }),
+        ),
+        Err(refusal) => (disk, Err(refusal_of(refusal))),
+    }
+}

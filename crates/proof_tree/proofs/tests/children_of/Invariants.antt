@@ -1,5 +1,0 @@
-use Rattle.std.proofs.Common.{◌≡◌, map, take}
-use Rattle.proof_tree.proofs.tests.children_of.Given as goal
-
-abbrev pub invariant-loop-q : goal.invariant-loop-q
-invariant-loop-q l = map (λ child. child.position) l.children.items ≡ take l.q-index l.q-items

@@ -1,0 +1,61 @@
+use Rattle.std.proofs.Common.{◌≡◌, ◌≤◌, ◌+◌, ◌++◌, ◌∷◌, [], List, length, map, arith, ap, sym, ◌∙◌, subst, false}
+use Rattle.std.specs.Vec.{vec_capacity}
+use Rattle.draughts_board.specs.Board.{Board}
+use Rattle.proof_tree.specs.Forest.{Forest}
+use Rattle.proof_tree.specs.Sound.{root_positions}
+use Rattle.disk_journal.specs.Log.{Log}
+use Rattle.shared_words.specs.Counts.{Rose}
+use Rattle.tree_manager.specs.declared.entries.Entry.TheVariants as entry
+use Rattle.tree_manager.specs.declared.marks.Mark.{Mark}
+use Rattle.tree_manager.specs.declared.marks.Mark.TheVariants as mark
+use Rattle.tree_manager.specs.Lines.{is_failed}
+use Rattle.tree_manager.specs.Sessions.{SessionState, BeginsRoots, HasBegun, with_roots}
+use Rattle.tree_manager.proofs.BeginLemmas.{are_beginning, begin_refused, has_begun, kept_roots, rows_alive}
+use Rattle.tree_manager.proofs.joined.JoinedBench.begin.Goals as goal
+
+pub stage_roots-requires-clause-live : goal.stage_roots-requires-clause-live
+stage_roots-requires-clause-live g c = rows_alive _ c.self.inside.bench c.self.invariant.history
+
+pub invariant_of-self-2 : goal.invariant_of-self-2
+invariant_of-self-2 g c =
+    let unfailed : c.self.inside.journal.failed ≡ false = cc (c.if-is_failed.false, c.is_failed.ensures) in
+    let added : List Board = c.as_slice.result.now in
+    let again : c.as_slice-2.result.now ≡ added = c.as_slice-2.ensures.keys ∙ sym c.as_slice.ensures.keys in
+    let marks : c.push_puts.new.marks.items ≡ c.self.inside.marks.items ++ map (λ (p : Board). mark.Put) added =
+    c.push_puts.ensures.items ∙ (ap (λ (l : List Mark). l ++ map (λ (p : Board). mark.Put) c.as_slice-2.result.now) c.reserve.ensures.items ∙ ap (λ (ps : List Board). c.self.inside.marks.items ++ map (λ (p : Board). mark.Put) ps) again) in
+    let count : c.len-count.result ≡ length added = c.len-count.ensures.len ∙ sym (ap length c.as_slice.ensures.keys) in
+    let room : length c.self.inside.marks.items + (c.self.inside.due + length added + length added) ≤ vec_capacity c.push_puts.new.marks =
+    omega (arith, c.in_ok-reserve.ensures.ok, c.reserve.ensures.len, c.self.inside.marks.ok.0, c.push_puts.ensures.capacity, count) in
+    kept_roots g.D.Disk.TELLS g.D.Disk.reads g.D.Disk.images g.D.Disk.images_since g.D.Disk.moment g.D.Disk.faults
+    c.self.inside.marks.items c.push_puts.new.marks.items (vec_capacity c.self.inside.marks) (vec_capacity c.push_puts.new.marks) c.self.inside.due (c.self.inside.due + c.len-count.result) c.self.inside.bench c.stage_roots.new.bench c.self.inside.journal c.stage_roots.new.journal added
+    c.self.invariant unfailed marks c.in_ok-stage_roots.ensures.bench c.in_ok-stage_roots.ensures.may c.stage_roots.ensures.grows c.in_ok-stage_roots.ensures.journal (ap (λ n. c.self.inside.due + n) count) room
+
+pub returns-in-Ok-clause-begun : goal.returns-in-Ok-clause-begun
+returns-in-Ok-clause-begun g c =
+    let unfailed : c.self.inside.journal.failed ≡ false = cc (c.if-is_failed.false, c.is_failed.ensures) in
+    let added : List Board = c.as_slice.result.now in
+    let again : c.as_slice-2.result.now ≡ added = c.as_slice-2.ensures.keys ∙ sym c.as_slice.ensures.keys in
+    let marks : c.push_puts.new.marks.items ≡ c.self.inside.marks.items ++ map (λ (p : Board). mark.Put) added =
+    c.push_puts.ensures.items ∙ (ap (λ (l : List Mark). l ++ map (λ (p : Board). mark.Put) c.as_slice-2.result.now) c.reserve.ensures.items ∙ ap (λ (ps : List Board). c.self.inside.marks.items ++ map (λ (p : Board). mark.Put) ps) again) in
+    let all : root_positions c.self.inside.bench.state.forest ++ added ≡ with_roots (root_positions c.self.inside.bench.state.forest) c.args.positions.now =
+    subst (λ (ps : List Board). root_positions c.self.inside.bench.state.forest ++ ps ≡ with_roots (root_positions c.self.inside.bench.state.forest) c.args.positions.now) (sym c.as_slice.ensures.keys)
+    (subst (λ (f : Forest). root_positions f ++ c.in_ok-added.added.keys ≡ with_roots (root_positions f) c.args.positions.now) c.tree.ensures.forest c.in_ok-added.ensures.all) in
+    let mid = are_beginning c.self.inside.marks.items c.push_puts.new.marks.items c.self.inside.bench c.stage_roots.new.bench c.self.inside.journal c.stage_roots.new.journal c.args.positions.now added
+    c.self.invariant.filled marks c.in_ok-stage_roots.ensures.bench (ap (λ (l : Log g.row.D.Denot). l.disk) c.in_ok-stage_roots.ensures.journal.2) (sym c.self.invariant.failed ∙ unfailed) all in
+    subst (λ (s : SessionState g.row.D.Denot). HasBegun s c.args.positions.now c.in-Ok.receipt.moment c.commit.new.self) c.self.view_is
+    (has_begun _ _ c.commit.new.self c.args.positions.now added c.in-Ok.receipt.moment mid c.in-Ok.ensures.idle c.in-Ok.ensures.appends c.in-Ok.ensures.none_staged)
+
+pub returns-clause-refused : goal.returns-clause-refused
+returns-clause-refused g c =
+    let unfailed : c.self.inside.journal.failed ≡ false = cc (c.if-is_failed.false, c.is_failed.ensures) in
+    let added : List Board = c.as_slice.result.now in
+    let again : c.as_slice-2.result.now ≡ added = c.as_slice-2.ensures.keys ∙ sym c.as_slice.ensures.keys in
+    let marks : c.push_puts.new.marks.items ≡ c.self.inside.marks.items ++ map (λ (p : Board). mark.Put) added =
+    c.push_puts.ensures.items ∙ (ap (λ (l : List Mark). l ++ map (λ (p : Board). mark.Put) c.as_slice-2.result.now) c.reserve.ensures.items ∙ ap (λ (ps : List Board). c.self.inside.marks.items ++ map (λ (p : Board). mark.Put) ps) again) in
+    let all : root_positions c.self.inside.bench.state.forest ++ added ≡ with_roots (root_positions c.self.inside.bench.state.forest) c.args.positions.now =
+    subst (λ (ps : List Board). root_positions c.self.inside.bench.state.forest ++ ps ≡ with_roots (root_positions c.self.inside.bench.state.forest) c.args.positions.now) (sym c.as_slice.ensures.keys)
+    (subst (λ (f : Forest). root_positions f ++ c.in_ok-added.added.keys ≡ with_roots (root_positions f) c.args.positions.now) c.tree.ensures.forest c.in_ok-added.ensures.all) in
+    let mid = are_beginning c.self.inside.marks.items c.push_puts.new.marks.items c.self.inside.bench c.stage_roots.new.bench c.self.inside.journal c.stage_roots.new.journal c.args.positions.now added
+    c.self.invariant.filled marks c.in_ok-stage_roots.ensures.bench (ap (λ (l : Log g.row.D.Denot). l.disk) c.in_ok-stage_roots.ensures.journal.2) (sym c.self.invariant.failed ∙ unfailed) all in
+    subst (λ (s : SessionState g.row.D.Denot). (is_failed s.line ≡ false) × (BeginsRoots s c.args.positions.now (entry.Broken (g.D.Disk.faults c.commit.new.self.disk) ∷ []) c.commit.new.self × ((c.commit.new.self.core.state.forest ≡ s.core.state.forest) × Rose (g.D.Disk.faults s.disk) (g.D.Disk.faults c.commit.new.self.disk)))) c.self.view_is
+    (begin_refused g.D.Disk.faults _ _ c.commit.new.self c.args.positions.now added c.in-Err.field-0 mid c.in-Err.ensures.refused)

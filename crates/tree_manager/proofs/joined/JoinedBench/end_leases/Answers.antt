@@ -1,0 +1,18 @@
+use Rattle.tree_manager.proofs.IdLemmas.{EndedOneMore, ended_all, ended_none, ended_step}
+use Rattle.tree_manager.proofs.joined.JoinedBench.end_leases.Goals as goal
+
+pub loop-id-init : goal.loop-id-init
+loop-id-init g c = ended_none c.args.self.now c.requires
+
+pub loop-id-preserved : goal.loop-id-preserved
+loop-id-preserved g c =
+    (ended_step c.args.self.now c.loop-id.self c.release-ended.new.self c.in-Some.id c.release-ended.result c.loop-id.invariant c.in-Some.ensures.first c.in-Some.ensures.least c.release-ended.ensures.appends
+    c.release-ended.ensures.disk _ c.release-ended.ensures.stale).ended
+
+pub loop-id-smaller : goal.loop-id-smaller
+loop-id-smaller g c =
+    (ended_step c.args.self.now c.loop-id.self c.release-ended.new.self c.in-Some.id c.release-ended.result c.loop-id.invariant c.in-Some.ensures.first c.in-Some.ensures.least c.release-ended.ensures.appends
+    c.release-ended.ensures.disk _ c.release-ended.ensures.stale).fewer
+
+pub returns : goal.returns
+returns g c = ended_all c.args.self.now c.loop-id.self c.loop-id.invariant c.in_default.ensures.first

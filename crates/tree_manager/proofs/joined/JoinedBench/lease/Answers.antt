@@ -1,0 +1,35 @@
+use Rattle.std.proofs.Common.{◌≡◌, ◌≤◌, ◌+◌, ◌++◌, ◌∷◌, [], List, length, refl, sym, ap, ◌∙◌, subst, arith, length-append, false}
+use Rattle.std.specs.Prelude.{Ok}
+use Rattle.std.specs.Vec.{vec_capacity}
+use Rattle.bench_core.specs.States.{lease_answer}
+use Rattle.tree_manager.specs.declared.entries.Entry.TheVariants as entry
+use Rattle.tree_manager.specs.declared.marks.Mark.{Mark}
+use Rattle.tree_manager.specs.declared.marks.Mark.TheVariants as mark
+use Rattle.tree_manager.proofs.PickLemmas.{lease_worker}
+use Rattle.tree_manager.proofs.KeptLemmas.{line_other}
+use Rattle.tree_manager.proofs.CallLemmas.{appends_from, given_few, kept_leased}
+use Rattle.tree_manager.proofs.joined.JoinedBench.lease.Goals as goal
+
+pub lease-requires : goal.lease-requires
+lease-requires g c =
+    omega (arith, given_few c.self.inside.marks.items c.self.inside.bench c.self.invariant.filled c.self.invariant.history, c.self.inside.marks.ok.0, c.self.inside.marks.ok.1, c.self.inside.marks.small)
+
+pub invariant_of-self-2 : goal.invariant_of-self-2
+invariant_of-self-2 g c =
+    let unfailed : c.self.inside.journal.failed ≡ false = cc (c.if-is_failed.false, c.is_failed.ensures) in
+    let marks : c.push_reserved.new.self.items ≡ c.self.inside.marks.items ++ mark.Leased c.in_ok-lease.lease ∷ [] = c.push_reserved.ensures.items ∙ ap (λ (l : List Mark). l ++ mark.Leased c.in_ok-lease.lease ∷ []) c.reserve.ensures.items in
+    let room : length c.push_reserved.new.self.items + (c.self.inside.due + 2) ≤ vec_capacity c.push_reserved.new.self =
+    omega (arith, ap length marks, length-append c.self.inside.marks.items (mark.Leased c.in_ok-lease.lease ∷ []), c.push_reserved.ensures.capacity, c.in_ok-reserve.ensures.ok, c.reserve.ensures.len, c.self.inside.marks.ok.0) in
+    kept_leased g.D.Disk.TELLS g.D.Disk.reads g.D.Disk.images g.D.Disk.images_since g.D.Disk.moment g.D.Disk.faults
+    c.self.inside.marks.items c.push_reserved.new.self.items (vec_capacity c.self.inside.marks) (vec_capacity c.push_reserved.new.self) c.self.inside.due c.self.inside.bench c.lease.new.self c.self.inside.journal c.args.worker c.in_ok-lease.lease
+    c.self.invariant unfailed marks c.in_ok-lease.ensures.answer c.in_ok-lease.ensures.event room
+
+pub returns-clause-appends : goal.returns-clause-appends
+returns-clause-appends g c =
+    let lease = c.in_ok-lease.lease in
+    let marks : c.push_reserved.new.self.items ≡ c.self.inside.marks.items ++ mark.Leased lease ∷ [] = c.push_reserved.ensures.items ∙ ap (λ (l : List Mark). l ++ mark.Leased lease ∷ []) c.reserve.ensures.items in
+    appends_from _ _ _ _ c.self.view_is (record {
+      line = line_other c.self.inside.marks.items c.push_reserved.new.self.items c.self.inside.bench c.lease.new.self (mark.Leased lease) (entry.Leased lease) c.self.invariant.filled marks refl refl
+          (rw c.in_ok-lease.ensures.event refl);
+      enters = (subst (λ w. lease_answer c.self.inside.bench.state w ≡ Ok lease) (sym (lease_worker c.self.inside.bench.state c.args.worker lease c.in_ok-lease.ensures.answer)) c.in_ok-lease.ensures.answer, c.in_ok-lease.ensures.event);
+    })

@@ -1,0 +1,6 @@
+use Rattle.std.proofs.Common.{◌≡◌, map, take}
+use Rattle.tree_manager.specs.declared.marks.Mark.TheVariants.{Put}
+use Rattle.tree_manager.proofs.replaying.puts_of.Given as goal
+
+abbrev pub invariant-loop : goal.invariant-loop
+invariant-loop l = l.marks.items ≡ map (λ _. Put) (take l.index l.payloads)

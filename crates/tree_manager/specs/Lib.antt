@@ -1,0 +1,12 @@
+pub mod Entries
+pub mod Lines
+pub mod LiveLeases
+pub mod Histories
+pub mod Laws
+pub mod Receipts
+pub mod Replaying
+pub mod Sessions
+pub mod Synced
+pub mod Turns
+pub mod Weaving
+pub mod Keeping

@@ -1,0 +1,388 @@
+//! A bench and a journal that say the same, and the line that both have.
+ghost use Rattle.std.specs.Prelude.{◌≡◌, ◌≢◌, ◌⊎◌, ◌+◌, ◌≤◌, ◌<◌, ◌++◌, ◌∷◌, [], ℕ, List, Contains, length, true, false, Ok, IsOk, IfOk, IfErr, OnOk, OnErr, IfSome, MatchResult};
+ghost use Rattle.bench_disk.specs.Disk.{GoesOn, IsHonest};
+ghost use Rattle.shared_words.specs.Counts.{Rose};
+
+use crate::entries::Attachment;
+use crate::marks::{Mark, push_puts};
+use crate::refusals::{BeginRefusal, CommitRefusal, StageRefusal};
+use crate::replaying::replay_all;
+use crate::roots::{new_roots, stage_roots};
+use bench_core::{Bench, LeaseRefusal, Settings};
+use bench_disk::Disk;
+use certificate_checker::Outcome;
+use disk_journal::{Journal, JournalRefusal, Receipt};
+use draughts_board::Position;
+use lease_table::{Lease, LeaseId, Stale};
+use proof_tree::MOST_ROOTS;
+use std::alloc::{AllocError, Global};
+use std::marker::Model;
+use strategy_certificate::Oracle;
+
+/// A bench, and a journal whose payloads are the bench's records.
+///
+/// A contract sees its line, which is its history, the core of its bench, and its disk.
+#[derive(Drop)]
+pub(crate) struct JoinedBench<D: Disk> {
+    bench: Bench,
+    journal: Journal<D>,
+    /// The entries of the line, but for records.
+    marks: Vec<Mark>,
+    /// For so many entries more there is room, beyond those of which one is taken at once: those that end leases and
+    /// commits.
+    due: usize,
+}
+
+impl<D: Disk> Model for JoinedBench<D> {
+    ghost use Rattle.std.specs.Prelude.{◌++◌, vec_capacity};
+    ghost use Rattle.std.specs.Coded.{codes};
+    ghost use Rattle.proof_tree.specs.Code.{forest_code};
+    ghost use Rattle.tree_manager.specs.Sessions.{SessionState};
+    ghost use Rattle.tree_manager.specs.Keeping.{IsSession};
+    ghost use Rattle.tree_manager.specs.Weaving.{woven};
+
+    ghost Value = { SessionState D };
+
+    ghost coded = { Prim.hlevel (codes, forest_code) };
+
+    ghost view = { λ s. record {
+      line = woven s.marks.items (s.bench.records ++ s.bench.staged);
+      core = s.bench;
+      disk = s.journal.disk;
+    } };
+
+    ghost invariant = { λ s. IsSession D.TELLS D.reads D.images D.images_since D.moment D.faults
+        (woven s.marks.items (s.bench.records ++ s.bench.staged)) s.marks.items
+        (vec_capacity s.marks) s.due s.bench s.journal };
+}
+
+impl<D: Disk> JoinedBench<D> {
+    ghost use Rattle.std.specs.List.{AllByRecursion as Each};
+    ghost use Rattle.bench_disk.specs.Disk.{NothingPending};
+    ghost use Rattle.bench_disk.specs.Runs.{Leaves};
+    ghost use Rattle.disk_journal.specs.Format.{IsFresh};
+    ghost use Rattle.disk_journal.specs.Log.{StaysOrFresh};
+    ghost use Rattle.disk_journal.specs.Refusals.{Explains, says_nothing_of_file};
+    ghost use Rattle.std.specs.Bool.{OnFalse};
+    ghost use Rattle.std.specs.Option.{option_map};
+    ghost use Rattle.draughts_board.specs.Draughts.{draughts};
+    ghost use Rattle.draughts_board.specs.Game.{is_at_sight};
+    ghost use Rattle.proof_tree.specs.Sound.{root_positions};
+    ghost use Rattle.lease_table.specs.Rows.{first_unkept};
+    ghost use Rattle.bench_core.specs.Records.{begun};
+    ghost use Rattle.bench_core.specs.States.{HasRow, lease_answer};
+    ghost use Rattle.bench_core.specs.Cores.{IsOutcomeOf, record_of};
+    ghost use Rattle.bench_core.specs.Answers.{unkept};
+    ghost use Rattle.tree_manager.specs.declared.entries.Entry.TheVariants as entry;
+    ghost use Rattle.tree_manager.specs.Lines.{recorded, unapplied_in, attachment_of, is_failed, EndsBroken};
+    ghost use Rattle.tree_manager.specs.Histories.{IsHistory, IsCoreOf};
+    ghost use Rattle.tree_manager.specs.Entries.{faults_told};
+    ghost use Rattle.tree_manager.specs.Receipts.{KeepsReceipts, acknowledgements};
+    ghost use Rattle.tree_manager.specs.Replaying.{ExplainsAttach, HasUnlawfulPayload};
+    ghost use Rattle.tree_manager.specs.Sessions.{SessionState, Appends, with_roots, IsAttachedTo, EndsLeases, HasBegun, RefusesBegin, RefusesLeaseIn, RefusesStage, RefusesCommit};
+
+    /// Attaches the journal on a disk, replays what it has, and begins a session.
+    ///
+    /// Beside the journal's own causes, `Damaged` comes exactly where a payload is the text of no record that is lawful
+    /// behind those before it, with the place of that payload's length field. Every refusal hands the disk back.
+    pub fn attach<O: Oracle>(
+        alloc: Global,
+        disk: D,
+        s: Settings,
+        oracle: &O,
+    ) -> Result<JoinedBench<D>, (D, JournalRefusal)>
+        requires tables { O.piece_limit oracle.now ≡ s.pieces }
+        requires depth { s.depth ≤ 12 }
+        requires budget { s.budget ≤ 1000000 }
+        requires lasts { 1 ≤ s.lease }
+        requires lease { s.lease ≤ 1000000000 }
+        ensures pieces { IfOk result (λ session. session.core.state.settings.pieces ≡ s.pieces) }
+        ensures none_staged { IfOk result (λ session. session.core.staged ≡ []) }
+        ensures attached { IfOk result
+            (λ session. IsAttachedTo D.TELLS D.reads D.moment D.faults s disk session) }
+
+        // A crash since the call began leaves what it might have left before, or a fresh file of a
+        // fresh one.
+        ensures crash { IsHonest D.TELLS → MatchResult result
+            (λ session. Leaves D.moment D.images_since disk session.disk
+            (StaysOrFresh (D.images disk) (D.reads disk)))
+            (λ e. Leaves D.moment D.images_since disk e.0
+            (StaysOrFresh (D.images disk) (D.reads disk))) }
+
+        // Each refusal comes for its cause, and writes nothing over a file that is not fresh.
+        ensures refused { IsHonest D.TELLS →
+            IfErr result (λ e. ExplainsAttach (D.reads disk) s.pieces e.1) }
+
+        // Where the journal has a cause, that is the answer, unless the disk failed or memory ran
+        // out.
+        ensures first { IsHonest D.TELLS →
+            (e : JournalRefusal) → Explains (D.reads disk) s.pieces e →
+            MatchResult result (λ session. ⊥)
+            (λ refused. OnFalse (says_nothing_of_file refused.1) (refused.1 ≡ e)) }
+
+        // Where a payload is the first that is not lawful, its place is the answer, unless the disk
+        // failed or memory ran out.
+        ensures unlawful { IsHonest D.TELLS →
+            (at : ℕ) → HasUnlawfulPayload s.pieces (D.reads disk) at →
+            MatchResult result (λ session. ⊥) (λ refused.
+            OnFalse (says_nothing_of_file refused.1) (refused.1 ≡ JournalRefusal.Damaged at)) }
+        ensures cause { MatchResult result (λ session. D.faults disk ≤ D.faults session.disk)
+            (λ e. (D.faults disk ≤ D.faults e.0) ×
+            (e.1 ≡ JournalRefusal.DiskFault → Rose (D.faults disk) (D.faults e.0))) }
+        ensures unwritten { IsHonest D.TELLS → 9 < length (D.reads disk) →
+            IfErr result (λ e. D.reads e.0 ≡ D.reads disk) }
+        ensures settled { IsHonest D.TELLS → NothingPending (D.reads disk) (D.images disk) →
+            IfErr result (λ e. NothingPending (D.reads e.0) (D.images e.0) ⊎
+            (IsFresh (D.reads disk) × Rose (D.faults disk) (D.faults e.0))) }
+    {
+        let pieces = oracle.pieces();
+        let (journal, payloads) = match Journal::attach(alloc, disk, pieces) {
+            Ok(attached) => attached,
+            Err(refused) => return Err(refused),
+        };
+        let (mut bench, mut marks) = match replay_all(alloc, s, &payloads, oracle) {
+            Ok(replayed) => replayed,
+            Err(refusal) => return Err((journal.into_disk(), refusal)),
+        };
+        if let Err(error) = marks.reserve(1) {
+            return Err((journal.into_disk(), JournalRefusal::Memory(error)));
+        }
+        bench.start_session();
+        marks.push_reserved(Mark::Attached(Attachment {
+            opened: journal.opened(),
+            faults: journal.disk().faults(),
+            budget: bench.budget(),
+            depth: s.depth,
+            pieces,
+            limit: s.lease,
+        }));
+        Ok(JoinedBench {
+            bench,
+            journal,
+            marks,
+            due: 0,
+        })
+    }
+
+    /// The bench. Every session keeps these facts: its line leads to its bench's core, which is what the line stands for;
+    /// where it has failed, its disk's faults rose since it began; and its disk keeps its receipts.
+    pub fn bench(&self) -> &Bench
+        ensures core { result.now ≡ self.now.core }
+        ensures history { IsHistory self.now.line self.now.core }
+        ensures stands { IsCoreOf self.now.line self.now.core }
+        ensures told { Each (λ e. faults_told e ≤ D.faults self.now.disk) self.now.line }
+        ensures broken { is_failed self.now.line ≡ true → IfSome (attachment_of self.now.line)
+            (λ a. Rose a.faults (D.faults self.now.disk)) }
+        ensures ended { is_failed self.now.line ≡ true → EndsBroken self.now.line }
+        ensures receipts { IsHonest D.TELLS →
+            KeepsReceipts self.now.core.state.settings.pieces D.reads D.images D.images_since
+            D.moment self.now.line self.now.disk }
+    {
+        &self.bench
+    }
+
+    /// How many entries its line has.
+    pub fn len(&self) -> u64
+        ensures { result ≡ length self.now.line }
+    {
+        self.marks.len() as u64
+    }
+
+    /// The disk, with what was committed. It keeps the session's receipts; where the session has failed, its faults rose
+    /// since the session began.
+    pub fn into_disk(self) -> D
+        ensures disk { result ≡ self.disk }
+        ensures receipts { IsHonest D.TELLS → IfSome (attachment_of self.line)
+            (λ a. KeepsReceipts a.pieces D.reads D.images D.images_since D.moment self.line
+            result) }
+        ensures broken { is_failed self.line ≡ true → IfSome (attachment_of self.line)
+            (λ a. Rose a.faults (D.faults result)) }
+    {
+        self.journal.into_disk()
+    }
+
+    /// Begins a root at each of these positions that has none yet, in order, and commits.
+    ///
+    /// `TooManyRoots` comes exactly where there would be more than 65,536. After want of memory the session is as it was,
+    /// and after a fault of the disk it has failed, with its forest as it was.
+    pub fn begin<O: Oracle>(
+        &mut self,
+        positions: &[Position],
+        oracle: &O,
+    ) -> Result<Receipt, BeginRefusal>
+        requires tables { O.piece_limit oracle.now ≡ self.old.core.state.settings.pieces }
+        requires rootless { is_failed self.old.line ≡ false → begun self.old.core.staged ≡ [] }
+        ensures unfailed { OnOk result (is_failed self.old.line ≡ false) }
+        ensures few { OnOk result (length (with_roots
+            (root_positions self.old.core.state.forest) positions.now) ≤ 65536) }
+        ensures begun { IfOk result
+            (λ receipt. HasBegun self.old positions.now receipt.moment self.new) }
+        ensures number { IfOk result (λ receipt. receipt.number ≡ length (recorded self.new.line)) }
+        ensures moment { IfOk result (λ receipt. receipt.moment ≡ D.moment self.new.disk) }
+        ensures calls { D.moment self.new.disk ≤ D.moment self.old.disk + 4 }
+        ensures since { IsHonest D.TELLS → GoesOn (D.moment self.old.disk)
+            (D.images_since self.old.disk) (D.images_since self.new.disk) }
+        ensures refused { IfErr result (RefusesBegin D.faults self.old positions.now self.new) }
+    {
+        if self.journal.is_failed() {
+            return Err(BeginRefusal::Failed);
+        }
+        let added = new_roots(*self.marks.allocator(), self.bench.tree(), positions)?;
+        let count = added.len();
+        if self.bench.tree().roots() as usize + count > MOST_ROOTS {
+            return Err(BeginRefusal::TooManyRoots);
+        }
+        self.marks.reserve(self.due + count + count)?;
+        stage_roots(&mut self.bench, &mut self.journal, added.as_slice(), oracle)?;
+        push_puts(&mut self.marks, added.as_slice());
+        self.due += count;
+        match self.commit() {
+            Ok(receipt) => Ok(receipt),
+            Err(_) => Err(BeginRefusal::Disk),
+        }
+    }
+
+    /// Leases the next leaf to a worker; it is not decided at sight. It makes the room for the entry that will end the
+    /// lease, and for its commit's.
+    pub fn lease(&mut self, worker: u32) -> Result<Lease, LeaseRefusal>
+        ensures history { IsHistory self.old.line self.old.core }
+        ensures ended { is_failed self.old.line ≡ true → EndsBroken self.old.line }
+        ensures unfailed { OnOk result (is_failed self.old.line ≡ false) }
+        ensures answer { IfOk result
+            (λ lease. lease_answer self.old.core.state worker ≡ Ok lease) }
+        ensures sight { IfOk result (λ lease.
+            is_at_sight draughts self.old.core.state.settings.pieces lease.position ≡ false) }
+        ensures appends { IfOk result (λ lease. Appends self.old (entry.Leased lease) self.new) }
+        ensures disk { self.new.disk ≡ self.old.disk }
+        ensures refused { IfErr result
+            (RefusesLeaseIn self.old.line (lease_answer self.old.core.state worker)) }
+        ensures unchanged { OnErr result (self.new ≡ self.old) }
+    {
+        if self.journal.is_failed() {
+            return Err(LeaseRefusal::Failed);
+        }
+        self.marks.reserve(self.due + 3)?;
+        let lease = self.bench.lease(worker)?;
+        let given = &lease;
+        self.marks.push_reserved(Mark::Leased(*given));
+        self.due += 2;
+        Ok(lease)
+    }
+
+    /// Ends a lease without a result. `Stale` comes exactly where it does not live, is kept, or the session has failed. It
+    /// takes no memory.
+    pub fn release(&mut self, id: LeaseId) -> Result<(), Stale>
+        ensures history { IsHistory self.old.line self.old.core }
+        ensures ended { is_failed self.old.line ≡ true → EndsBroken self.old.line }
+        ensures appends { OnOk result (Appends self.old (entry.Released id) self.new) }
+        ensures unfailed { OnOk result (is_failed self.old.line ≡ false) }
+        ensures disk { self.new.disk ≡ self.old.disk }
+        ensures stale { IfErr result (λ stale. (stale ≡ record { 0 = id })
+            × (is_failed self.old.line ≡ false
+            → ¬ HasRow (λ row. row.kept ≡ false) self.old.core.state id)) }
+        ensures unchanged { OnErr result (self.new ≡ self.old) }
+    {
+        if self.journal.is_failed() {
+            return Err(Stale(id));
+        }
+        self.bench.release(id)?;
+        self.marks.push_reserved(Mark::Released(id));
+        self.due -= 2;
+        Ok(())
+    }
+
+    /// Stages the result of a lease's search, and keeps the lease for it. After a refusal the session is as it was, and
+    /// the outcome is dropped.
+    pub fn stage(&mut self, lease: &Lease, outcome: Outcome) -> Result<(), StageRefusal>
+        requires { IsOutcomeOf lease.now outcome }
+        ensures history { IsHistory self.old.line self.old.core }
+        ensures ended { is_failed self.old.line ≡ true → EndsBroken self.old.line }
+        ensures appends { OnOk result
+            (Appends self.old (entry.Put (record_of lease.now outcome)) self.new) }
+        ensures unfailed { OnOk result (is_failed self.old.line ≡ false) }
+        ensures live { OnOk result
+            (Contains self.old.core.state.leases.rows (unkept lease.now)) }
+        ensures disk { self.new.disk ≡ self.old.disk }
+        ensures refused { IfErr result
+            (RefusesStage self.old.line self.old.core.state lease.now) }
+        ensures unchanged { OnErr result (self.new ≡ self.old) }
+    {
+        if self.journal.is_failed() {
+            return Err(StageRefusal::Failed);
+        }
+        let text = self.bench.ready(lease, outcome)?;
+        if let Err(error) = self.journal.stage(&text) {
+            self.bench.forget_ready();
+            return Err(StageRefusal::Memory(error));
+        }
+        self.marks.push_reserved(Mark::Put);
+        self.due -= 1;
+        Ok(())
+    }
+
+    /// Makes all that is staged durable, and applies it. It takes no memory.
+    ///
+    /// The receipt has the number of the line's records and the disk's moment, both at the exit of this call. After a
+    /// fault of the disk the session has failed: its forest stays, and its line ends there.
+    pub fn commit(&mut self) -> Result<Receipt, CommitRefusal>
+        ensures history { IsHistory self.old.line self.old.core }
+        ensures ended { is_failed self.old.line ≡ true → EndsBroken self.old.line }
+        ensures unfailed { OnOk result (is_failed self.old.line ≡ false) }
+        ensures idle { is_failed self.old.line ≡ false → self.old.core.staged ≡ []
+            → OnOk result (self.new ≡ self.old) }
+        ensures appends { self.old.core.staged ≢ [] → IfOk result
+            (λ receipt. Appends self.old (entry.Acked receipt.moment) self.new) }
+        ensures none_staged { OnOk result (self.new.core.staged ≡ []) }
+        ensures number { IfOk result (λ receipt. receipt.number ≡ length (recorded self.new.line)) }
+        ensures moment { IfOk result (λ receipt. receipt.moment ≡ D.moment self.new.disk) }
+        ensures later { D.faults self.old.disk ≤ D.faults self.new.disk }
+        ensures calls { D.moment self.new.disk ≤ D.moment self.old.disk + 4 }
+        ensures since { IsHonest D.TELLS → GoesOn (D.moment self.old.disk)
+            (D.images_since self.old.disk) (D.images_since self.new.disk) }
+        ensures moments { IsHonest D.TELLS → IfOk result (λ receipt.
+            Each (λ ack. ack.moment ≤ receipt.moment) (acknowledgements self.new.line)) }
+        ensures refused { IfErr result (RefusesCommit D.faults self.old self.new) }
+    {
+        if self.journal.is_failed() {
+            return Err(CommitRefusal::Failed);
+        }
+        let waiting = self.journal.staged();
+        match self.journal.commit() {
+            Ok(receipt) => {
+                if waiting > 0 {
+                    self.bench.apply_staged();
+                    self.marks.push_reserved(Mark::Acked(receipt.moment));
+                    self.due -= waiting;
+                }
+                Ok(receipt)
+            }
+            Err(_) => {
+                let faults = self.journal.disk().faults();
+                self.marks.push_reserved(Mark::Broken(faults));
+                Err(CommitRefusal::Disk)
+            }
+        }
+    }
+
+    /// The number of the first lease that lives and is not kept, which is the least; none where there is no such lease.
+    fn first_waiting(&self) -> Option<LeaseId>
+        ensures first { result ≡ option_map (λ row. row.lease.id)
+            (first_unkept self.now.core.state.leases.rows) }
+        ensures least { IfSome result (λ id.
+            Each (λ row. row.kept ≡ false → id ≤ row.lease.id) self.now.core.state.leases.rows) }
+    {
+        self.bench.first_waiting()
+    }
+
+    /// Ends every lease that lives and is not kept, in rising order of number. It takes no memory.
+    ///
+    /// For each of them it goes once over the rows of the leases that were given and have not ended.
+    pub fn end_leases(&mut self)
+        requires { is_failed self.old.line ≡ false }
+        ensures { EndsLeases self.old self.new }
+    {
+        while let Some(id) = self.first_waiting() {
+            let _ended = self.release(id);
+        }
+    }
+}

@@ -1,0 +1,193 @@
+//! One session for many threads, each of which enters it with a pass.
+//!
+//! A pass's front is the session's line as this pass last saw it. It only grows, so no turn takes back what another pass
+//! has seen. What an answer means stands in `specs/Turns.antt`, and speaks of the front alone.
+ghost use Rattle.std.specs.Prelude.{◌≡◌, ◌≤◌, ◌⊎◌, true, length, IfOk, IfErr};
+ghost use Rattle.std.specs.List.{AllByRecursion as Each};
+ghost use Rattle.bench_disk.specs.Disk.{IsHonest};
+ghost use Rattle.turn_lock.specs.Seen.{IsOutside};
+ghost use Rattle.bench_core.specs.Cores.{IsOutcomeOf};
+ghost use Rattle.tree_manager.specs.Receipts.{acknowledgements};
+ghost use Rattle.tree_manager.specs.Turns.{GrowsByTurns, InOneTurn, Leases, Stages, Commits, Releases};
+
+use crate::refusals::{CommitRefusal, StageRefusal};
+use crate::session::Session;
+use bench_core::LeaseRefusal;
+use bench_disk::Disk;
+use certificate_checker::Outcome;
+use disk_journal::Receipt;
+use lease_table::{Lease, LeaseId, Stale};
+use std::alloc::{AllocError, Global};
+use std::marker::Model;
+use std::sync::Wait;
+use turn_lock::{Kept, Pass, TurnLock};
+
+/// A session that many threads share. Contracts see which lock it is.
+#[derive(Drop)]
+pub struct SharedBench<D: Disk> {
+    lock: TurnLock<Session<D>>,
+}
+
+impl<D: Disk> Model for SharedBench<D> {
+    ghost use Rattle.turn_lock.specs.Seen.{LockId};
+
+    ghost Value = { LockId };
+
+    ghost view = { λ shared. shared.lock };
+}
+
+/// What a thread enters a shared bench with. Contracts see its front, the session's line as this pass last saw it.
+///
+/// A pass that is dropped outside a call takes nothing with it.
+pub type BenchPass<D> = Pass<Session<D>>;
+
+impl<D: Disk> SharedBench<D> {
+    /// A shared bench over the session, and its first pass. Want of memory hands the session back.
+    pub fn new(
+        alloc: Global,
+        session: Session<D>,
+    ) -> Result<(SharedBench<D>, BenchPass<D>), (Session<D>, AllocError)>
+        ensures outside { IfOk result (λ made. IsOutside made.0 made.1) }
+        ensures front { IfOk result (λ made. made.1.front ≡ session.line) }
+        ensures handed_back { IfErr result (λ refused. refused.0 ≡ session) }
+    {
+        match TurnLock::new(alloc, session) {
+            Ok((lock, pass)) => Ok((SharedBench { lock }, pass)),
+            Err(refused) => Err(refused),
+        }
+    }
+
+    /// Leases the next leaf to a worker, in one turn. It waits while another pass has the turn, and refuses as a session does.
+    pub fn lease<R: Wait>(
+        &self,
+        rt: &R,
+        pass: &mut BenchPass<D>,
+        worker: u32,
+    ) -> Result<Lease, LeaseRefusal>
+        requires outside { IsOutside self.now pass.old }
+        ensures outside { IsOutside self.now pass.new }
+        ensures grows { GrowsByTurns pass.old.front pass.new.front }
+        ensures turn { InOneTurn pass.old.front pass.new.front
+            (λ found new. Leases found new worker result) }
+    {
+        let mut session = self.lock.enter(rt, pass);
+        let before = session.count();
+        let answer = session.lease(worker);
+        self.leave(pass, session, before);
+        answer
+    }
+
+    /// Stages the result of a lease's search, in one turn, and keeps the lease for it. A refusal drops the outcome. `Stale`
+    /// comes where the lease does not live, or has its result.
+    pub fn stage<R: Wait>(
+        &self,
+        rt: &R,
+        pass: &mut BenchPass<D>,
+        lease: &Lease,
+        outcome: Outcome,
+    ) -> Result<(), StageRefusal>
+        requires outside { IsOutside self.now pass.old }
+        requires outcome { IsOutcomeOf lease.now outcome }
+        ensures outside { IsOutside self.now pass.new }
+        ensures grows { GrowsByTurns pass.old.front pass.new.front }
+        ensures turn { InOneTurn pass.old.front pass.new.front
+            (λ found new. Stages found new lease.now outcome result) }
+    {
+        let mut session = self.lock.enter(rt, pass);
+        let before = session.count();
+        let answer = session.stage(lease, outcome);
+        self.leave(pass, session, before);
+        answer
+    }
+
+    /// Makes all durable that any pass has staged, in one turn, and applies it. `Disk` comes where the disk refused a call in
+    /// this turn; the session has failed from then on.
+    pub fn commit<R: Wait>(&self, rt: &R, pass: &mut BenchPass<D>) -> Result<Receipt, CommitRefusal>
+        requires outside { IsOutside self.now pass.old }
+        ensures outside { IsOutside self.now pass.new }
+        ensures grows { GrowsByTurns pass.old.front pass.new.front }
+        ensures turn { InOneTurn pass.old.front pass.new.front
+            (λ found new. Commits found new result) }
+        ensures moment { IsHonest D.TELLS → IfOk result (λ receipt.
+            Each (λ ack. ack.moment ≤ receipt.moment) (acknowledgements pass.new.front)) }
+    {
+        let mut session = self.lock.enter(rt, pass);
+        let before = session.count();
+        let answer = session.commit();
+        self.leave(pass, session, before);
+        answer
+    }
+
+    /// Ends a lease without a result, in one turn. It takes no memory. `Stale` comes where the lease does not live or has its
+    /// result, or where the session has failed.
+    pub fn release<R: Wait>(
+        &self,
+        rt: &R,
+        pass: &mut BenchPass<D>,
+        id: LeaseId,
+    ) -> Result<(), Stale>
+        requires outside { IsOutside self.now pass.old }
+        ensures outside { IsOutside self.now pass.new }
+        ensures grows { GrowsByTurns pass.old.front pass.new.front }
+        ensures turn { InOneTurn pass.old.front pass.new.front
+            (λ found new. Releases found new id result) }
+    {
+        let mut session = self.lock.enter(rt, pass);
+        let before = session.count();
+        let answer = session.release(id);
+        self.leave(pass, session, before);
+        answer
+    }
+
+    /// Notes what a turn added to a line that had so many entries before, and ends the turn.
+    fn leave(&self, pass: &mut BenchPass<D>, session: Session<D>, before: u64)
+        requires lock { pass.old.lock ≡ self.now }
+        requires turn { pass.old.turn ≡ true }
+        requires before { before ≡ length pass.old.front }
+        requires grows { GrowsByTurns pass.old.front session.line }
+        ensures outside { IsOutside self.now pass.new }
+        ensures front { pass.new.front ≡ session.line }
+    {
+        let added = session.count() - before;
+        self.lock.note(pass, &session, added);
+        self.lock.leave(pass, session);
+    }
+
+    /// A second pass, which has seen what the first has.
+    pub fn split(&self, pass: &mut BenchPass<D>) -> BenchPass<D>
+        requires outside { IsOutside self.now pass.old }
+        ensures same { pass.new ≡ pass.old }
+        ensures copy { result ≡ pass.old }
+    {
+        self.lock.split(pass)
+    }
+
+    /// Ends the other pass, and takes the longer of the two fronts, of which the other is a beginning.
+    pub fn join_pass(&self, pass: &mut BenchPass<D>, other: BenchPass<D>)
+        requires outside { IsOutside self.now pass.old × IsOutside self.now other }
+        ensures outside { IsOutside self.now pass.new }
+        ensures longer { (pass.new.front ≡ pass.old.front) ⊎ (pass.new.front ≡ other.front) }
+        ensures this { GrowsByTurns pass.old.front pass.new.front }
+        ensures that { GrowsByTurns other.front pass.new.front }
+    {
+        self.lock.join_pass(pass, other);
+    }
+
+    /// Waits until no other pass has the turn, and hands the session out for good, with all that any pass has seen of it.
+    pub fn finish<R: Wait>(self, rt: &R, pass: BenchPass<D>) -> Session<D>
+        requires outside { IsOutside self pass }
+        ensures { GrowsByTurns pass.front result.line }
+    {
+        self.finish_counted(rt, pass).0
+    }
+
+    /// The same, with how many entries the line has by the lock's count.
+    pub fn finish_counted<R: Wait>(self, rt: &R, pass: BenchPass<D>) -> (Session<D>, u64)
+        requires outside { IsOutside self pass }
+        ensures grows { GrowsByTurns pass.front result.0.line }
+        ensures count { length result.0.line ≡ result.1 }
+    {
+        let Self { lock } = self;
+        lock.close_counted(rt, pass)
+    }
+}
