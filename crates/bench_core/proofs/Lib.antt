@@ -6,7 +6,6 @@ pub mod SoundCores
 pub mod BenchLemmas
 pub mod ReplayLemmas
 pub mod ReplayedBench
-pub mod Settled
 pub mod LeaseLemmas
 pub mod CertifiedFacts
 pub mod Leaves

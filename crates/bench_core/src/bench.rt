@@ -6,7 +6,7 @@ use crate::replaying::{replay_begin, replay_expand, replay_solve};
 use crate::settings::{MOST_WORK, Settings};
 use crate::shown::{certificates_of, is_same_lease, solve_text};
 use crate::staged::Staged;
-use crate::taken::{LeasedNodes, are_settled, lease_at};
+use crate::taken::{LeasedNodes, lease_at};
 use bench_records::{BenchRecord, encode};
 use certificate_checker::{Exhausted, Outcome, ProofList, child_at_sight, told_by_all};
 use draughts_board::Position;
@@ -195,7 +195,7 @@ impl Bench {
         ensures refused { IfErr result (RefusesLease (lease_answer self.old.state worker)) }
         ensures unchanged { OnErr result (self.new ≡ self.old) }
     {
-        if are_settled(self.grown.tree()) {
+        if self.grown.tree().are_settled() {
             return Err(LeaseRefusal::Done);
         }
         if u64::from(self.settings.budget) <= self.work {

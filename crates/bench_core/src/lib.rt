@@ -21,3 +21,4 @@ mod taken;
 pub use bench::Bench;
 pub use refusals::{LeaseRefusal, ReadyRefusal, ReplayRefusal};
 pub use settings::{MOST_WORK, Settings};
+pub use taken::LeasedNodes;

@@ -6,11 +6,11 @@ use draughts_board::Side;
 use lease_table::{Lease, LeaseId, Leases};
 use proof_tree::{NodeId, Taken, Tree};
 
-/// The nodes that are leased at a number.
+/// The nodes that are leased at a number. Whether one is takes two look-ups by hash.
 #[derive(Clone, Copy)]
-pub(crate) struct LeasedNodes<'a> {
-    pub(crate) leases: &'a Leases,
-    pub(crate) now: u128,
+pub struct LeasedNodes<'a> {
+    pub leases: &'a Leases,
+    pub now: u128,
 }
 
 impl<'a> Taken for LeasedNodes<'a> {
@@ -21,21 +21,6 @@ impl<'a> Taken for LeasedNodes<'a> {
     fn is_taken(&self, n: NodeId) -> bool {
         self.leases.leased(n.number(), self.now)
     }
-}
-
-ghost use Rattle.std.specs.Prelude.{true};
-ghost use Rattle.bench_core.specs.States.{are_settled};
-
-/// Whether each root of the tree is settled.
-pub(crate) fn are_settled(tree: &Tree) -> bool
-    ensures { result ≡ are_settled tree.now.forest }
-{
-    for place in 0..tree.roots() {
-        if tree.settled(place + 1).is_none() {
-            return false;
-        }
-    }
-    true
 }
 
 ghost use Rattle.std.specs.Prelude.{IsSome};

@@ -38,6 +38,13 @@ AddsNone old new = (image : List ℕ) → new image → old image
 abbrev pub NothingPending : List ℕ → (List ℕ → Type 0) → Type 0
 NothingPending reads images = (image : List ℕ) → images image → image ≡ reads
 
+-- The disk reads as before, and a crash may leave what it might have left before.
+pub record Stays {D : Type 0} (reads : D → List ℕ) (images : D → List ℕ → Type 0)
+    (old new : D) : Type 0 where
+  pub same : reads new ≡ reads old
+  pub none_added : AddsNone (images old) (images new)
+  pub none_lost : AddsNone (images new) (images old)
+
 -- Calls that began at the moment `before`. What a crash since an earlier moment might have left
 -- before them, it might have left behind them; all else that it might have left, a crash since
 -- their beginning might have left.

@@ -7,12 +7,12 @@ use Rattle.std.proofs.lemmas.Slice.Eq.{bytes_eq-Decides}
 use Rattle.std.specs.List.{flat_map}
 use Rattle.std.specs.Str.{bytes_eq}
 use Rattle.bench_edges.specs.declared.words.Command.{Command}
-use Rattle.bench_edges.specs.declared.words.Command.TheVariants.{Solve, Report, Certify, Verify, MakeTable, TableCheck}
+use Rattle.bench_edges.specs.declared.words.Command.TheVariants.{Solve, Report, Certify, Verify, MakeTable, TableCheck, Generate}
 use Rattle.bench_edges.specs.declared.words.Options.{Options}
 use Rattle.bench_edges.specs.declared.words.WordsRefusal.{WordsRefusal}
 use Rattle.bench_edges.specs.declared.words.SolveOption.{SolveOption}
-use Rattle.bench_edges.specs.declared.words.SolveOption.TheVariants.{Depth, Pieces, Plies, Budget, Lease}
-use Rattle.bench_edges.specs.Words.{Setting, AreSettings, setting_words, number_of, IsRootNumber, SaysSolve, SaysNumbered, SaysPlain, Says, IsPlain, IsWithinLimits, BeginsCommand, IsRefusedAt}
+use Rattle.bench_edges.specs.declared.words.SolveOption.TheVariants.{Workers, Depth, Pieces, Plies, Budget, Lease}
+use Rattle.bench_edges.specs.Words.{Setting, AreSettings, setting_words, number_of, IsRootNumber, AreGenerated, SaysSolve, SaysNumbered, SaysGenerate, SaysPlain, Says, IsPlain, IsWithinLimits, BeginsCommand, IsRefusedAt}
 use Rattle.strategy_certificate.specs.Tables.{IsTableSize}
 use Rattle.bench_edges.proofs.Settings.{cons_head, cons_tail, same_settings, takes_number, is_two_or_three}
 
@@ -26,15 +26,17 @@ name_of (Certify root) = codes "certify"
 name_of Verify = codes "verify"
 name_of (MakeTable pieces) = codes "table"
 name_of TableCheck = codes "table-check"
+name_of (Generate seed count) = codes "generate"
 
 -- a word that is no command's name
-pub no_name : (word : List ℕ) → word ≢ codes "solve" → word ≢ codes "report" → word ≢ codes "certify" → word ≢ codes "verify" → word ≢ codes "table" → word ≢ codes "table-check" → (command : Command) → word ≢ name_of command
-no_name word solve report certify verify table table_check (Solve options) = solve
-no_name word solve report certify verify table table_check Report = report
-no_name word solve report certify verify table table_check (Certify root) = certify
-no_name word solve report certify verify table table_check Verify = verify
-no_name word solve report certify verify table table_check (MakeTable pieces) = table
-no_name word solve report certify verify table table_check TableCheck = table_check
+pub no_name : (word : List ℕ) → word ≢ codes "solve" → word ≢ codes "report" → word ≢ codes "certify" → word ≢ codes "verify" → word ≢ codes "table" → word ≢ codes "table-check" → word ≢ codes "generate" → (command : Command) → word ≢ name_of command
+no_name word solve report certify verify table table_check generate (Solve options) = solve
+no_name word solve report certify verify table table_check generate Report = report
+no_name word solve report certify verify table table_check generate (Certify root) = certify
+no_name word solve report certify verify table table_check generate Verify = verify
+no_name word solve report certify verify table table_check generate (MakeTable pieces) = table
+no_name word solve report certify verify table table_check generate TableCheck = table_check
+no_name word solve report certify verify table table_check generate (Generate seed count) = generate
 
 differ : (one other : List ℕ) → bytes_eq one other ≡ false → one ≢ other
 differ one other apart same =
@@ -56,6 +58,7 @@ called words (Certify root) says = record { path = says.0.path; rest = decimal r
 called words Verify says = record { path = says.path; rest = []; spelling = says.spelling; named = says.named }
 called words (MakeTable pieces) says = record { path = says.0.path; rest = decimal pieces ∷ []; spelling = says.0.spelling; named = says.0.named }
 called words TableCheck says = record { path = says.path; rest = []; spelling = says.spelling; named = says.named }
+called words (Generate seed count) says = record { path = says.0.path; rest = decimal seed ∷ decimal count ∷ []; spelling = says.0.spelling; named = says.0.named }
 
 -- so the words with a name say the command of this name alone
 pub name_said : (words : List (List ℕ)) (path name : List ℕ) (rest : List (List ℕ)) (command : Command) → words ≡ path ∷ name ∷ rest → Says words command → name_of command ≡ name
@@ -70,6 +73,7 @@ only_solve words (Certify root) says same = absurd (differ (codes "certify") (co
 only_solve words Verify says same = absurd (differ (codes "verify") (codes "solve") refl same)
 only_solve words (MakeTable pieces) says same = absurd (differ (codes "table") (codes "solve") refl same)
 only_solve words TableCheck says same = absurd (differ (codes "table-check") (codes "solve") refl same)
+only_solve words (Generate seed count) says same = absurd (differ (codes "generate") (codes "solve") refl same)
 
 pub only_table : (words : List (List ℕ)) (command : Command) → Says words command → name_of command ≡ codes "table" → (pieces : ℕ) × ((command ≡ MakeTable pieces) × (SaysNumbered (codes "table") words pieces × IsTableSize pieces))
 only_table words (Solve options) says same = absurd (differ (codes "solve") (codes "table") refl same)
@@ -78,6 +82,7 @@ only_table words (Certify root) says same = absurd (differ (codes "certify") (co
 only_table words Verify says same = absurd (differ (codes "verify") (codes "table") refl same)
 only_table words (MakeTable pieces) says same = (pieces, (refl, says))
 only_table words TableCheck says same = absurd (differ (codes "table-check") (codes "table") refl same)
+only_table words (Generate seed count) says same = absurd (differ (codes "generate") (codes "table") refl same)
 
 pub only_certify : (words : List (List ℕ)) (command : Command) → Says words command → name_of command ≡ codes "certify" → (root : ℕ) × ((command ≡ Certify root) × (SaysNumbered (codes "certify") words root × IsRootNumber root))
 only_certify words (Solve options) says same = absurd (differ (codes "solve") (codes "certify") refl same)
@@ -86,6 +91,16 @@ only_certify words (Certify root) says same = (root, (refl, says))
 only_certify words Verify says same = absurd (differ (codes "verify") (codes "certify") refl same)
 only_certify words (MakeTable pieces) says same = absurd (differ (codes "table") (codes "certify") refl same)
 only_certify words TableCheck says same = absurd (differ (codes "table-check") (codes "certify") refl same)
+only_certify words (Generate seed count) says same = absurd (differ (codes "generate") (codes "certify") refl same)
+
+pub only_generate : (words : List (List ℕ)) (command : Command) → Says words command → name_of command ≡ codes "generate" → (seed count : ℕ) × ((command ≡ Generate seed count) × (SaysGenerate words seed count × AreGenerated seed count))
+only_generate words (Solve options) says same = absurd (differ (codes "solve") (codes "generate") refl same)
+only_generate words Report says same = absurd (differ (codes "report") (codes "generate") refl same)
+only_generate words (Certify root) says same = absurd (differ (codes "certify") (codes "generate") refl same)
+only_generate words Verify says same = absurd (differ (codes "verify") (codes "generate") refl same)
+only_generate words (MakeTable pieces) says same = absurd (differ (codes "table") (codes "generate") refl same)
+only_generate words TableCheck says same = absurd (differ (codes "table-check") (codes "generate") refl same)
+only_generate words (Generate seed count) says same = (seed, count, (refl, says))
 
 pub only_plain : (command other : Command) → IsPlain command → name_of other ≡ name_of command → other ≡ command
 only_plain (Solve options) other plain same = absurd plain
@@ -95,6 +110,7 @@ only_plain Report (Certify root) plain same = absurd (differ (codes "certify") (
 only_plain Report Verify plain same = absurd (differ (codes "verify") (codes "report") refl same)
 only_plain Report (MakeTable pieces) plain same = absurd (differ (codes "table") (codes "report") refl same)
 only_plain Report TableCheck plain same = absurd (differ (codes "table-check") (codes "report") refl same)
+only_plain Report (Generate seed count) plain same = absurd (differ (codes "generate") (codes "report") refl same)
 only_plain (Certify root) other plain same = absurd plain
 only_plain Verify (Solve options) plain same = absurd (differ (codes "solve") (codes "verify") refl same)
 only_plain Verify Report plain same = absurd (differ (codes "report") (codes "verify") refl same)
@@ -102,6 +118,7 @@ only_plain Verify (Certify root) plain same = absurd (differ (codes "certify") (
 only_plain Verify Verify plain same = refl
 only_plain Verify (MakeTable pieces) plain same = absurd (differ (codes "table") (codes "verify") refl same)
 only_plain Verify TableCheck plain same = absurd (differ (codes "table-check") (codes "verify") refl same)
+only_plain Verify (Generate seed count) plain same = absurd (differ (codes "generate") (codes "verify") refl same)
 only_plain (MakeTable pieces) other plain same = absurd plain
 only_plain TableCheck (Solve options) plain same = absurd (differ (codes "solve") (codes "table-check") refl same)
 only_plain TableCheck Report plain same = absurd (differ (codes "report") (codes "table-check") refl same)
@@ -109,6 +126,8 @@ only_plain TableCheck (Certify root) plain same = absurd (differ (codes "certify
 only_plain TableCheck Verify plain same = absurd (differ (codes "verify") (codes "table-check") refl same)
 only_plain TableCheck (MakeTable pieces) plain same = absurd (differ (codes "table") (codes "table-check") refl same)
 only_plain TableCheck TableCheck plain same = refl
+only_plain TableCheck (Generate seed count) plain same = absurd (differ (codes "generate") (codes "table-check") refl same)
+only_plain (Generate seed count) other plain same = absurd plain
 
 -- how a plain command is said
 pub plain_said : (words : List (List ℕ)) (command : Command) → IsPlain command → Says words command → SaysPlain (name_of command) words
@@ -118,6 +137,7 @@ plain_said words (Certify root) plain says = absurd plain
 plain_said words Verify plain says = says
 plain_said words (MakeTable pieces) plain says = absurd plain
 plain_said words TableCheck plain says = says
+plain_said words (Generate seed count) plain says = absurd plain
 
 -- words say one command
 
@@ -125,22 +145,31 @@ same_options : (words : List (List ℕ)) (options others : Options) → SaysSolv
 same_options words options others first second =
     let behind : flat_map setting_words second.given ≡ flat_map setting_words first.given = cons_tail _ _ _ _ (cons_tail _ _ _ _ (sym second.spelling ∙ first.spelling)) in
     let same : second.given ≡ first.given = same_settings first.given second.given first.settings second.settings behind in
+    let workers : options.workers ≡ others.workers = first.workers ∙ ap (number_of Workers) (sym same) ∙ sym second.workers in
     let depth : options.depth ≡ others.depth = first.depth ∙ ap (number_of Depth) (sym same) ∙ sym second.depth in
     let pieces : options.pieces ≡ others.pieces = first.pieces ∙ ap (number_of Pieces) (sym same) ∙ sym second.pieces in
     let plies : options.plies ≡ others.plies = first.plies ∙ ap (number_of Plies) (sym same) ∙ sym second.plies in
     let budget : options.budget ≡ others.budget = first.budget ∙ ap (number_of Budget) (sym same) ∙ sym second.budget in
     let lease : options.lease ≡ others.lease = first.lease ∙ ap (number_of Lease) (sym same) ∙ sym second.lease in
-    ap (λ (n : ℕ). record { depth = n; pieces = options.pieces; plies = options.plies; budget = options.budget; lease = options.lease }) depth
-    ∙ ap (λ (n : ℕ). record { depth = others.depth; pieces = n; plies = options.plies; budget = options.budget; lease = options.lease }) pieces
-    ∙ ap (λ (n : ℕ). record { depth = others.depth; pieces = others.pieces; plies = n; budget = options.budget; lease = options.lease }) plies
-    ∙ ap (λ (n : ℕ). record { depth = others.depth; pieces = others.pieces; plies = others.plies; budget = n; lease = options.lease }) budget
-    ∙ ap (λ (n : ℕ). record { depth = others.depth; pieces = others.pieces; plies = others.plies; budget = others.budget; lease = n }) lease
+    ap (λ (n : ℕ). record { workers = n; depth = options.depth; pieces = options.pieces; plies = options.plies; budget = options.budget; lease = options.lease }) workers
+    ∙ ap (λ (n : ℕ). record { workers = others.workers; depth = n; pieces = options.pieces; plies = options.plies; budget = options.budget; lease = options.lease }) depth
+    ∙ ap (λ (n : ℕ). record { workers = others.workers; depth = others.depth; pieces = n; plies = options.plies; budget = options.budget; lease = options.lease }) pieces
+    ∙ ap (λ (n : ℕ). record { workers = others.workers; depth = others.depth; pieces = others.pieces; plies = n; budget = options.budget; lease = options.lease }) plies
+    ∙ ap (λ (n : ℕ). record { workers = others.workers; depth = others.depth; pieces = others.pieces; plies = others.plies; budget = n; lease = options.lease }) budget
+    ∙ ap (λ (n : ℕ). record { workers = others.workers; depth = others.depth; pieces = others.pieces; plies = others.plies; budget = others.budget; lease = n }) lease
 
 -- a number is said by its digits
 same_number : (name : List ℕ) (words : List (List ℕ)) (n m : ℕ) → n < 2 ^ 64 → m < 2 ^ 64 → SaysNumbered name words n → SaysNumbered name words m → n ≡ m
 same_number name words n m one other first second =
     let behind = cons_tail _ _ _ _ (cons_tail _ _ _ _ (sym first.spelling ∙ second.spelling)) in
     decimal_injective n m one other (cons_head _ _ _ _ behind)
+
+same_numbers : (words : List (List ℕ)) (seed count other many : ℕ) → AreGenerated seed count → AreGenerated other many → SaysGenerate words seed count → SaysGenerate words other many → Generate seed count ≡ Generate other many
+same_numbers words seed count other many one two first second =
+    let behind = cons_tail _ _ _ _ (cons_tail _ _ _ _ (sym first.spelling ∙ second.spelling)) in
+    let seeds : seed ≡ other = decimal_injective seed other (omega arith) (omega arith) (cons_head _ _ _ _ behind) in
+    let counts : count ≡ many = decimal_injective count many (omega arith) (omega arith) (cons_head _ _ _ _ (cons_tail _ _ _ _ behind)) in
+    ap (λ n. Generate n count) seeds ∙ ap (λ n. Generate other n) counts
 
 few_pieces : (pieces : ℕ) → IsTableSize pieces → pieces < 2 ^ 64
 few_pieces pieces some = omega arith
@@ -165,6 +194,9 @@ one_command words (MakeTable pieces) second one two =
     let other = only_table words second two (one_name words (MakeTable pieces) second one two) in
     ap (λ p. MakeTable p) (same_number (codes "table") words pieces other.0 (few_pieces pieces one.1) (few_pieces other.0 other.1.1.1) one.0 other.1.1.0) ∙ sym other.1.0
 one_command words TableCheck second one two = sym (only_plain TableCheck second tt (one_name words TableCheck second one two))
+one_command words (Generate seed count) second one two =
+    let other = only_generate words second two (one_name words (Generate seed count) second one two) in
+    same_numbers words seed count other.0 other.1 one.1 other.2.1.1 one.0 other.2.1.0 ∙ sym other.2.0
 
 -- refusals
 
@@ -244,12 +276,15 @@ two_or_three given all = let takes = takes_number Pieces given all in is_two_or_
 -- the options that words say are within their limits
 pub solve_limits : (words : List (List ℕ)) (options : Options) → SaysSolve words options → IsWithinLimits (Solve options)
 solve_limits words options says = (
-  rw says.depth (takes_number Depth says.given says.settings).1,
+  rw says.workers (takes_number Workers says.given says.settings),
   (
-    rw says.plies (takes_number Plies says.given says.settings).1,
+    rw says.depth (takes_number Depth says.given says.settings).1,
     (
-      rw says.pieces (two_or_three says.given says.settings),
-      (rw says.budget (takes_number Budget says.given says.settings).1, rw says.lease (takes_number Lease says.given says.settings)),
+      rw says.plies (takes_number Plies says.given says.settings).1,
+      (
+        rw says.pieces (two_or_three says.given says.settings),
+        (rw says.budget (takes_number Budget says.given says.settings).1, rw says.lease (takes_number Lease says.given says.settings)),
+      ),
     ),
   ),
 )
@@ -262,6 +297,7 @@ says_limits words (Certify root) says = says.1
 says_limits words Verify says = tt
 says_limits words (MakeTable pieces) says = says.1
 says_limits words TableCheck says = tt
+says_limits words (Generate seed count) says = says.1
 
 -- an answer that is right is the only one
 pub one_answer : (words : List (List ℕ)) (answer : Result Command WordsRefusal) → IfOk answer (Says words) → IfErr answer (λ refusal. IsRefusedAt words refusal.at) → IsAnswer words answer

@@ -4,4 +4,5 @@ pub mod Grammar
 pub mod SolveWords
 pub mod Front
 pub mod ShortWords
+pub mod GenerateWords
 pub mod Texts

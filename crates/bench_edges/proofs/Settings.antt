@@ -7,7 +7,7 @@ use Rattle.std.proofs.lemmas.Slice.Eq.{bytes_eq-Decides}
 use Rattle.std.specs.List.{flat_map}
 use Rattle.std.specs.Str.{bytes_eq}
 use Rattle.bench_edges.specs.declared.words.SolveOption.{SolveOption}
-use Rattle.bench_edges.specs.declared.words.SolveOption.TheVariants.{Depth, Pieces, Plies, Budget, Lease}
+use Rattle.bench_edges.specs.declared.words.SolveOption.TheVariants.{Workers, Depth, Pieces, Plies, Budget, Lease}
 use Rattle.bench_edges.specs.Words.{Setting, setting_words, IsSetting, IsNew, AreSettings, Takes, option_name, least_of, most_of, default_of, place_of, number_for, number_of}
 use Rattle.strategy_certificate.specs.Tables.{IsTableSize}
 
@@ -25,6 +25,7 @@ not_nil x xs e = let long = ap length e in omega arith
 -- settings
 
 few : (option : SolveOption) → most_of option < 2 ^ 32
+few Workers = omega arith
 few Depth = omega arith
 few Pieces = omega arith
 few Plies = omega arith
@@ -44,13 +45,14 @@ same_setting s t first second name digits =
 -- the place of the option with this name
 place_of_name : List ℕ → ℕ
 place_of_name name =
-    if bytes_eq name (codes "--depth") then 0 else if bytes_eq name (codes "--pieces") then 1 else if bytes_eq name (codes "--plies") then 2 else if bytes_eq name (codes "--budget") then 3 else 4
+    if bytes_eq name (codes "--workers") then 0 else if bytes_eq name (codes "--depth") then 1 else if bytes_eq name (codes "--pieces") then 2 else if bytes_eq name (codes "--plies") then 3 else if bytes_eq name (codes "--budget") then 4 else 5
 
 option_at : ℕ → SolveOption
-option_at place = if place == 0 then Depth else if place == 1 then Pieces else if place == 2 then Plies else if place == 3 then Budget else Lease
+option_at place = if place == 0 then Workers else if place == 1 then Depth else if place == 2 then Pieces else if place == 3 then Plies else if place == 4 then Budget else Lease
 
 place_by_name : (option : SolveOption) → place_of_name (option_name option) ≡ place_of option
 unfolding place_of_name
+place_by_name Workers = refl
 place_by_name Depth = refl
 place_by_name Pieces = refl
 place_by_name Plies = refl
@@ -59,6 +61,7 @@ place_by_name Lease = refl
 
 option_by_place : (option : SolveOption) → option_at (place_of option) ≡ option
 unfolding option_at
+option_by_place Workers = refl
 option_by_place Depth = refl
 option_by_place Pieces = refl
 option_by_place Plies = refl
@@ -190,6 +193,7 @@ within_limits P name given default all each other = elim (number_from name given
 ]
 
 takes_default : (option : SolveOption) → Takes option (default_of option)
+takes_default Workers = (omega arith, omega arith)
 takes_default Depth = (omega arith, omega arith)
 takes_default Pieces = (omega arith, omega arith)
 takes_default Plies = (omega arith, omega arith)
@@ -201,6 +205,7 @@ pub takes_number : (option : SolveOption) (given : List Setting) → AreSettings
 takes_number option given all = within_limits (Takes option) (option_name option) given (default_of option) all (takes_value option) (takes_default option)
 
 takes_least : (option : SolveOption) → Takes option (least_of option)
+takes_least Workers = (omega arith, omega arith)
 takes_least Depth = (omega arith, omega arith)
 takes_least Pieces = (omega arith, omega arith)
 takes_least Plies = (omega arith, omega arith)

@@ -5,7 +5,7 @@ use Rattle.std.specs.List.{flat_map}
 use Rattle.bench_edges.specs.declared.words.Command.{Command}
 use Rattle.bench_edges.specs.declared.words.Command.TheVariants.{Solve}
 use Rattle.bench_edges.specs.declared.words.Options.{Options}
-use Rattle.bench_edges.specs.declared.words.SolveOption.TheVariants.{Depth, Pieces, Plies, Budget, Lease}
+use Rattle.bench_edges.specs.declared.words.SolveOption.TheVariants.{Workers, Depth, Pieces, Plies, Budget, Lease}
 use Rattle.bench_edges.specs.Words.{Setting, setting_words, IsSetting, IsNew, AreSettings, number_of, solve_words, SaysSolve, Says, BeginsCommand, IsRefusedAt}
 use Rattle.bench_edges.proofs.Settings.{cons_head, cons_tail, not_nil, splits, new_before, AreSettings-more}
 use Rattle.bench_edges.proofs.Grammar.{IsStuck, only_solve, name_said, refused_at, refused_in}
@@ -21,6 +21,7 @@ pub record IsReadTo (words : List (List ℕ)) (at : ℕ) (given : List Setting) 
 -- the options that settings give
 abbrev pub options_of : List Setting → Options
 options_of given = record {
+  workers = number_of Workers given;
   depth = number_of Depth given;
   pieces = number_of Pieces given;
   plies = number_of Plies given;
@@ -36,6 +37,7 @@ said words path given spelling named settings = record {
   spelling = spelling;
   named = named;
   settings = settings;
+  workers = refl;
   depth = refl;
   pieces = refl;
   plies = refl;

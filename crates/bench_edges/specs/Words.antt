@@ -1,11 +1,12 @@
 -- The words that the program is called with, as the manual has them.
 --
---   PATH solve [--depth N] [--pieces K] [--plies N] [--budget N] [--lease N]
+--   PATH solve [--workers N] [--depth N] [--pieces K] [--plies N] [--budget N] [--lease N]
 --   PATH report
 --   PATH certify N
 --   PATH verify
 --   PATH table K
 --   PATH table-check
+--   PATH generate SEED COUNT
 --
 -- PATH is the journal's and not empty. The options follow in any order, each at most once, and each
 -- with its number in the next word. K is 2 or 3. A number is decimal digits without sign and
@@ -16,11 +17,11 @@ use Rattle.std.specs.List.{flat_map}
 use Rattle.std.specs.Str.{bytes_eq}
 use Rattle.strategy_certificate.specs.Tables.{IsTableSize}
 use Rattle.bench_edges.specs.declared.words.Command.{Command}
-use Rattle.bench_edges.specs.declared.words.Command.TheVariants.{Solve, Report, Certify, Verify, MakeTable, TableCheck}
+use Rattle.bench_edges.specs.declared.words.Command.TheVariants.{Solve, Report, Certify, Verify, MakeTable, TableCheck, Generate}
 use Rattle.bench_edges.specs.declared.words.Options.{Options}
 use Rattle.bench_edges.specs.declared.words.SolveOption.{SolveOption}
-use Rattle.bench_edges.specs.declared.words.SolveOption.TheVariants.{Depth, Pieces, Plies, Budget, Lease}
-use Rattle.bench_edges.specs.declared.words.TheConstants.{DEFAULT_DEPTH, MAX_DEPTH, DEFAULT_PIECES, MIN_PIECES, MAX_PIECES, DEFAULT_PLIES, MAX_PLIES, DEFAULT_BUDGET, MAX_BUDGET, DEFAULT_LEASE, MIN_LEASE, MAX_LEASE, MIN_ROOT, MAX_ROOT}
+use Rattle.bench_edges.specs.declared.words.SolveOption.TheVariants.{Workers, Depth, Pieces, Plies, Budget, Lease}
+use Rattle.bench_edges.specs.declared.words.TheConstants.{DEFAULT_WORKERS, MIN_WORKERS, MAX_WORKERS, DEFAULT_DEPTH, MAX_DEPTH, DEFAULT_PIECES, MIN_PIECES, MAX_PIECES, DEFAULT_PLIES, MAX_PLIES, DEFAULT_BUDGET, MAX_BUDGET, DEFAULT_LEASE, MIN_LEASE, MAX_LEASE, MIN_ROOT, MAX_ROOT, MAX_SEED, MIN_COUNT, MAX_COUNT}
 
 -- the bytes of each word
 abbrev pub texts : List (Bor (List ℕ)) → List (List ℕ)
@@ -28,6 +29,7 @@ texts words = map (λ (word : Bor (List ℕ)). word.now) words
 
 -- the word that names an option of `solve`
 abbrev pub option_name : SolveOption → List ℕ
+option_name Workers = codes "--workers"
 option_name Depth = codes "--depth"
 option_name Pieces = codes "--pieces"
 option_name Plies = codes "--plies"
@@ -36,6 +38,7 @@ option_name Lease = codes "--lease"
 
 -- the least number that it takes, the most, and the one that stands where none is given
 abbrev pub least_of : SolveOption → ℕ
+least_of Workers = MIN_WORKERS
 least_of Depth = 0
 least_of Pieces = MIN_PIECES
 least_of Plies = 0
@@ -43,6 +46,7 @@ least_of Budget = 0
 least_of Lease = MIN_LEASE
 
 abbrev pub most_of : SolveOption → ℕ
+most_of Workers = MAX_WORKERS
 most_of Depth = MAX_DEPTH
 most_of Pieces = MAX_PIECES
 most_of Plies = MAX_PLIES
@@ -50,6 +54,7 @@ most_of Budget = MAX_BUDGET
 most_of Lease = MAX_LEASE
 
 abbrev pub default_of : SolveOption → ℕ
+default_of Workers = DEFAULT_WORKERS
 default_of Depth = DEFAULT_DEPTH
 default_of Pieces = DEFAULT_PIECES
 default_of Plies = DEFAULT_PLIES
@@ -103,6 +108,7 @@ pub record SaysSolve (words : List (List ℕ)) (options : Options) : Type 0 wher
   pub spelling : words ≡ solve_words path given
   pub named : path ≢ []
   pub settings : AreSettings given
+  pub workers : options.workers ≡ number_of Workers given
   pub depth : options.depth ≡ number_of Depth given
   pub pieces : options.pieces ≡ number_of Pieces given
   pub plies : options.plies ≡ number_of Plies given
@@ -111,11 +117,12 @@ pub record SaysSolve (words : List (List ℕ)) (options : Options) : Type 0 wher
 
 -- the place of an option among the numbers that are read
 abbrev pub place_of : SolveOption → ℕ
-place_of Depth = 0
-place_of Pieces = 1
-place_of Plies = 2
-place_of Budget = 3
-place_of Lease = 4
+place_of Workers = 0
+place_of Depth = 1
+place_of Pieces = 2
+place_of Plies = 3
+place_of Budget = 4
+place_of Lease = 5
 
 -- The words say `solve`, and these are the numbers that its options are given, each at its option's
 -- place; none stands where none is given.
@@ -134,6 +141,12 @@ pub record SaysNumbered (name : List ℕ) (words : List (List ℕ)) (n : ℕ) : 
   pub spelling : words ≡ path ∷ name ∷ decimal n ∷ []
   pub named : path ≢ []
 
+-- The words say `generate` with a seed and a count.
+pub record SaysGenerate (words : List (List ℕ)) (seed count : ℕ) : Type 0 where
+  pub path : List ℕ
+  pub spelling : words ≡ path ∷ codes "generate" ∷ decimal seed ∷ decimal count ∷ []
+  pub named : path ≢ []
+
 -- The words say a command by its name alone.
 pub record SaysPlain (name : List ℕ) (words : List (List ℕ)) : Type 0 where
   pub path : List ℕ
@@ -144,6 +157,10 @@ pub record SaysPlain (name : List ℕ) (words : List (List ℕ)) : Type 0 where
 abbrev pub IsRootNumber : ℕ → Type 0
 IsRootNumber n = (MIN_ROOT ≤ n) × (n ≤ MAX_ROOT)
 
+-- the seed and the count of `generate`
+abbrev pub AreGenerated : ℕ → ℕ → Type 0
+AreGenerated seed count = (seed ≤ MAX_SEED) × ((MIN_COUNT ≤ count) × (count ≤ MAX_COUNT))
+
 -- the words say this command: they are in the grammar
 abbrev pub Says : List (List ℕ) → Command → Type 0
 Says words (Solve options) = SaysSolve words options
@@ -152,17 +169,19 @@ Says words (Certify root) = SaysNumbered (codes "certify") words root × IsRootN
 Says words Verify = SaysPlain (codes "verify") words
 Says words (MakeTable pieces) = SaysNumbered (codes "table") words pieces × IsTableSize pieces
 Says words TableCheck = SaysPlain (codes "table-check") words
+Says words (Generate seed count) = SaysGenerate words seed count × AreGenerated seed count
 
 -- the numbers that the command names are within their limits
 abbrev pub IsWithinLimits : Command → Type 0
 IsWithinLimits (Solve options) =
-    (options.depth ≤ MAX_DEPTH) × ((options.plies ≤ MAX_PLIES) × (IsTableSize options.pieces
-    × ((options.budget ≤ MAX_BUDGET) × Takes Lease options.lease)))
+    Takes Workers options.workers × ((options.depth ≤ MAX_DEPTH) × ((options.plies ≤ MAX_PLIES)
+    × (IsTableSize options.pieces × ((options.budget ≤ MAX_BUDGET) × Takes Lease options.lease))))
 IsWithinLimits Report = Unit {0}
 IsWithinLimits (Certify root) = IsRootNumber root
 IsWithinLimits Verify = Unit {0}
 IsWithinLimits (MakeTable pieces) = IsTableSize pieces
 IsWithinLimits TableCheck = Unit {0}
+IsWithinLimits (Generate seed count) = AreGenerated seed count
 
 -- the commands that are said by their name alone
 abbrev pub IsPlain : Command → Type 0
@@ -172,6 +191,7 @@ IsPlain (Certify root) = ⊥
 IsPlain Verify = Unit {0}
 IsPlain (MakeTable pieces) = ⊥
 IsPlain TableCheck = Unit {0}
+IsPlain (Generate seed count) = ⊥
 
 -- words that some command's words begin with
 abbrev pub BeginsCommand : List (List ℕ) → Type 0

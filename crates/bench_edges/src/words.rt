@@ -21,11 +21,20 @@ pub enum Command {
     MakeTable(u8),
     /// Check the endgame table that the source holds.
     TableCheck,
+    /// Solve openings made from a seed on the journal.
+    Generate {
+        /// Where the openings begin, any number of 32 bits.
+        seed: u32,
+        /// How many openings there are, 1 to 2,000.
+        count: u32,
+    },
 }
 
 /// The options of `solve`.
 #[derive(Clone, Copy, Debug, PartialEq, Eq)]
 pub struct Options {
+    /// How many workers search at once, 1 to 64.
+    pub workers: u8,
     /// How many plies a search looks ahead, 0 to 12.
     pub depth: u8,
     /// The number of pieces of the endgame table, 2 or 3.
@@ -41,6 +50,7 @@ pub struct Options {
 /// An option of `solve`.
 #[derive(Clone, Copy)]
 pub(crate) enum SolveOption {
+    Workers,
     Depth,
     Pieces,
     Plies,
@@ -56,6 +66,15 @@ pub struct WordsRefusal {
     /// one is missing.
     pub at: usize,
 }
+
+/// How many workers search at once where no number is given.
+pub(crate) const DEFAULT_WORKERS: u32 = 1;
+
+/// The least number of workers.
+pub(crate) const MIN_WORKERS: u32 = 1;
+
+/// The most workers that search at once.
+pub(crate) const MAX_WORKERS: u32 = 64;
 
 /// How many plies a search looks ahead where no number is given.
 pub(crate) const DEFAULT_DEPTH: u32 = 4;
@@ -99,8 +118,17 @@ pub(crate) const MIN_ROOT: u32 = 1;
 /// The number of the last root that a journal can hold.
 pub(crate) const MAX_ROOT: u32 = 65_536;
 
+/// The greatest seed of `generate`.
+pub(crate) const MAX_SEED: u32 = 4_294_967_295;
+
+/// The fewest openings that `generate` makes.
+pub(crate) const MIN_COUNT: u32 = 1;
+
+/// The most openings that `generate` makes.
+pub(crate) const MAX_COUNT: u32 = 2_000;
+
 /// How many options `solve` has.
-const OPTION_COUNT: usize = 5;
+const OPTION_COUNT: usize = 6;
 
 impl SolveOption {
     /// The option that a word names, if it names one.
@@ -109,6 +137,7 @@ impl SolveOption {
         ensures none { result ≡ None → (option : SolveOption) → word.now ≢ option_name option }
     {
         match word {
+            "--workers" => Some(SolveOption::Workers),
             "--depth" => Some(SolveOption::Depth),
             "--pieces" => Some(SolveOption::Pieces),
             "--plies" => Some(SolveOption::Plies),
@@ -131,6 +160,7 @@ impl SolveOption {
         ensures { result ≡ least_of self }
     {
         match self {
+            SolveOption::Workers => MIN_WORKERS,
             SolveOption::Pieces => MIN_PIECES,
             SolveOption::Lease => MIN_LEASE,
             _ => 0,
@@ -142,6 +172,7 @@ impl SolveOption {
         ensures { result ≡ most_of self }
     {
         match self {
+            SolveOption::Workers => MAX_WORKERS,
             SolveOption::Depth => MAX_DEPTH,
             SolveOption::Pieces => MAX_PIECES,
             SolveOption::Plies => MAX_PLIES,
@@ -201,8 +232,9 @@ fn read_solve(words: &[&str]) -> Result<Command, WordsRefusal>
     ensures command { IfOk result (λ command. Says (texts words.now) command) }
     ensures refused { IfErr result (λ refusal. IsRefusedAt (texts words.now) refusal.at) }
 {
-    let [depth, pieces, plies, budget, lease] = read_settings(words)?;
+    let [workers, depth, pieces, plies, budget, lease] = read_settings(words)?;
     Ok(Command::Solve(Options {
+        workers: workers.unwrap_or(DEFAULT_WORKERS) as u8,
         depth: depth.unwrap_or(DEFAULT_DEPTH) as u8,
         pieces: pieces.unwrap_or(DEFAULT_PIECES) as u8,
         plies: plies.unwrap_or(DEFAULT_PLIES) as u8,
@@ -239,6 +271,21 @@ fn read_certify(words: &[&str]) -> Result<Command, WordsRefusal>
     Ok(Command::Certify(root))
 }
 
+/// Reads the seed and the count of `generate`, which stand behind the first two words.
+fn read_generate(words: &[&str]) -> Result<Command, WordsRefusal>
+    requires { (path : List ℕ) × (path ≢ [])
+        × (take 2 (texts words.now) ≡ path ∷ codes "generate" ∷ []) }
+    ensures command { IfOk result (λ command. Says (texts words.now) command) }
+    ensures refused { IfErr result (λ refusal. IsRefusedAt (texts words.now) refusal.at) }
+{
+    let seed = number_at(words, 2, 0, MAX_SEED)?;
+    let count = number_at(words, 3, MIN_COUNT, MAX_COUNT)?;
+    if words.len() > 4 {
+        return Err(WordsRefusal { at: 4 });
+    }
+    Ok(Command::Generate { seed, count })
+}
+
 /// Reads a command that its name alone says, which is the second word.
 fn read_plain(words: &[&str], command: Command) -> Result<Command, WordsRefusal>
     requires plain { IsPlain command }
@@ -255,14 +302,15 @@ fn read_plain(words: &[&str], command: Command) -> Result<Command, WordsRefusal>
 /// Reads the words, without the program's name: a path, which is not empty, and then one of these.
 ///
 /// - `solve` and its options in any order, each at most once, with its number in the next word:
-///   `--depth`, 0 to 12 and by default 4, `--pieces`, 2 or 3 and by default 2, `--plies`, 0 to 200
-///   and by default 200, `--budget`, 0 to 1,000,000 and by default 1,000, and `--lease`, 1 to
-///   1,000,000,000 and by default 1,000,000.
+///   `--workers`, 1 to 64 and by default 1, `--depth`, 0 to 12 and by default 4, `--pieces`, 2 or 3
+///   and by default 2, `--plies`, 0 to 200 and by default 200, `--budget`, 0 to 1,000,000 and by
+///   default 1,000, and `--lease`, 1 to 1,000,000,000 and by default 1,000,000.
 /// - `report`.
 /// - `certify` and the number of a root, 1 to 65,536.
 /// - `verify`.
 /// - `table` and the number of pieces, 2 or 3.
 /// - `table-check`.
+/// - `generate`, a seed, 0 to 4,294,967,295, and a count, 1 to 2,000.
 ///
 /// Refuses words that are not in this grammar at the first that cannot stand where it stands
 /// (places count from 0), or at their number where one is missing.
@@ -288,6 +336,7 @@ pub fn read_words(words: &[&str]) -> Result<Command, WordsRefusal>
         "verify" => read_plain(words, Command::Verify),
         "table" => read_table(words),
         "table-check" => read_plain(words, Command::TableCheck),
+        "generate" => read_generate(words),
         _ => Err(WordsRefusal { at: 1 }),
     }
 }
@@ -299,6 +348,7 @@ mod tests {
 
     fn expect_solve(rt: &impl Abort, words: &[&str], depth: u8, pieces: u8, plies: u8) {
         let solve = Command::Solve(Options {
+            workers: 1,
             depth,
             pieces,
             plies,
@@ -310,6 +360,7 @@ mod tests {
 
     fn expect_budget(rt: &impl Abort, words: &[&str], budget: u32, lease: u32) {
         let solve = Command::Solve(Options {
+            workers: 1,
             depth: 4,
             pieces: 2,
             plies: 200,
@@ -317,6 +368,26 @@ mod tests {
             lease,
         });
         assert_eq!(rt; read_words(words), Ok(solve), "{words:?}");
+    }
+
+    fn expect_workers(rt: &impl Abort, words: &[&str], workers: u8, depth: u8) {
+        let solve = Command::Solve(Options {
+            workers,
+            depth,
+            pieces: 2,
+            plies: 200,
+            budget: 1_000,
+            lease: 1_000_000,
+        });
+        assert_eq!(rt; read_words(words), Ok(solve), "{words:?}");
+    }
+
+    fn expect_generate(rt: &impl Abort, seed_word: &str, count_word: &str, seed: u32, count: u32) {
+        expect_command(
+            rt,
+            &["-", "generate", seed_word, count_word],
+            Command::Generate { seed, count },
+        );
     }
 
     fn expect_command(rt: &impl Abort, words: &[&str], command: Command) {
@@ -375,7 +446,42 @@ mod tests {
         expect_refused(&rt, &["-", "solve", "--lease", "1000000001"], 3);
         expect_refused(&rt, &["-", "solve", "--budget", "4294967296"], 3);
         expect_refused(&rt, &["-", "solve", "--budget", "1", "--budget", "1"], 4);
-        expect_refused(&rt, &["-", "solve", "--workers", "1"], 2);
+    }
+
+    #[test]
+    fn reads_workers(rt: HostRuntime) {
+        expect_workers(&rt, &["-", "solve", "--workers", "1"], 1, 4);
+        expect_workers(&rt, &["-", "solve", "--workers", "64"], 64, 4);
+        expect_workers(&rt, &["-", "solve", "--depth", "8", "--workers", "4"], 4, 8);
+        for workers in ["0", "65", "04", "-4", "four", "256", ""] {
+            expect_refused(&rt, &["-", "solve", "--workers", workers], 3);
+        }
+        expect_refused(&rt, &["-", "solve", "--worker", "1"], 2);
+        expect_refused(&rt, &["-", "solve", "--workers"], 3);
+        expect_refused(&rt, &["-", "solve", "--workers", "1", "--workers", "2"], 4);
+        expect_refused(&rt, &["-", "report", "--workers", "1"], 2);
+    }
+
+    #[test]
+    fn reads_generate(rt: HostRuntime) {
+        expect_generate(&rt, "1", "500", 1, 500);
+        expect_generate(&rt, "0", "1", 0, 1);
+        expect_generate(&rt, "4294967295", "2000", 4_294_967_295, 2_000);
+        expect_refused(&rt, &["-", "generate"], 2);
+        expect_refused(&rt, &["-", "generate", "1"], 3);
+        for seed in ["4294967296", "01", "-1", "", "one", "--workers"] {
+            expect_refused(&rt, &["-", "generate", seed, "500"], 2);
+        }
+        for count in ["0", "2001", "0500", "+1", "", "4294967297", "--workers"] {
+            expect_refused(&rt, &["-", "generate", "1", count], 3);
+        }
+        expect_refused(&rt, &["-", "generate", "1", "500", "x"], 4);
+        expect_refused(&rt, &["-", "generate", "1", "500", "--workers", "4"], 4);
+        expect_refused(&rt, &["-", "generate", "one", "500", "x"], 2);
+        expect_refused(&rt, &["", "generate", "1", "500"], 0);
+        for name in ["Generate", "generate ", "generates", "--generate"] {
+            expect_refused(&rt, &["-", name, "1", "500"], 1);
+        }
     }
 
     #[test]

@@ -14,7 +14,7 @@ use Rattle.strategy_certificate.specs.declared.certificates.Part.{Part}
 use Rattle.strategy_certificate.specs.declared.certificates.Part.TheVariants as part
 use Rattle.strategy_certificate.specs.declared.certificates.Certificate.{Certificate}
 use Rattle.strategy_certificate.specs.Parts.{WinList, HoldList}
-use Rattle.strategy_certificate.specs.Certificates.{IsGoodPart, IsHeld}
+use Rattle.strategy_certificate.specs.Certificates.{IsGoodPart, IsHeld, claim_of}
 use Rattle.certificate_joiner.specs.declared.steps.Aim.{Aim}
 use Rattle.proof_tree.specs.Forest.{Forest, Node, nodes, value_of}
 use Rattle.proof_tree.specs.Sound.{EachNode, IsSoundNode}
@@ -54,9 +54,9 @@ module _ (k : ℕ) (puts : List Put) (aim : Aim) (s : Side) (f : ℕ → Node) (
 -- ---- the certificate
 
 module _ (k : ℕ) (p : Board) where
-  pub win_claims : (s : Side) (list : WinList) (position : Board) (parts : List Part) → position ≡ p → parts ≡ part.Win list ∷ [] → list.side ≡ s
-      → ByEachTable k (λ answer. IsGoodPart answer p (part.Win list)) → IsJoined k p (claims.Win s) (record { position = position; claim = claims.Win s; pieces = k; parts = parts })
-  win_claims s list position parts at made side good =
+  pub win_claims : (s : Side) (one : Part) (position : Board) (parts : List Part) → position ≡ p → parts ≡ one ∷ [] → claim_of one ≡ claims.Win s
+      → ByEachTable k (λ answer. IsGoodPart answer p one) → IsJoined k p (claims.Win s) (record { position = position; claim = claims.Win s; pieces = k; parts = parts })
+  win_claims s one position parts at made said good =
       subst (λ q. IsJoined k p (claims.Win s) (record { position = q; claim = claims.Win s; pieces = k; parts = parts })) (sym at)
       (subst (λ ps. IsJoined k p (claims.Win s) (record { position = p; claim = claims.Win s; pieces = k; parts = ps })) (sym made)
       (record {
@@ -64,13 +64,13 @@ module _ (k : ℕ) (p : Board) where
         pieces = refl;
         claims = refl;
         good = λ answer sound. record {
-          due = ap (λ t. claims.Win t ∷ []) side;
-          parts = All-cons (IsGoodPart answer p) (part.Win list) [] (good answer sound) (All-nil (IsGoodPart answer p));
+          due = ap (λ c. c ∷ []) said;
+          parts = All-cons (IsGoodPart answer p) one [] (good answer sound) (All-nil (IsGoodPart answer p));
         };
       }))
 
-  pub draw_claims : (black white : HoldList) (position : Board) (parts : List Part) → position ≡ p → parts ≡ part.Hold black ∷ part.Hold white ∷ [] → black.side ≡ Black → white.side ≡ White
-      → ByEachTable k (λ answer. IsGoodPart answer p (part.Hold black)) → ByEachTable k (λ answer. IsGoodPart answer p (part.Hold white))
+  pub draw_claims : (black white : Part) (position : Board) (parts : List Part) → position ≡ p → parts ≡ black ∷ white ∷ [] → claim_of black ≡ claims.Hold Black → claim_of white ≡ claims.Hold White
+      → ByEachTable k (λ answer. IsGoodPart answer p black) → ByEachTable k (λ answer. IsGoodPart answer p white)
       → IsJoined k p claims.Draw (record { position = position; claim = claims.Draw; pieces = k; parts = parts })
   draw_claims black white position parts at made b w good_black good_white =
       subst (λ q. IsJoined k p claims.Draw (record { position = q; claim = claims.Draw; pieces = k; parts = parts })) (sym at)
@@ -80,9 +80,9 @@ module _ (k : ℕ) (p : Board) where
         pieces = refl;
         claims = refl;
         good = λ answer sound. record {
-          due = cc;
-          parts = All-cons (IsGoodPart answer p) (part.Hold black) (part.Hold white ∷ []) (good_black answer sound)
-              (All-cons (IsGoodPart answer p) (part.Hold white) [] (good_white answer sound) (All-nil (IsGoodPart answer p)));
+          due = λ i. b i ∷ w i ∷ [];
+          parts = All-cons (IsGoodPart answer p) black (white ∷ []) (good_black answer sound)
+              (All-cons (IsGoodPart answer p) white [] (good_white answer sound) (All-nil (IsGoodPart answer p)));
         };
       }))
 

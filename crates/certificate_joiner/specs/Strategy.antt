@@ -5,6 +5,7 @@ use Rattle.draughts_board.specs.Game.{ShowsWin, ShowsHold}
 use Rattle.draughts_board.specs.Draughts.{draughts}
 use Rattle.draughts_board.specs.declared.pieces.Side.{Side}
 use Rattle.strategy_certificate.specs.declared.claims.Claim.{Claim}
+use Rattle.strategy_certificate.specs.declared.claims.Claim.TheVariants as claims
 use Rattle.strategy_certificate.specs.declared.certificates.Part.{Part}
 use Rattle.strategy_certificate.specs.declared.certificates.Part.TheVariants as part
 use Rattle.strategy_certificate.specs.declared.certificates.Certificate.{Certificate}
@@ -77,6 +78,11 @@ ShowsNone aim s c = All (λ one. part_shows aim s one ≡ false) c.parts
 abbrev pub ShowsBy : Aim → ℕ → Side → List Board → List Board → Board → Reason → Type 0
 ShowsBy Win k s before later p reason = ShowsWinBy k s later p reason
 ShowsBy Hold k s before later p reason = ShowsHoldBy k s before later p reason
+
+-- the claim that the side wins, or holds
+abbrev pub claim_sought : Aim → Side → Claim
+claim_sought Win s = claims.Win s
+claim_sought Hold s = claims.Hold s
 
 -- a node of the strategy, below the positions of the path
 pub record IsDueNode (k : ℕ) (puts : List Put) (aim : Aim) (s : Side) (path : List Board) (x : Node) : Type 0 where

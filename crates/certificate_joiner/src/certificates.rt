@@ -2,15 +2,14 @@
 ghost use Rattle.std.specs.Prelude.{◌≡◌, ◌≤◌, ◌-◌, ◌^◌, [], length, slice_get, IfOk, IfSome, IsSome};
 ghost use Rattle.draughts_board.specs.declared.pieces.Side.TheVariants.{Black, White};
 ghost use Rattle.strategy_certificate.specs.declared.claims.Claim.TheVariants as claims;
-ghost use Rattle.strategy_certificate.specs.declared.certificates.Part.TheVariants as part;
-ghost use Rattle.strategy_certificate.specs.Certificates.{IsGoodPart};
+ghost use Rattle.strategy_certificate.specs.Certificates.{IsGoodPart, claim_of};
 ghost use Rattle.proof_tree.specs.Forest.{nodes, value_of};
 ghost use Rattle.proof_tree.specs.Sound.{IsTreeState};
 ghost use Rattle.certificate_joiner.specs.declared.steps.Aim.TheVariants as aim;
 ghost use Rattle.certificate_joiner.specs.Certified.{IsJoined, claim_for};
 ghost use Rattle.certificate_joiner.specs.Laws.{AreCertified};
 ghost use Rattle.certificate_joiner.specs.Steps.{ByEachTable};
-ghost use Rattle.certificate_joiner.specs.Strategy.{IsDueNode, named, IsNamed};
+ghost use Rattle.certificate_joiner.specs.Strategy.{IsDueNode, named, claim_sought, IsNamed};
 
 use crate::collecting::collect;
 use crate::joining::{join_holds, join_wins};
@@ -19,58 +18,37 @@ use crate::steps::{Aim, Quest};
 use draughts_board::{Side, Value};
 use proof_tree::{NodeId, Tree};
 use std::alloc::{AllocError, Global};
-use strategy_certificate::{Certificate, Claim, HoldPart, Part, PartList, WinPart};
+use strategy_certificate::{Certificate, Claim, Part, PartList};
 
-/// The part by which the side wins the position of a node.
-fn won(
+/// The part by which the side of the quest wins, or holds, the position of a node.
+fn part_for(
     alloc: Global,
     tree: &Tree,
     shelf: &PartShelf,
     n: NodeId,
-    side: Side,
-    pieces: u8,
-) -> Result<WinPart, AllocError>
-    requires pieces { pieces ≤ 3 }
+    quest: Quest,
+) -> Result<Part, AllocError>
+    requires pieces { quest.pieces ≤ 3 }
     requires valid { IsTreeState tree.now }
     requires there { IsNamed tree.now.forest n }
-    requires due { IsDueNode pieces shelf.now.puts aim.Win side [] (named tree.now.forest n) }
-    ensures side { IfOk result (λ list. list.side ≡ side) }
-    ensures good { IfOk result (λ list. ByEachTable pieces (λ answer.
-        IsGoodPart answer (named tree.now.forest n).own.position (part.Win list))) }
+    requires due { IsDueNode quest.pieces shelf.now.puts quest.aim quest.side [] (named tree.now.forest n) }
+    ensures claim { IfOk result (λ one. claim_of one ≡ claim_sought quest.aim quest.side) }
+    ensures good { IfOk result (λ one. ByEachTable quest.pieces (λ answer.
+        IsGoodPart answer (named tree.now.forest n).own.position one)) }
 {
-    let quest = Quest {
-        aim: Aim::Win,
-        side,
-        pieces,
-    };
+    let Quest { aim, side, pieces } = quest;
     let strategy = collect(alloc, tree, n, quest)?;
-    join_wins(alloc, tree, shelf, &strategy, side, pieces)
-}
-
-/// The part by which the side holds the position of a node.
-fn held(
-    alloc: Global,
-    tree: &Tree,
-    shelf: &PartShelf,
-    n: NodeId,
-    side: Side,
-    pieces: u8,
-) -> Result<HoldPart, AllocError>
-    requires pieces { pieces ≤ 3 }
-    requires valid { IsTreeState tree.now }
-    requires there { IsNamed tree.now.forest n }
-    requires due { IsDueNode pieces shelf.now.puts aim.Hold side [] (named tree.now.forest n) }
-    ensures side { IfOk result (λ list. list.side ≡ side) }
-    ensures good { IfOk result (λ list. ByEachTable pieces (λ answer.
-        IsGoodPart answer (named tree.now.forest n).own.position (part.Hold list))) }
-{
-    let quest = Quest {
-        aim: Aim::Hold,
-        side,
-        pieces,
-    };
-    let strategy = collect(alloc, tree, n, quest)?;
-    join_holds(alloc, tree, shelf, &strategy, side, pieces)
+    let nodes = strategy.as_slice();
+    match aim {
+        Aim::Win => {
+            let wins = join_wins(alloc, tree, shelf, nodes, side, pieces)?;
+            Ok(Part::Win(wins))
+        }
+        Aim::Hold => {
+            let holds = join_holds(alloc, tree, shelf, nodes, side, pieces)?;
+            Ok(Part::Hold(holds))
+        }
+    }
 }
 
 /// The certificate of a win.
@@ -89,9 +67,13 @@ fn win_certificate(
     ensures { IfOk result
         (IsJoined pieces (named tree.now.forest n).own.position (claims.Win side)) }
 {
-    let list = won(alloc, tree, shelf, n, side, pieces)?;
+    let quest = Quest {
+        aim: Aim::Win,
+        side,
+        pieces,
+    };
     let mut parts = Vec::new(alloc);
-    parts.push(Part::Win(list))?;
+    parts.push(part_for(alloc, tree, shelf, n, quest)?)?;
     Ok(Certificate {
         position: tree.position(n),
         claim: Claim::Win(side),
@@ -115,11 +97,19 @@ fn draw_certificate(
     requires white { IsDueNode pieces shelf.now.puts aim.Hold White [] (named tree.now.forest n) }
     ensures { IfOk result (IsJoined pieces (named tree.now.forest n).own.position claims.Draw) }
 {
-    let black = held(alloc, tree, shelf, n, Side::Black, pieces)?;
-    let white = held(alloc, tree, shelf, n, Side::White, pieces)?;
+    let aim = Aim::Hold;
+    let black = Quest {
+        aim,
+        side: Side::Black,
+        pieces,
+    };
+    let white = Quest {
+        side: Side::White,
+        ..black
+    };
     let mut parts = Vec::new(alloc);
-    parts.push(Part::Hold(black))?;
-    parts.push(Part::Hold(white))?;
+    parts.push(part_for(alloc, tree, shelf, n, black)?)?;
+    parts.push(part_for(alloc, tree, shelf, n, white)?)?;
     Ok(Certificate {
         position: tree.position(n),
         claim: Claim::Draw,

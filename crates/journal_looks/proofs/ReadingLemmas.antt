@@ -1,14 +1,13 @@
 -- What is read of a journal, and what reading leaves.
-use Rattle.std.proofs.Common.{◌≡◌, ◌≤◌, ℕ, List, [], map, refl, sym, ◌∙◌, ap, subst, ◌⊎◌, inl, inr, ⊎_elim}
+use Rattle.std.proofs.Common.{◌≡◌, ◌≤◌, ℕ, List, [], map, sym, subst, ◌⊎◌, inl, inr, ⊎_elim}
 use Rattle.std.specs.Prelude.{Result, Ok, Err, IfOk, IfErr}
 use Rattle.std.specs.Bool.{OnFalse}
-use Rattle.shared_words.specs.Answers.{IsExact}
 use Rattle.shared_words.proofs.Exactness.{on_false}
+use Rattle.bench_disk.specs.Disk.{Stays}
 use Rattle.bench_disk.specs.Runs.{OnlyLooks}
 use Rattle.disk_journal.specs.declared.payload.Payload.{Payload}
 use Rattle.disk_journal.specs.declared.refusal.JournalRefusal.{JournalRefusal}
 use Rattle.disk_journal.specs.declared.refusal.JournalRefusal.TheVariants.{DiskFault, NotAJournal, OtherTable, Damaged, Memory}
-use Rattle.disk_journal.specs.Contents.{Contents, IsReadAs}
 use Rattle.disk_journal.specs.Format.{HasPayloads, HasPlaces}
 use Rattle.disk_journal.specs.Refusals.{ExplainsAny, says_nothing_of_file}
 use Rattle.bench_core.specs.Cores.{Core}
@@ -17,7 +16,7 @@ use Rattle.endgame_table.specs.Entries.{Entries}
 use Rattle.tree_manager.specs.Receipts.{SpellsRecords}
 use Rattle.tree_manager.specs.Replaying.{RefusesPayloads, payload_texts}
 use Rattle.tree_manager.proofs.ReplayLemmas.{replay_explained}
-use Rattle.journal_looks.specs.Looks.{ExplainsUnread, HasForest, Stays}
+use Rattle.journal_looks.specs.Looks.{ExplainsUnread, HasForest}
 
 -- ---- what is left
 
@@ -43,16 +42,6 @@ unread_payload k file payloads (OtherTable found asked) has places refused = abs
 unread_payload k file payloads (Damaged at) has places refused =
     ⊎_elim (λ own. inl (k, own)) (λ stops. inr (k, stops)) (replay_explained k file payloads (Damaged at) has places refused)
 unread_payload k file payloads (Memory error) has places refused = tt
-
--- ---- a cause of the journal comes first
-
-pub none_read : (file : List ℕ) (read : Contents) (e : JournalRefusal) → IsExact says_nothing_of_file (IsReadAs file) (ExplainsAny file) (Ok read) → ExplainsAny file e → ⊥
-none_read file read e exact stands = subst (λ (x : Result Contents JournalRefusal). IfErr x (λ v. ⊥)) (exact.only_fault e stands) tt
-
-pub cause_is : (file : List ℕ) (refusal e : JournalRefusal) → IsExact {T = Contents} says_nothing_of_file (IsReadAs file) (ExplainsAny file) (Err refusal) → ExplainsAny file e
-    → OnFalse (says_nothing_of_file refusal) (refusal ≡ e)
-cause_is file refusal e exact stands =
-    on_false (says_nothing_of_file refusal) _ (refusal ≡ e) (λ same. subst (λ (x : Result Contents JournalRefusal). IfErr x (λ v. refusal ≡ v)) same refl) (exact.only_fault e stands)
 
 -- ---- the bench that was read, or why there is none
 

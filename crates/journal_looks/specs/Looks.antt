@@ -1,8 +1,8 @@
 -- What is shown of a journal that is only looked at, and what is left of it.
-use Rattle.std.specs.Prelude.{◌≡◌, ◌≤◌, ◌<◌, ◌-◌, ◌⊎◌, ℕ, Bool, false, List, length, slice_get, Some, None, IfSome, Result, MatchResult}
+use Rattle.std.specs.Prelude.{◌≡◌, ◌≤◌, ◌<◌, ◌-◌, ◌⊎◌, ℕ, Bool, true, false, List, length, slice_get, Some, None, IfSome, Result, Err, IfErr}
 use Rattle.std.specs.declared.alloc.AllocError.{AllocError}
 use Rattle.std.specs.Bool.{OnFalse}
-use Rattle.bench_disk.specs.Disk.{AddsNone}
+use Rattle.shared_words.specs.Answers.{Unless}
 use Rattle.disk_journal.specs.Refusals.{ExplainsAny, says_nothing_of_file}
 use Rattle.disk_journal.specs.declared.refusal.JournalRefusal.{JournalRefusal}
 use Rattle.disk_journal.specs.declared.refusal.JournalRefusal.TheVariants as journal
@@ -19,15 +19,6 @@ use Rattle.opening_report.specs.declared.roots.Root.{Root}
 use Rattle.opening_report.specs.Report.{forest_roots, report_of, AreTrueRoots}
 use Rattle.journal_looks.specs.declared.refusals.LookRefusal.{LookRefusal}
 use Rattle.journal_looks.specs.declared.refusals.LookRefusal.TheVariants.{Journal, NoRoot, UnsettledRoot}
-
--- ---- what is left
-
--- The disk reads as before, and a crash may leave what it might have left before.
-pub record Stays {D : Type 0} (reads : D → List ℕ) (images : D → List ℕ → Type 0)
-    (old new : D) : Type 0 where
-  pub same : reads new ≡ reads old
-  pub none_added : AddsNone (images old) (images new)
-  pub none_lost : AddsNone (images new) (images old)
 
 -- ---- what a file shows
 
@@ -77,12 +68,15 @@ pub record IsTrueReport (text : List ℕ) : Type 0 where
 
 -- ---- refusals
 
--- Why a file is not read as records, unless the refusal says nothing of it: it is no journal or a
--- damaged one, or a payload is the text of no record that is lawful behind those before it.
+-- A cause for which a file is not read as records: it is no journal or a damaged one, or a payload
+-- is the text of no record that is lawful behind those before it.
+abbrev pub IsUnread : List ℕ → JournalRefusal → Type 0
+IsUnread file cause =
+    ExplainsAny file cause ⊎ ((pieces : ℕ) × ExplainsReplay file pieces cause)
+
+-- .. unless the refusal says nothing of the file
 abbrev pub ExplainsUnread : List ℕ → JournalRefusal → Type 0
-ExplainsUnread file refusal =
-    OnFalse (says_nothing_of_file refusal)
-    (ExplainsAny file refusal ⊎ ((pieces : ℕ) × ExplainsReplay file pieces refusal))
+ExplainsUnread file refusal = OnFalse (says_nothing_of_file refusal) (IsUnread file refusal)
 
 -- no root of the file has this number, counted from 1
 pub record HasNoRoot (file : List ℕ) (n : ℕ) : Type 0 where
@@ -100,17 +94,27 @@ pub record HasUnsettledRoot (file : List ℕ) (n : ℕ) : Type 0 where
   pub there : IsNthRoot n roots root
   pub unsettled : value_of root ≡ None
 
--- why there is no report
-abbrev pub ExplainsNoReport : List ℕ → LookRefusal → Type 0
-ExplainsNoReport file (Journal refusal) = ExplainsUnread file refusal
-ExplainsNoReport file (NoRoot m) = ⊥
-ExplainsNoReport file (UnsettledRoot m) = ⊥
+-- the file's nth root has a value
+pub record HasSettledRoot (file : List ℕ) (n : ℕ) : Type 0 where
+  pub pieces : ℕ
+  pub roots : Forest
+  pub has : HasForest pieces file roots
+  pub root : Node
+  pub there : IsNthRoot n roots root
+  pub value : Value
+  pub settled : value_of root ≡ Some value
 
--- why there is no certificate of the nth root
-abbrev pub ExplainsNoCertificate : List ℕ → ℕ → LookRefusal → Type 0
-ExplainsNoCertificate file n (Journal refusal) = ExplainsUnread file refusal
-ExplainsNoCertificate file n (NoRoot m) = (m ≡ n) × HasNoRoot file n
-ExplainsNoCertificate file n (UnsettledRoot m) = (m ≡ n) × HasUnsettledRoot file n
+-- a cause for which a file gives no report
+abbrev pub HasNoReport : List ℕ → LookRefusal → Type 0
+HasNoReport file (Journal cause) = IsUnread file cause
+HasNoReport file (NoRoot m) = ⊥
+HasNoReport file (UnsettledRoot m) = ⊥
+
+-- a cause for which it gives no certificate of its nth root
+abbrev pub HasNoCertificate : List ℕ → ℕ → LookRefusal → Type 0
+HasNoCertificate file n (Journal cause) = IsUnread file cause
+HasNoCertificate file n (NoRoot m) = (m ≡ n) × HasNoRoot file n
+HasNoCertificate file n (UnsettledRoot m) = (m ≡ n) × HasUnsettledRoot file n
 
 -- the refusal says nothing of the file: the disk failed, or memory ran out
 abbrev pub says_nothing : LookRefusal → Bool
@@ -118,13 +122,23 @@ says_nothing (Journal refusal) = says_nothing_of_file refusal
 says_nothing (NoRoot n) = false
 says_nothing (UnsettledRoot n) = false
 
--- Where the journal's own bytes are refused, that is the answer, unless the refusal says nothing of
--- them.
-abbrev pub AnswersCause : {T : Type 0} → List ℕ → Result T LookRefusal → Type 0
-AnswersCause file answer =
-    (cause : JournalRefusal) → ExplainsAny file cause
-    → MatchResult answer (λ shown. ⊥)
-    (λ refusal. OnFalse (says_nothing refusal) (refusal ≡ Journal cause))
+-- why there is no report, unless the refusal says nothing of the file
+abbrev pub ExplainsNoReport : List ℕ → LookRefusal → Type 0
+ExplainsNoReport file refusal = OnFalse (says_nothing refusal) (HasNoReport file refusal)
+
+-- .. and no certificate of the nth root
+abbrev pub ExplainsNoCertificate : List ℕ → ℕ → LookRefusal → Type 0
+ExplainsNoCertificate file n refusal =
+    OnFalse (says_nothing refusal) (HasNoCertificate file n refusal)
+
+-- Each cause is the answer where it stands, unless the refusal says nothing of the file.
+abbrev pub AnswersEach : {T : Type 0} → (LookRefusal → Type 0) → Result T LookRefusal → Type 0
+AnswersEach IsCause answer =
+    (cause : LookRefusal) → IsCause cause → Unless says_nothing answer (answer ≡ Err cause)
+
+-- it is no refusal, or one that says nothing of the file
+abbrev pub BlamesNoFile : {T : Type 0} → Result T LookRefusal → Type 0
+BlamesNoFile answer = IfErr answer (λ refusal. says_nothing refusal ≡ true)
 
 -- ---- of a forest alone
 

@@ -1,15 +1,17 @@
 //! The report on a journal, and a certificate of one of its roots.
-ghost use Rattle.std.specs.Prelude.{◌≡◌, ◌≤◌, ◌-◌, IfOk, IfErr, OnOk, IfSome, IsSome, slice_get, Err};
+ghost use Rattle.std.specs.Prelude.{◌≡◌, ◌≤◌, ◌-◌, ℕ, List, IfOk, IfErr, OnOk, IfSome, IsSome, slice_get, Err};
 ghost use Rattle.shared_words.specs.Counts.{Rose};
-ghost use Rattle.bench_disk.specs.Disk.{IsHonest};
+ghost use Rattle.bench_disk.specs.Disk.{IsHonest, Stays};
 ghost use Rattle.disk_journal.specs.declared.refusal.JournalRefusal.TheVariants as journal;
 ghost use Rattle.strategy_certificate.specs.Tables.{IsTableSize};
 ghost use Rattle.strategy_certificate.specs.Certificates.{IsGood};
 ghost use Rattle.proof_tree.specs.Forest.{nodes, value_of};
 ghost use Rattle.certificate_joiner.specs.Certified.{IsJoined, claim_for};
+ghost use Rattle.bench_records.specs.declared.records.BenchRecord.{BenchRecord};
 ghost use Rattle.bench_core.specs.States.{are_settled};
+ghost use Rattle.tree_manager.specs.Receipts.{ReadsRecords};
 ghost use Rattle.opening_report.specs.Report.{forest_roots, report_of};
-ghost use Rattle.journal_looks.specs.Looks.{AnswersCause, Certifies, ExplainsNoCertificate, ExplainsNoReport, IsTrueReport, OfRoot, RefusesRoot, Shows, Stays};
+ghost use Rattle.journal_looks.specs.Looks.{AnswersEach, Certifies, ExplainsNoCertificate, ExplainsNoReport, HasNoCertificate, HasNoReport, HasSettledRoot, IsTrueReport, BlamesNoFile, OfRoot, RefusesRoot, Shows};
 
 use crate::reading::read_bench;
 use crate::refusals::LookRefusal;
@@ -52,7 +54,12 @@ pub fn report<D: Disk>(alloc: Global, disk: &mut D) -> Result<Looked, LookRefusa
     ensures shows { IsHonest D.TELLS → IfOk result (λ looked.
         Shows (D.reads disk.old) looked.text.items looked.is_settled) }
     ensures refused { IsHonest D.TELLS → IfErr result (ExplainsNoReport (D.reads disk.old)) }
-    ensures first { IsHonest D.TELLS → AnswersCause (D.reads disk.old) result }
+
+    // Each refusal comes exactly where the file has its cause, and a file that reads as records has
+    // none.
+    ensures causes { IsHonest D.TELLS → AnswersEach (HasNoReport (D.reads disk.old)) result }
+    ensures accepted { IsHonest D.TELLS → (pieces : ℕ) (records : List BenchRecord) →
+        ReadsRecords pieces (D.reads disk.old) records → BlamesNoFile result }
 
     // The values are true whatever the disk tells.
     ensures values { IfOk result (λ looked. IsTrueReport looked.text.items) }
@@ -116,7 +123,12 @@ pub fn certify<D: Disk>(alloc: Global, disk: &mut D, root: u32) -> Result<Certif
     ensures certifies { IsHonest D.TELLS → IfOk result (Certifies (D.reads disk.old) root) }
     ensures refused { IsHonest D.TELLS →
         IfErr result (ExplainsNoCertificate (D.reads disk.old) root) }
-    ensures first { IsHonest D.TELLS → AnswersCause (D.reads disk.old) result }
+
+    // Each refusal comes exactly where the file has its cause, and a root with a value has none.
+    ensures causes { IsHonest D.TELLS →
+        AnswersEach (HasNoCertificate (D.reads disk.old) root) result }
+    ensures accepted { IsHonest D.TELLS → HasSettledRoot (D.reads disk.old) root →
+        BlamesNoFile result }
 
     // The certificate is good, so its claim is true, whatever the disk tells.
     ensures good { IfOk result IsGood }

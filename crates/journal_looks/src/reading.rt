@@ -1,14 +1,12 @@
 //! The bench of what a journal reads as.
-ghost use Rattle.std.specs.Prelude.{◌≡◌, ◌≤◌, [], IfOk, IfErr, MatchResult, Err};
-ghost use Rattle.std.specs.Bool.{OnFalse};
+ghost use Rattle.std.specs.Prelude.{◌≡◌, ◌≤◌, [], IfOk, IfErr, Err};
 ghost use Rattle.shared_words.specs.Counts.{Rose};
-ghost use Rattle.bench_disk.specs.Disk.{IsHonest};
-ghost use Rattle.disk_journal.specs.Refusals.{ExplainsAny, says_nothing_of_file};
+ghost use Rattle.bench_disk.specs.Disk.{IsHonest, Stays};
 ghost use Rattle.strategy_certificate.specs.Tables.{IsTableSize};
 ghost use Rattle.bench_core.specs.Growing.{IsForestOf};
 ghost use Rattle.tree_manager.specs.Receipts.{SpellsRecords};
 ghost use Rattle.tree_manager.specs.Replaying.{RefusesPayloads, payload_texts};
-ghost use Rattle.journal_looks.specs.Looks.{ExplainsUnread, HasForest, Stays};
+ghost use Rattle.journal_looks.specs.Looks.{ExplainsUnread, HasForest};
 
 use bench_core::{Bench, Settings};
 use bench_disk::Disk;
@@ -59,9 +57,6 @@ pub(crate) fn read_bench<D: Disk>(
     ensures forest { IsHonest D.TELLS → IfOk result (λ read.
         HasForest read.1.pieces (D.reads disk.old) read.0.state.forest) }
     ensures refused { IsHonest D.TELLS → IfErr result (ExplainsUnread (D.reads disk.old)) }
-    ensures first { IsHonest D.TELLS → (e : JournalRefusal) → ExplainsAny (D.reads disk.old) e →
-        MatchResult result (λ read. ⊥)
-        (λ refusal. OnFalse (says_nothing_of_file refusal) (refusal ≡ e)) }
     ensures stays { IsHonest D.TELLS → Stays D.reads D.images disk.old disk.new }
     ensures faults { D.faults disk.old ≤ D.faults disk.new }
     ensures cause { result ≡ Err JournalRefusal.DiskFault →

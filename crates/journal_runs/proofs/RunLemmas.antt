@@ -1,7 +1,7 @@
 -- What a session's contract gives of the disk that is handed back.
 use Rattle.std.proofs.Common.{◌≡◌, ◌≤◌, ◌<◌, ◌⊎◌, ◌+◌, ℕ, zero, suc, List, [], ◌∷◌, ◌++◌, refl, ap, sym, ◌∙◌, subst, ⊎_elim, inl, inr, arith, append_assoc, map, length, length-append}
 use Rattle.std.proofs.lemmas.List.{append-nil}
-use Rattle.std.specs.Prelude.{Bool, true, false, cond, Option, Some, None, count_by, Result, Ok, Err, IfOk, IfErr, IfSome}
+use Rattle.std.specs.Prelude.{Bool, true, false, cond, Option, Some, None, count_by, Result, Ok, Err, IfOk, IfErr, OnOk, IfSome}
 use Rattle.std.specs.List.{list_any, AllByRecursion as Each}
 use Rattle.bench_disk.specs.Disk.{IsHonest, NothingPending}
 use Rattle.bench_disk.specs.Runs.{Leaves}
@@ -35,7 +35,7 @@ use Rattle.tree_manager.proofs.HistoryLaws.{replayed_whole}
 use Rattle.journal_runs.specs.declared.refusals.RunRefusal.{RunRefusal}
 use Rattle.journal_runs.specs.declared.refusals.RunRefusal.TheVariants as refusal
 use Rattle.journal_runs.specs.Ends.{GoesOnFrom, HasWorked, IsIdle, IsRefusalOf, IsWorkRefusal}
-use Rattle.journal_runs.specs.Journals.{IsCaused, KeepsJournal, MayLeave, Recovers, Resumes, SettlesOrSpends, Stays}
+use Rattle.journal_runs.specs.Journals.{IsCaused, KeepsJournal, MayLeave, Recovers, Resumes, SettlesOrSpends}
 use Rattle.journal_runs.proofs.AttachedLines.{line_from, all_applied, any_from, at_attached, at_last, attached_from, behind_from, recorded_from, unapplied_from}
 use Rattle.journal_runs.proofs.UnreadLemmas.{flawed_unread, reads_once}
 
@@ -256,8 +256,8 @@ module _ {D : Type 0} (reads : D → List ℕ) (images : D → List ℕ → Type
     pub caused_begun : (positions : List Board) (r : RunRefusal) → IsHonest tells → IsWorkRefusal first positions r → IsCaused s.pieces positions (reads old) r
     caused_begun positions refusal.Disk honest h = tt
     caused_begun positions (refusal.Journal flaw) honest h = absurd h
-    caused_begun positions refusal.TooManyRoots honest h = λ before read.
-        subst (λ (ps : List Board). 65536 < length (with_roots ps positions)) (first_roots ∙ ap begun (reads_once s.pieces (reads old) begins.replayed before (begins.read honest) read)) h
+    caused_begun positions refusal.TooManyRoots honest h =
+        (begins.replayed, (begins.read honest, subst (λ (ps : List Board). 65536 < length (with_roots ps positions)) first_roots h))
     caused_begun positions refusal.Memory honest h = tt
 
 pub caused_refused : (pieces : ℕ) (positions : List Board) (file : List ℕ) (e : JournalRefusal) (r : RunRefusal) → IsRefusalOf e r → ExplainsAttach file pieces e → IsCaused pieces positions file r
@@ -282,3 +282,14 @@ if_ok P Q (Err e) f p = tt
 pub if_err : {T E : Type 0} (P Q : E → Type 0) (r : Result T E) → ((e : E) → P e → Q e) → IfErr r P → IfErr r Q
 if_err P Q (Ok x) f p = tt
 if_err P Q (Err e) f p = f e p
+
+pub at_ok : {T E : Type 0} (P : T → Type 0) (r : Result T E) (x : T) → r ≡ Ok x → IfOk r P → P x
+at_ok P r x is h = subst (λ q. IfOk q P) is h
+
+pub if_ok_both : {T E : Type 0} (P P' Q : T → Type 0) (r : Result T E) → ((x : T) → P x → P' x → Q x) → IfOk r P → IfOk r P' → IfOk r Q
+if_ok_both P P' Q (Ok x) f p p' = f x p p'
+if_ok_both P P' Q (Err e) f p p' = tt
+
+pub if_ok_on : {T E : Type 0} (A B : Type 0) (P Q : T → Type 0) (r : Result T E) → ((x : T) → A → B → P x → Q x) → OnOk r A → OnOk r B → IfOk r P → IfOk r Q
+if_ok_on A B P Q (Ok x) f a b p = f x a b p
+if_ok_on A B P Q (Err e) f a b p = tt

@@ -1,26 +1,25 @@
 -- What begun roots and the work behind them come to.
 use Rattle.std.proofs.Common.{length, ◌≡◌, ◌≤◌, ◌⊎◌, inl, inr, ⊎_elim, ℕ, List, [], ◌∷◌, ◌++◌, refl, ap, sym, ◌∙◌, subst, map, append_assoc, append-nil}
-use Rattle.std.specs.Prelude.{All, Contains, filter, Bool, true, false, cond, not, ◌||◌, if◌then◌else◌}
+use Rattle.std.specs.Prelude.{All, Contains, Bool, true, false, cond, ◌||◌, if◌then◌else◌}
 use Rattle.std.specs.List.{list_any}
 use Rattle.std.proofs.lemmas.Bool.{true≢false, or_cases}
-use Rattle.std.proofs.lemmas.List.Folds.{list_any-append}
 use Rattle.std.proofs.lemmas.List.Elements.{All-head, All-tail, Contains-append_left, Contains-push, Contains-push_cases}
 use Rattle.draughts_board.specs.Board.{Board, same_board}
 use Rattle.draughts_board.specs.Same.{same_board-Decides}
 use Rattle.proof_tree.specs.Forest.{Forest, no_node, Node, nodes}
 use Rattle.proof_tree.specs.Sound.{root_positions}
-use Rattle.lease_table.specs.declared.leases.Row.{Row}
 use Rattle.bench_records.specs.declared.records.BenchRecord.{BenchRecord}
 use Rattle.bench_records.specs.declared.records.BenchRecord.TheVariants.{Begin, Solve, Expand}
 use Rattle.bench_core.specs.Records.{begun, is_work}
 use Rattle.bench_core.specs.Growing.{GrowsWith, GrowsWithAll, IsForestOf}
-use Rattle.bench_core.specs.States.{SessionSettings, are_settled}
+use Rattle.bench_core.specs.States.{are_settled}
 use Rattle.bench_core.specs.Cores.{Core, IsCommitted}
 use Rattle.bench_core.proofs.Lists.{Contains-here, Contains-there, Contains-cases, Contains-map}
 use Rattle.bench_core.proofs.OneForest.{roots_are_those_begun}
 use Rattle.bench_core.proofs.SoundApplied.{roots_grown}
 use Rattle.opening_report.specs.declared.roots.Root.{Root}
-use Rattle.opening_report.specs.Report.{report_of, root_of, forest_roots, AreTrueRoots, AreApart}
+use Rattle.opening_report.specs.Lines.{IsLine}
+use Rattle.opening_report.specs.Report.{report_of, summary_line, root_of, forest_roots, AreTrueRoots, AreApart}
 use Rattle.turn_lock.specs.Growth.{GrowsTo}
 use Rattle.tree_manager.specs.declared.entries.Entry.{Entry}
 use Rattle.tree_manager.specs.declared.entries.Entry.TheVariants.{Put, Attached, Leased, Released, Acked, Broken}
@@ -29,13 +28,12 @@ use Rattle.tree_manager.specs.declared.refusals.BeginRefusal.TheVariants as begi
 use Rattle.tree_manager.specs.Entries.{record_put, breaks}
 use Rattle.tree_manager.specs.Lines.{recorded, applied_in, unapplied_in, is_failed}
 use Rattle.tree_manager.specs.Histories.{IsCoreOf}
-use Rattle.tree_manager.specs.Sessions.{SessionState, with_roots, with_roots_staged, BeginsRoots, HasBegun, RefusesBegin, MayAddInTurn}
+use Rattle.tree_manager.specs.Sessions.{SessionState, with_roots, BeginsRoots, HasBegun, RefusesBegin, MayAddInTurn}
 use Rattle.tree_manager.proofs.LineLemmas.{any_push_yes}
 use Rattle.tree_manager.proofs.CoreLemmas.{run_grown, contains_nothing}
-use Rattle.journal_runs.specs.declared.alone.Ended.{Ended}
-use Rattle.journal_runs.specs.declared.alone.Ended.TheVariants.{Done, Spent}
-use Rattle.journal_runs.specs.Ends.{IsIdle, IsEndedBy, GoesOnFrom, HasWorked}
-use Rattle.journal_runs.specs.Journals.{ReportsTruth}
+use Rattle.worker_gate.specs.declared.worker.Ended.TheVariants.{Done, Spent}
+use Rattle.journal_runs.specs.Ends.{IsIdle, IsEndedBy, GoesOnFrom, HasRun, HasWorked}
+use Rattle.journal_runs.specs.Journals.{CountsRoots, ReportsTruth}
 use Rattle.journal_runs.proofs.AttachedLines.{all_applied}
 
 -- ---- the roots of a list of records
@@ -126,16 +124,18 @@ root_found (x ∷ xs) p there = ⊎_elim
     (λ rest. let found = root_found xs p rest in (found.0, (Contains-there (root_of x) found.0 (map root_of xs) found.1.0, found.1.1)))
     (Contains-cases x.own.position p (map (λ (y : Node). y.own.position) xs) there)
 
-pub reports_truth : (k : ℕ) (rs : List BenchRecord) (f : Forest) (old positions : List Board) (text : List ℕ) → IsForestOf k rs f → AreTrueRoots (forest_roots f) → length (forest_roots f) ≤ 65536 → text ≡ report_of (forest_roots f)
-    → root_positions f ≡ with_roots old positions → ReportsTruth positions text
-reports_truth k rs f old positions text grown values few is roots = record {
-  roots = forest_roots f;
-  few = few;
-  true_values = values;
-  text_is = is;
-  each = λ p there. root_found (nodes f) p (subst (λ (ps : List Board). Contains ps p) (sym roots) (each_comes old positions p there));
-  apart = are_apart (nodes f) (all_once k no_node rs f grown tt);
-}
+module _ (k : ℕ) (rs : List BenchRecord) (f : Forest) (old positions : List Board) (grown : IsForestOf k rs f) (roots : root_positions f ≡ with_roots old positions) where
+  each_held : (p : Board) → Contains positions p → RootAt (nodes f) p
+  each_held p there = root_found (nodes f) p (subst (λ (ps : List Board). Contains ps p) (sym roots) (each_comes old positions p there))
+
+  all_apart : AreApart (forest_roots f)
+  all_apart = are_apart (nodes f) (all_once k no_node rs f grown tt)
+
+  pub reports_truth : (text : List ℕ) → AreTrueRoots (forest_roots f) → length (forest_roots f) ≤ 65536 → text ≡ report_of (forest_roots f) → ReportsTruth positions text
+  reports_truth text values few is = record { roots = forest_roots f; few = few; true_values = values; text_is = is; each = each_held; apart = all_apart }
+
+  pub counts_roots : (text : List ℕ) → IsLine (summary_line (forest_roots f)) → text ≡ summary_line (forest_roots f) → CountsRoots positions text
+  counts_roots text line is = record { roots = forest_roots f; text_is = is; line = subst IsLine (sym is) line; each = each_held; apart = all_apart }
 
 -- ---- lines
 
@@ -180,31 +180,9 @@ idle_roots s idle stands =
 
 -- ---- behind the beginning of roots
 
-whole_puts : (m : ℕ) (added : List Board) (last : List Entry) → (last ≡ []) ⊎ (last ≡ Acked m ∷ []) → is_failed (root_puts added ++ last) ≡ false
-whole_puts m [] last (inl none) = ap is_failed none
-whole_puts m [] last (inr acked) = ap is_failed acked
-whole_puts m (p ∷ added) last h = whole_puts m added last h
-
 module _ {D : Type 0} (old mid : SessionState D) (positions : List Board) (m : ℕ) (begins : HasBegun old positions m mid) where
-  pub begun_idle : IsIdle old → IsIdle mid
-  begun_idle idle = record {
-    unfailed =
-        ap is_failed begins.roots.line
-        ∙ (list_any-append breaks old.line (root_puts begins.roots.added ++ begins.last)
-        ∙ (ap (λ b. b || is_failed (root_puts begins.roots.added ++ begins.last)) idle.unfailed
-        ∙ whole_puts m begins.roots.added begins.last begins.acknowledged));
-    none_staged = begins.none_staged;
-    unleased = ⊎_elim
-        (λ same. ap (λ (c : Core). c.state.leases.rows) same ∙ idle.unleased)
-        (λ committed. committed.ended ∙ ap (filter (λ (row : Row). not row.kept)) idle.unleased)
-        begins.applied;
-  }
-
-  pub begun_settings : mid.core.state.settings ≡ old.core.state.settings
-  begun_settings = ⊎_elim
-      (λ same. ap (λ (c : Core). c.state.settings) same)
-      (λ committed. (run_grown (with_roots_staged old.core begins.roots.added).state mid.core.state committed.events committed.run).settings)
-      begins.applied
+  pub begun_goes_on : GoesOnFrom old.line mid.line
+  begun_goes_on = (root_puts begins.roots.added ++ begins.last, begins.roots.line)
 
   pub worked_goes_on : (new : List Entry) → GrowsTo MayAddInTurn mid.line new → GoesOnFrom old.line new
   worked_goes_on new grows = (
@@ -232,31 +210,52 @@ module _ {D : Type 0} (old mid : SessionState D) (positions : List Board) (m : �
         ∙ (mid_roots
         ∙ (ap (λ (ps : List Board). ps ++ begins.roots.added) (sym (idle_roots old was stood)) ∙ begins.roots.all))))))
 
-    pub worked_from : (text_of : Forest → List ℕ) (text : List ℕ) (settled : Bool) → text ≡ text_of new.core.state.forest → settled ≡ are_settled new.core.state.forest
+    worked_from : (text_of : Forest → List ℕ) (text : List ℕ) (settled : Bool) → text ≡ text_of new.core.state.forest → settled ≡ are_settled new.core.state.forest
         → (settled ≡ false → new.core.state.settings.budget ≤ new.core.state.work) → HasWorked text_of old positions new text settled
     worked_from text_of text settled text_is settled_is spent = record { idle = idle; stands = stands; text_is = text_is; roots_are = roots_after; settled_is = settled_is; spent = spent }
 
-    pub truth_after : (text : List ℕ) → AreTrueRoots (forest_roots new.core.state.forest) → length (forest_roots new.core.state.forest) ≤ 65536 → text ≡ report_of (forest_roots new.core.state.forest) → ReportsTruth positions text
+    truth_after : (text : List ℕ) → AreTrueRoots (forest_roots new.core.state.forest) → length (forest_roots new.core.state.forest) ≤ 65536 → text ≡ report_of (forest_roots new.core.state.forest) → ReportsTruth positions text
     truth_after text values few is =
-        reports_truth new.core.state.settings.pieces (applied_in new.line) new.core.state.forest (root_positions old.core.state.forest) positions text stands.state.forest values few is roots_after
+        reports_truth new.core.state.settings.pieces (applied_in new.line) new.core.state.forest (root_positions old.core.state.forest) positions stands.state.forest roots_after text values few is
 
-  -- by how the work ended
-  module _ (new : SessionState D) (was : IsIdle old) (stood : IsCoreOf old.line old.core) (grows : GrowsTo MayAddInTurn mid.line new.line) (stands : IsCoreOf new.line new.core) (how : Ended) (ended : IsEndedBy how new) where
-    pub worked_done : (text_of : Forest → List ℕ) (text : List ℕ) (settled : Bool) → how ≡ Done → settled ≡ true → text ≡ text_of new.core.state.forest → HasWorked text_of old positions new text settled
-    worked_done text_of text settled is_done is_true text_is =
-        let done = subst (λ h. IsEndedBy h new) is_done ended in
-        worked_from new was stood grows done.0 stands text_of text settled text_is (is_true ∙ sym done.1) (λ h. absurd (true≢false (sym is_true ∙ h)))
+    count_after : (text : List ℕ) → IsLine (summary_line (forest_roots new.core.state.forest)) → text ≡ summary_line (forest_roots new.core.state.forest) → CountsRoots positions text
+    count_after text line is = counts_roots new.core.state.settings.pieces (applied_in new.line) new.core.state.forest (root_positions old.core.state.forest) positions stands.state.forest roots_after text line is
 
-    pub worked_spent : (text_of : Forest → List ℕ) (text : List ℕ) (settled : Bool) → how ≡ Spent → settled ≡ false → text ≡ text_of new.core.state.forest → HasWorked text_of old positions new text settled
-    worked_spent text_of text settled is_spent is_false text_is =
-        let spent = subst (λ h. IsEndedBy h new) is_spent ended in
-        worked_from new was stood grows spent.0 stands text_of text settled text_is (is_false ∙ sym spent.1.0) (λ h. spent.1.1)
+-- by how the work ended
+module _ {D : Type 0} (old mid new : SessionState D) (positions : List Board) (m : ℕ) (begins : HasBegun old positions m mid) (grows : GrowsTo MayAddInTurn mid.line new.line) where
+  pub run_done : IsEndedBy Done new → HasRun old positions new true
+  run_done done = record {
+    begun = mid;
+    moment = m;
+    begins = begins;
+    grows = grows;
+    idle = done.0;
+    settled_is = sym done.1;
+    spent = λ h. absurd (true≢false h);
+  }
 
-    pub truth_done : (text : List ℕ) → how ≡ Done → AreTrueRoots (forest_roots new.core.state.forest) → length (forest_roots new.core.state.forest) ≤ 65536 → text ≡ report_of (forest_roots new.core.state.forest) → ReportsTruth positions text
-    truth_done text is_done values few is = truth_after new was stood grows (subst (λ h. IsEndedBy h new) is_done ended).0 stands text values few is
+  pub run_spent : IsEndedBy Spent new → HasRun old positions new false
+  run_spent spent = record {
+    begun = mid;
+    moment = m;
+    begins = begins;
+    grows = grows;
+    idle = spent.0;
+    settled_is = sym spent.1.0;
+    spent = λ h. spent.1.1;
+  }
 
-    pub truth_spent : (text : List ℕ) → how ≡ Spent → AreTrueRoots (forest_roots new.core.state.forest) → length (forest_roots new.core.state.forest) ≤ 65536 → text ≡ report_of (forest_roots new.core.state.forest) → ReportsTruth positions text
-    truth_spent text is_spent values few is = truth_after new was stood grows (subst (λ h. IsEndedBy h new) is_spent ended).0 stands text values few is
+-- and then written
+module _ {D : Type 0} (old new : SessionState D) (positions : List Board) (settled : Bool) (run : HasRun old positions new settled) (was : IsIdle old) (stood : IsCoreOf old.line old.core) (stands : IsCoreOf new.line new.core) where
+  pub worked_run : (text_of : Forest → List ℕ) (text : List ℕ) (told : Bool) → text ≡ text_of new.core.state.forest → told ≡ settled → HasWorked text_of old positions new text told
+  worked_run text_of text told text_is told_is =
+      worked_from old run.begun positions run.moment run.begins new was stood run.grows run.idle stands text_of text told text_is (told_is ∙ run.settled_is) (λ h. run.spent (sym told_is ∙ h))
+
+  pub truth_run : (text : List ℕ) → AreTrueRoots (forest_roots new.core.state.forest) → length (forest_roots new.core.state.forest) ≤ 65536 → text ≡ report_of (forest_roots new.core.state.forest) → ReportsTruth positions text
+  truth_run text values few is = truth_after old run.begun positions run.moment run.begins new was stood run.grows run.idle stands text values few is
+
+  pub count_run : (text : List ℕ) → IsLine (summary_line (forest_roots new.core.state.forest)) → text ≡ summary_line (forest_roots new.core.state.forest) → CountsRoots positions text
+  count_run text line is = count_after old run.begun positions run.moment run.begins new was stood run.grows run.idle stands text line is
 
 -- ---- refusals of the beginning
 
@@ -267,3 +266,8 @@ broken_fails old new positions f h =
 pub begin_failed : {D : Type 0} (faults : D → ℕ) (old new : SessionState D) (positions : List Board) (refusal : BeginRefusal) → RefusesBegin faults old positions new refusal → refusal ≡ begin.Disk → is_failed new.line ≡ true
 begin_failed faults old new positions refusal h is =
     let broken = subst (RefusesBegin faults old positions new) is h in broken_fails old new positions (faults new.disk) broken.1.0
+
+-- a session that had failed stays as it was
+pub failed_goes_on : {D : Type 0} (faults : D → ℕ) (old new : SessionState D) (positions : List Board) (refusal : BeginRefusal) → RefusesBegin faults old positions new refusal → refusal ≡ begin.Failed → GoesOnFrom old.line new.line
+failed_goes_on faults old new positions refusal h is =
+    let failed = subst (RefusesBegin faults old positions new) is h in ([], ap (λ (s : SessionState _). s.line) failed.1 ∙ sym (append-nil old.line))

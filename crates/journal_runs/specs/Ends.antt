@@ -10,9 +10,10 @@ use Rattle.bench_core.specs.States.{are_settled}
 use Rattle.tree_manager.specs.declared.entries.Entry.{Entry}
 use Rattle.tree_manager.specs.Lines.{is_failed}
 use Rattle.tree_manager.specs.Histories.{IsCoreOf}
-use Rattle.tree_manager.specs.Sessions.{SessionState, with_roots}
-use Rattle.journal_runs.specs.declared.alone.Ended.{Ended}
-use Rattle.journal_runs.specs.declared.alone.Ended.TheVariants.{Done, Spent, Failed, Memory}
+use Rattle.tree_manager.specs.Sessions.{SessionState, HasBegun, with_roots}
+use Rattle.tree_manager.specs.Turns.{GrowsByTurns}
+use Rattle.worker_gate.specs.declared.worker.Ended.{Ended}
+use Rattle.worker_gate.specs.declared.worker.Ended.TheVariants.{Done, Spent, Failed, Memory}
 use Rattle.journal_runs.specs.declared.refusals.JournalFlaw.{JournalFlaw}
 use Rattle.journal_runs.specs.declared.refusals.JournalFlaw.TheVariants as flaw
 use Rattle.journal_runs.specs.declared.refusals.RunRefusal.{RunRefusal}
@@ -49,6 +50,18 @@ pub record HasWorked {D : Type 0} (text_of : Forest → List ℕ) (old : Session
   pub text_is : text ≡ text_of new.core.state.forest
   pub roots_are : root_positions new.core.state.forest
       ≡ with_roots (root_positions old.core.state.forest) positions
+  pub settled_is : is_settled ≡ are_settled new.core.state.forest
+  pub spent : is_settled ≡ false → new.core.state.settings.budget ≤ new.core.state.work
+
+-- The roots were begun, the work went on from there, and nothing is left to do: the session is idle,
+-- and it is known whether each root is settled.
+pub record HasRun {D : Type 0} (old : SessionState D) (positions : List Board) (new : SessionState D)
+    (is_settled : Bool) : Type 0 where
+  pub begun : SessionState D
+  pub moment : ℕ
+  pub begins : HasBegun old positions moment begun
+  pub grows : GrowsByTurns begun.line new.line
+  pub idle : IsIdle new
   pub settled_is : is_settled ≡ are_settled new.core.state.forest
   pub spent : is_settled ≡ false → new.core.state.settings.budget ≤ new.core.state.work
 

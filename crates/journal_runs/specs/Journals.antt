@@ -1,7 +1,7 @@
 -- What a run leaves of the journal on its disk, and what it writes of it. Tables are of so many
 -- pieces.
 use Rattle.std.specs.Prelude.{◌≡◌, ◌≤◌, ◌<◌, ◌⊎◌, ◌+◌, ℕ, Bool, true, false, List, ◌++◌, count_by, length, Contains}
-use Rattle.bench_disk.specs.Disk.{AddsNone, NothingPending}
+use Rattle.bench_disk.specs.Disk.{NothingPending, Stays}
 use Rattle.shared_words.specs.Counts.{Rose}
 use Rattle.draughts_board.specs.Board.{Board}
 use Rattle.proof_tree.specs.Forest.{Forest}
@@ -11,7 +11,8 @@ use Rattle.bench_core.specs.Records.{is_work, begun}
 use Rattle.bench_core.specs.Growing.{IsForestOf}
 use Rattle.bench_core.specs.States.{are_settled}
 use Rattle.opening_report.specs.declared.roots.Root.{Root}
-use Rattle.opening_report.specs.Report.{report_of, AreTrueRoots, AreApart}
+use Rattle.opening_report.specs.Lines.{IsLine}
+use Rattle.opening_report.specs.Report.{report_of, summary_line, AreTrueRoots, AreApart}
 use Rattle.tree_manager.specs.Receipts.{ReadsRecords, ReadsBetween}
 use Rattle.tree_manager.specs.Replaying.{ExplainsAttach}
 use Rattle.tree_manager.specs.Sessions.{session_budget, with_roots}
@@ -34,19 +35,13 @@ module _ {D : Type 0} (reads : D → List ℕ) (images : D → List ℕ → Type
   Recovers pieces before most old new =
       (image : List ℕ) → MayLeave old new image → ReadsBetween pieces before most image
 
-  -- The disk reads as before, and a crash may leave what it might have left before.
-  pub record Stays (old new : D) : Type 0 where
-    pub same : reads new ≡ reads old
-    pub none_added : AddsNone (images old) (images new)
-    pub none_lost : AddsNone (images new) (images old)
-
   -- However a run ends: what the disk read as is recovered, a disk that read as no such journal
   -- stays, and nothing is pending, unless faults rose.
   pub record KeepsJournal (pieces : ℕ) (old new : D) : Type 0 where
     pub recovers : (before : List BenchRecord) → ReadsRecords pieces (reads old) before
         → (most : List BenchRecord) × Recovers pieces before most old new
     pub unread : ((before : List BenchRecord) → ¬ ReadsRecords pieces (reads old) before)
-        → Stays old new
+        → Stays reads images old new
     pub settled : NothingPending (reads new) (images new) ⊎ Rose (faults old) (faults new)
 
   -- ---- a run that comes to its output
@@ -84,16 +79,26 @@ pub record ReportsTruth (positions : List Board) (text : List ℕ) : Type 0 wher
       → (r : Root) × (Contains roots r × (r.position ≡ p))
   pub apart : AreApart roots
 
+-- The text is the one line that counts roots. Each of the positions is one of them, and no position
+-- is two of them.
+pub record CountsRoots (positions : List Board) (text : List ℕ) : Type 0 where
+  pub roots : List Root
+  pub text_is : text ≡ summary_line roots
+  pub line : IsLine text
+  pub each : (p : Board) → Contains positions p
+      → (r : Root) × (Contains roots r × (r.position ≡ p))
+  pub apart : AreApart roots
+
 -- ---- why a run is refused
 
--- Of what the disk read as: it was no journal for the table, and is explained; or there would be
--- too many roots. A fault of the disk shows in its faults, and want of memory is free.
+-- Of what the disk read as: it was no journal for the table, and is explained; or it was one, and
+-- there would be too many roots. A fault of the disk shows in its faults, and want of memory is free.
 abbrev pub IsCaused : ℕ → List Board → List ℕ → RunRefusal → Type 0
 IsCaused pieces positions file refusal.Disk = Unit {0}
 IsCaused pieces positions file (refusal.Journal flaw) =
     ExplainsAttach file pieces (refusal_of_flaw flaw)
     × ((before : List BenchRecord) → ¬ ReadsRecords pieces file before)
 IsCaused pieces positions file refusal.TooManyRoots =
-    (before : List BenchRecord) → ReadsRecords pieces file before
-    → 65536 < length (with_roots (begun before) positions)
+    (before : List BenchRecord) × (ReadsRecords pieces file before
+    × (65536 < length (with_roots (begun before) positions)))
 IsCaused pieces positions file refusal.Memory = Unit {0}

@@ -10,25 +10,13 @@ use leaf_search::{MOST_DEPTH, Memo, search};
 use std::alloc::{AllocError, Global};
 use strategy_certificate::Oracle;
 use tree_manager::{Session, StageRefusal};
+use worker_gate::Ended;
 
 /// How many positions are remembered in which looking ahead shows no win.
 const REMEMBERED: usize = 65_536;
 
 /// The worker that the one thread is.
 const ONLY_WORKER: u32 = 1;
-
-/// How the work on a session ended.
-#[derive(Clone, Copy, PartialEq, Eq, Debug)]
-pub enum Ended {
-    /// Every root is settled.
-    Done,
-    /// The session's work records reach its budget, and some root is unsettled.
-    Spent,
-    /// The disk refused a commit.
-    Failed,
-    /// Memory ran out.
-    Memory,
-}
 
 /// Searches the leaf that is next, and commits what was found: one work record more is applied. Else it answers why not.
 fn settle_leaf<D: Disk, O: Oracle>(

@@ -1,4 +1,4 @@
-//! A run on a journal by one thread: it goes on with what the journal has, works, and reports.
+//! A run on a journal by any number of workers: it goes on with what the journal has, works, and reports.
 //!
 //! What a run leaves of its disk, and what it writes, stands in `specs/Journals.antt`. A crash at any moment loses
 //! nothing that was acknowledged, and the next run goes on from there.
@@ -9,7 +9,9 @@ mod refusals;
 mod runs;
 #[cfg(test)]
 mod tests;
+mod together;
 
-pub use alone::{Ended, work_alone};
+pub use alone::work_alone;
 pub use refusals::{JournalFlaw, RunRefusal};
-pub use runs::{Ran, solve};
+pub use runs::{Ran, solve, solve_counted};
+pub use together::work_together;

@@ -9,7 +9,10 @@ use endgame_table::{Table, fill};
 use fen_text::read_fen;
 use std::alloc::Global;
 use std::process::Abort;
+use std::sync::Wait;
 use std::test::Fail;
+use std::thread::Threads;
+use worker_gate::OpenGate;
 
 /// The position of a FEN.
 fn position(rt: &impl Abort, fen: &[u8]) -> Position {
@@ -19,9 +22,9 @@ fn position(rt: &impl Abort, fen: &[u8]) -> Position {
     }
 }
 
-/// A run of depth 1 on this disk, which comes to its output.
-fn run_on<D: Disk>(
-    rt: &impl Abort,
+/// A run of depth 1 by three workers on this disk, which comes to its output.
+fn run_on<R: Abort + Threads + Wait + Sync, D: Disk + Send>(
+    rt: &R,
     alloc: Global,
     disk: D,
     budget: u32,
@@ -37,7 +40,7 @@ fn run_on<D: Disk>(
         budget,
         lease: 1,
     };
-    let (disk, answer) = solve(alloc, disk, settings, positions, table);
+    let (disk, answer) = solve(rt, alloc, disk, settings, 3, positions, table, &OpenGate);
     match answer {
         Ok(ran) => (disk, ran),
         Err(refusal) => panic!(rt; "refused: {refusal}"),
@@ -102,7 +105,7 @@ fn refuses_what_is_no_journal(rt: HostRuntime) -> Result<(), Fail> {
         budget: 5,
         lease: 1,
     };
-    let (disk, answer) = solve(rt.alloc(), disk, settings, &[], &table);
+    let (disk, answer) = solve(&rt, rt.alloc(), disk, settings, 1, &[], &table, &OpenGate);
     match answer {
         Ok(_) => panic!(rt; "taken as a journal"),
         Err(refusal) => {

@@ -210,6 +210,33 @@ none_filtered node ns (e ∷ es) noted none =
     let other : is_of node e.1 ≡ false = ne_eqb node e.1.lease.node (λ same. let known = sym none ∙ subst (λ n. lookup (eqb n) ns ≡ Some e.0) (sym same) noted.0 in cc) in
     λ i. cond (not (other i)) (e ∷ none_filtered node ns es noted.1 none i) (filter (λ f. not (is_of node f.1)) es)
 
+-- no row has this number, and so none is of the node of which it is the last
+absent_of : (b : Bool) (k : ℕ) (v : Row) (o : Option Row) → cond b (Some v) o ≡ None → (b ≡ false) × (o ≡ None)
+absent_of true k v o e = absurd cc
+absent_of false k v o e = (refl, e)
+
+none_with : (node id : ℕ) (ns : List (ℕ × ℕ)) (es : List (ℕ × Row)) → AllByRecursion (λ e. lookup (eqb e.1.lease.node) ns ≡ Some e.0) es
+    → lookup (eqb node) ns ≡ Some id → lookup (eqb id) es ≡ None → filter (λ e. not (is_of node e.1)) es ≡ es
+none_with node id ns [] noted last none = refl
+none_with node id ns (e ∷ es) noted last none =
+    let h = absent_of (eqb id e.0) id e.1 (lookup (eqb id) es) none in
+    let other : is_of node e.1 ≡ false =
+    ne_eqb node e.1.lease.node (λ same.
+    let here : Some id ≡ Some e.0 = sym last ∙ subst (λ n. lookup (eqb n) ns ≡ Some e.0) (sym same) noted.0 in
+    false≢true (sym h.0 ∙ eq-eqb id e.0 (let it : id ≡ e.0 = cc in it))) in
+    λ i. cond (not (other i)) (e ∷ none_with node id ns es noted.1 last h.1 i) (filter (λ f. not (is_of node f.1)) es)
+
+none_at : (o : Option Row) → is_some o ≡ false → o ≡ None
+none_at None e = refl
+none_at (Some row) e = absurd (false≢true (sym e))
+
+-- where no row stands under the last number of the node, no row is of it
+pub none_standing : (node : ℕ) (ns : List (ℕ × ℕ)) (es : List (ℕ × Row)) → AllByRecursion (λ e. lookup (eqb e.1.lease.node) ns ≡ Some e.0) es
+    → (last : Option ℕ) → last ≡ lookup (eqb node) ns → option_map_or (λ id. is_some (lookup (eqb id) es)) last false ≡ false
+    → filter (λ e. not (is_of node e.1)) es ≡ es
+none_standing node ns es noted None is none = none_filtered node ns es noted (sym is)
+none_standing node ns es noted (Some id) is none = none_with node id ns es noted (sym is) (none_at (lookup (eqb id) es) none)
+
 -- ---- sweeping
 
 lives_earlier : (limit now later : ℕ) (row : Row) → now ≤ later → is_live_row limit later row ≡ true → is_live_row limit now row ≡ true

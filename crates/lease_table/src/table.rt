@@ -21,8 +21,8 @@ impl Row {
 /// The leases that were given and have not ended, in the order in which they were given.
 ///
 /// A contract sees the limit and the list of rows. A lease is looked up by its number, or by its
-/// node, in one step; to count the live ones, to end one and to sweep goes over the rows that
-/// stand.
+/// node, in one step, and given in one unless a row of its node ran out; to count the live ones, to
+/// end one and to sweep goes over the rows that stand.
 #[derive(Drop)]
 pub struct Leases {
     limit: u32,
@@ -141,10 +141,11 @@ impl Leases {
         self.rows.reserve(1)?;
         self.nodes.reserve(1)?;
         let node = lease.node;
-        let Ok(known) = self.nodes.insert(node, now) else {
+        let Ok(last) = self.nodes.insert(node, now) else {
             unreachable!()
         };
-        drop_rows_of(&mut self.rows, node, known.is_some());
+        let stands = has_row(&self.rows, last);
+        drop_rows_of(&mut self.rows, node, stands);
         let Ok(_) = self.rows.insert(now, Row { lease, kept: false }) else {
             unreachable!()
         };
@@ -209,18 +210,31 @@ impl Leases {
     }
 }
 
-ghost use Rattle.std.specs.Prelude.{ℕ, ◌≤◌, false, not, filter};
+ghost use Rattle.std.specs.Prelude.{ℕ, ◌≤◌, false, is_some, eqb, not, filter};
+ghost use Rattle.std.specs.Map.{lookup};
+ghost use Rattle.std.specs.Option.{option_map_or};
 ghost use Rattle.indexmap.specs.IndexMap.{spare};
 ghost use Rattle.lease_table.specs.Rows.{is_of};
 
-/// Drops the rows of a node, of which there are none unless it is known.
-fn drop_rows_of(rows: &mut IndexMap<u128, Row>, node: u64, known: bool)
-    requires { known ≡ false → filter (λ e. not (is_of node e.1)) rows.old.entries
+/// Whether there is a row under the last number of a node, where it has one.
+fn has_row(rows: &IndexMap<u128, Row>, last: Option<u128>) -> bool
+    ensures { result
+        ≡ option_map_or (λ id. is_some (lookup (eqb id) rows.now.entries)) last false }
+{
+    match last {
+        Some(id) => rows.contains_key(&id),
+        None => false,
+    }
+}
+
+/// Drops the rows of a node, of which none stands where it is said so.
+fn drop_rows_of(rows: &mut IndexMap<u128, Row>, node: u64, stands: bool)
+    requires { stands ≡ false → filter (λ e. not (is_of node e.1)) rows.old.entries
         ≡ rows.old.entries }
     ensures entries { rows.new.entries ≡ filter (λ e. not (is_of node e.1)) rows.old.entries }
     ensures room { spare rows.old ≤ spare rows.new }
 {
-    if known {
+    if stands {
         rows.retain(|_, row| node != row.lease.node);
     }
 }

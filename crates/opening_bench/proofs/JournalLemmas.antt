@@ -1,9 +1,13 @@
 -- What a run on a journal, and a look at one, answer and refuse.
-use Rattle.std.proofs.Common.{◌≡◌, ℕ, ◌<◌, ◌^◌, Bool, List, refl, sym, ◌∙◌, subst, arith, lit<}
+use Rattle.std.proofs.Common.{◌≡◌, ℕ, ◌<◌, ◌^◌, Bool, List, length, refl, sym, ◌∙◌, subst, arith, lit<}
 use Rattle.std.specs.Prelude.{IfErr, Result, Ok, Err}
 use Rattle.bench_edges.specs.declared.words.Command.TheVariants.{Solve}
 use Rattle.bench_edges.specs.declared.words.Options.{Options}
 use Rattle.draughts_board.specs.Board.{Board}
+use Rattle.bench_core.specs.Records.{begun}
+use Rattle.bench_records.specs.declared.records.BenchRecord.{BenchRecord}
+use Rattle.tree_manager.specs.Sessions.{with_roots}
+use Rattle.tree_manager.proofs.ExactLemmas.{files_read_as_one_list}
 use Rattle.journal_looks.specs.Looks.{IsTrueReport}
 use Rattle.journal_runs.specs.Journals.{IsCaused}
 use Rattle.journal_runs.specs.declared.refusals.RunRefusal.{RunRefusal}
@@ -35,7 +39,8 @@ module _ {D : Type 0} (tells : Bool) (reads : D → List ℕ) (images : D → Li
   unrefused pieces positions old new r run.Disk is room caused = subst (λ q. IsUnrefused (status_of q)) (sym is) ((λ e. absurd cc), (λ e. absurd cc))
   unrefused pieces positions old new r (run.Journal flaw) is room caused = absurd (caused.1 room.records room.read)
   unrefused pieces positions old new r run.TooManyRoots is room caused =
-      let many = caused room.records room.read in
+      let same = files_read_as_one_list pieces (reads old) caused.0 room.records caused.1.0 room.read in
+      let many = subst (λ (rs : List BenchRecord). 65536 < length (with_roots (begun rs) positions)) same caused.1.1 in
       let few = room.room in
       absurd (omega (arith, many, few))
   unrefused pieces positions old new r run.Memory is room caused = subst (λ q. IsUnrefused (status_of q)) (sym is) ((λ e. absurd cc), (λ e. absurd cc))

@@ -6,3 +6,6 @@ pub mod RefusalLemmas
 pub mod SolvingLemmas
 pub mod JournalLemmas
 pub mod VerifyingLemmas
+pub mod CountingLemmas
+pub mod LookingLemmas
+pub mod CauseLemmas

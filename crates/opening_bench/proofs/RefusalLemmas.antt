@@ -3,7 +3,7 @@ use Rattle.std.proofs.Common.{◌≡◌, ℕ, ◌≤◌, ◌⊎◌, inl, inr, Bo
 use Rattle.std.specs.Prelude.{IfOk, IfErr, IfSome, IsSome, Result, Ok, Err}
 use Rattle.bench_edges.specs.declared.status.Status.{Status}
 use Rattle.bench_edges.specs.declared.words.Command.{Command}
-use Rattle.bench_edges.specs.declared.words.Command.TheVariants.{Solve, Report, Certify, Verify, MakeTable, TableCheck}
+use Rattle.bench_edges.specs.declared.words.Command.TheVariants.{Solve, Report, Certify, Verify, MakeTable, TableCheck, Generate}
 use Rattle.certificate_text.specs.Text.{ReadsAs}
 use Rattle.endgame_table.specs.Bytes.{bytes_of}
 use Rattle.endgame_table.specs.Entries.{IsTable}
@@ -32,6 +32,7 @@ read_or_none (Certify root) = inr (λ told good. good)
 read_or_none Verify = inl refl
 read_or_none (MakeTable pieces) = inr (λ told good. good)
 read_or_none TableCheck = inl refl
+read_or_none (Generate seed count) = inr (λ told good. good)
 
 module _ {D : Type 0} (tells : Bool) (reads : D → List ℕ) where
   pub bytes_accept : (command : Command) (source : Option (List ℕ)) (bytes : List ℕ) (old : D) (r : Refusal) → IsInput command source bytes → AcceptsBytes tells reads command bytes old r

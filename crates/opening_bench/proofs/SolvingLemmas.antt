@@ -5,7 +5,7 @@ use Rattle.bench_edges.specs.Words.{Says}
 use Rattle.std.specs.Bool.{OnFalse}
 use Rattle.bench_edges.specs.declared.status.Status.{Status}
 use Rattle.bench_edges.specs.declared.words.Command.{Command}
-use Rattle.bench_edges.specs.declared.words.Command.TheVariants.{Solve, Report, Certify, Verify, MakeTable, TableCheck}
+use Rattle.bench_edges.specs.declared.words.Command.TheVariants.{Solve, Report, Certify, Verify, MakeTable, TableCheck, Generate}
 use Rattle.bench_edges.specs.declared.words.Options.{Options}
 use Rattle.draughts_board.specs.Board.{Board}
 use Rattle.pdn_text.specs.Signs.{pdn_wants_memory as is_pdn_memory}
@@ -117,6 +117,7 @@ module _ {D : Type 0} (tells : Bool) (reads : D → List ℕ) (images : D → Li
   holds Verify source old new text settled p = λ options said. absurd cc
   holds (MakeTable pieces) source old new text settled p = λ options said. absurd cc
   holds TableCheck source old new text settled p = λ options said. absurd cc
+  holds (Generate seed count) source old new text settled p = λ options said. absurd cc
 
   pub output_holds : (command : Command) (source : Option (List ℕ)) (old new : D) (text : List ℕ) (settled : Bool) (before after : Option (List ℕ)) (status : Status) → Finishes status
       → AnswersSource tells reads images images_since moment faults command source old new text settled → TakesOutput status text settled before after

@@ -1,26 +1,30 @@
--- What is not refused as bad input or as no journal.
+-- What is not refused as bad input or as no journal, and what is refused for what the disk reads as.
 use Rattle.std.specs.Prelude.{◌≡◌, ◌≢◌, ℕ, ◌≤◌, Bool, List, length, Option, IfSome}
 use Rattle.draughts_board.specs.Board.{Board}
 use Rattle.bench_edges.specs.declared.status.Status.{Status}
-use Rattle.bench_edges.specs.declared.status.Status.TheVariants.{Input, Journal}
+use Rattle.bench_edges.specs.declared.status.Status.TheVariants.{Input, Disk, Journal, Memory}
 use Rattle.bench_edges.specs.declared.words.Command.{Command}
-use Rattle.bench_edges.specs.declared.words.Command.TheVariants.{Solve, Report, Certify, Verify, MakeTable, TableCheck}
+use Rattle.bench_edges.specs.declared.words.Command.TheVariants.{Solve, Report, Certify, Verify, MakeTable, TableCheck, Generate}
 use Rattle.bench_disk.specs.Disk.{IsHonest}
 use Rattle.bench_core.specs.Records.{begun}
 use Rattle.bench_records.specs.declared.records.BenchRecord.{BenchRecord}
 use Rattle.certificate_text.specs.Text.{ReadsAs}
 use Rattle.endgame_table.specs.Bytes.{bytes_of}
 use Rattle.endgame_table.specs.Entries.{IsTable}
+use Rattle.journal_looks.specs.Looks.{HasNoCertificate, HasNoReport, HasSettledRoot}
+use Rattle.journal_looks.specs.declared.refusals.LookRefusal.{LookRefusal}
+use Rattle.opening_report.specs.declared.refusals.Refusal.{Refusal}
 use Rattle.pdn_openings.specs.declared.opening.Opening.{Opening}
 use Rattle.strategy_certificate.specs.Certificates.{IsGood}
 use Rattle.strategy_certificate.specs.declared.certificates.Certificate.{Certificate}
 use Rattle.tree_manager.specs.Receipts.{ReadsRecords}
 use Rattle.tree_manager.specs.Sessions.{with_roots}
+use Rattle.opening_bench.specs.Bench.{TakesLine, status_of}
 use Rattle.opening_bench.specs.Commands.{source_limit}
 use Rattle.opening_bench.specs.Solving.{OpeningsOf, roots_of_openings}
 
 -- the bytes are good for the command: openings can be read of them, or a good certificate, or a
--- sound table
+-- sound table; none are for a command that reads none
 abbrev pub IsGoodFor : Command → List ℕ → Type 0
 IsGoodFor (Solve options) bytes =
     (openings : List Opening) × OpeningsOf options.plies bytes openings
@@ -30,6 +34,7 @@ IsGoodFor Verify bytes = (c : Certificate) × (IsGood c × ReadsAs bytes c)
 IsGoodFor (MakeTable pieces) bytes = ⊥
 IsGoodFor TableCheck bytes =
     (k : ℕ) × ((numbers : List ℕ) × (IsTable k numbers × (bytes ≡ bytes_of k numbers)))
+IsGoodFor (Generate seed count) bytes = ⊥
 
 -- neither bad input nor no journal
 abbrev pub IsUnrefused : Status → Type 0
@@ -58,3 +63,29 @@ Accepts tells reads command source disk status =
     IfSome source (λ told. IsGoodFor command told
     → IfSome (source_limit command) (λ limit. length told ≤ limit)
     → HasRoomFor tells reads command told disk → IsUnrefused status)
+
+-- ---- a look at the disk
+
+-- For a command that reads no source the disk has what it asks of it: a journal to report, or a
+-- root with a value to certify. A table asks nothing.
+abbrev pub HasAsked : {D : Type 0} → Bool → (D → List ℕ) → Command → D → Type 0
+HasAsked tells reads Report disk =
+    IsHonest tells × ((pieces : ℕ) × ((records : List BenchRecord)
+    × ReadsRecords pieces (reads disk) records))
+HasAsked tells reads (Certify root) disk = IsHonest tells × HasSettledRoot (reads disk) root
+HasAsked tells reads (MakeTable pieces) disk = Unit {0}
+HasAsked tells reads command disk = ⊥
+
+-- a cause for which a look at a disk that reads as this file is refused
+abbrev pub HasLookCause : Command → List ℕ → LookRefusal → Type 0
+HasLookCause Report file cause = HasNoReport file cause
+HasLookCause (Certify root) file cause = HasNoCertificate file root cause
+HasLookCause command file cause = ⊥
+
+-- The run is refused so: its status is that of the refusal, and the sink took its line. Or else the
+-- disk failed, or memory ran out.
+abbrev pub IsRefusedFor : Refusal → Option (List ℕ) → Option (List ℕ) → ℕ → ℕ → Status → Type 0
+IsRefusedFor r before after faults_before faults_after Disk = Unit {0}
+IsRefusedFor r before after faults_before faults_after Memory = Unit {0}
+IsRefusedFor r before after faults_before faults_after status =
+    (status_of r ≡ status) × TakesLine r before after faults_before faults_after

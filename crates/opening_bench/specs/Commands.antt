@@ -2,10 +2,12 @@
 -- answers it, and which fault of it stands. A new command has a case in each.
 use Rattle.std.specs.Prelude.{◌≡◌, ℕ, Bool, true, List, Option, Some, None}
 use Rattle.bench_edges.specs.declared.words.Command.{Command}
-use Rattle.bench_edges.specs.declared.words.Command.TheVariants.{Solve, Report, Certify, Verify, MakeTable, TableCheck}
+use Rattle.bench_edges.specs.declared.words.Command.TheVariants.{Solve, Report, Certify, Verify, MakeTable, TableCheck, Generate}
+use Rattle.capture_positions.specs.Walk.{openings_from}
 use Rattle.certificate_text.specs.Text.{ReadsAs}
 use Rattle.strategy_certificate.specs.declared.certificates.Certificate.{Certificate}
 use Rattle.journal_looks.specs.Looks.{IsTrueReport}
+use Rattle.journal_runs.specs.Journals.{CountsRoots}
 use Rattle.strategy_certificate.specs.Certificates.{IsGood}
 use Rattle.opening_report.specs.declared.refusals.Refusal.{Refusal}
 use Rattle.opening_bench.specs.declared.commands.solve.TheConstants.{GAMES_LIMIT}
@@ -23,6 +25,7 @@ source_limit (Certify root) = None
 source_limit Verify = Some CERTIFICATE_LIMIT
 source_limit (MakeTable pieces) = None
 source_limit TableCheck = Some TABLE_LIMIT
+source_limit (Generate seed count) = None
 
 -- the text is that of a good certificate, so that its claim is true
 abbrev pub IsCertificateText : List ℕ → Type 0
@@ -37,6 +40,7 @@ Answers (Certify root) source text settled = IsCertificateText text × (settled 
 Answers Verify source text settled = IsVerifiedOf source text × (settled ≡ true)
 Answers (MakeTable pieces) source text settled = AreTableBytes pieces text × (settled ≡ true)
 Answers TableCheck source text settled = IsSoundOf source text × (settled ≡ true)
+Answers (Generate seed count) source text settled = CountsRoots (openings_from seed count) text
 
 -- nothing answers this source, for this fault
 abbrev pub HasFault : Command → List ℕ → Refusal → Type 0
@@ -46,3 +50,10 @@ HasFault (Certify root) source r = ⊥
 HasFault Verify source r = HasCertificateFault source r
 HasFault (MakeTable pieces) source r = ⊥
 HasFault TableCheck source r = HasTableFault source r
+HasFault (Generate seed count) source r = ⊥
+
+-- the command has workers search for values
+abbrev pub Searches : Command → Type 0
+Searches (Solve options) = Unit {0}
+Searches (Generate seed count) = Unit {0}
+Searches command = ⊥

@@ -1,21 +1,22 @@
 -- Three words by command say all that a command is to its disk: what it leaves of it, what its
 -- output shows of it, and why it is refused for it. A new command has a case in each.
 use Rattle.std.specs.Prelude.{◌≡◌, ◌⊎◌, ℕ, Bool, List}
-use Rattle.bench_disk.specs.Disk.{IsHonest, NothingPending}
+use Rattle.bench_disk.specs.Disk.{IsHonest, NothingPending, Stays}
 use Rattle.shared_words.specs.Counts.{Rose}
 use Rattle.draughts_board.specs.Board.{Board}
 use Rattle.bench_edges.specs.declared.words.Command.{Command}
-use Rattle.bench_edges.specs.declared.words.Command.TheVariants.{Solve, Report, Certify, Verify, MakeTable, TableCheck}
+use Rattle.bench_edges.specs.declared.words.Command.TheVariants.{Solve, Report, Certify, Verify, MakeTable, TableCheck, Generate}
 use Rattle.bench_edges.specs.declared.words.Options.{Options}
+use Rattle.capture_positions.specs.Walk.{openings_from}
 use Rattle.certificate_text.specs.Text.{ReadsAs}
 use Rattle.disk_journal.specs.declared.refusal.JournalRefusal.TheVariants as journal
 use Rattle.pdn_openings.specs.declared.opening.Opening.{Opening}
 use Rattle.strategy_certificate.specs.declared.certificates.Certificate.{Certificate}
 use Rattle.opening_report.specs.Conversions.{of_journal}
-use Rattle.opening_report.specs.Report.{forest_roots, report_of}
+use Rattle.opening_report.specs.Report.{forest_roots, report_of, summary_line}
 use Rattle.opening_report.specs.declared.refusals.Refusal.{Refusal}
 use Rattle.opening_report.specs.declared.refusals.Refusal.TheVariants as refusal
-use Rattle.journal_looks.specs.Looks.{Stays, Shows, Certifies, ExplainsNoReport, ExplainsNoCertificate}
+use Rattle.journal_looks.specs.Looks.{Shows, Certifies, ExplainsNoReport, ExplainsNoCertificate}
 use Rattle.journal_looks.specs.declared.refusals.LookRefusal.{LookRefusal}
 use Rattle.journal_looks.specs.declared.refusals.LookRefusal.TheVariants as look
 use Rattle.journal_runs.specs.Journals.{KeepsJournal, Resumes, IsCaused}
@@ -24,6 +25,7 @@ use Rattle.journal_runs.specs.declared.refusals.JournalFlaw.TheVariants as flaw
 use Rattle.journal_runs.specs.declared.refusals.RunRefusal.{RunRefusal}
 use Rattle.journal_runs.specs.declared.refusals.RunRefusal.TheVariants as run
 use Rattle.opening_bench.specs.Solving.{OpeningsOf, roots_of_openings}
+use Rattle.opening_bench.specs.declared.commands.generate.TheConstants.{GENERATE_PIECES}
 
 -- ---- refusals of a crate below, as the program's own
 
@@ -62,6 +64,10 @@ module _ {D : Type 0} (tells : Bool) (reads : D → List ℕ) (images : D → Li
   LeavesDisk Verify old new = new ≡ old
   LeavesDisk (MakeTable pieces) old new = new ≡ old
   LeavesDisk TableCheck old new = new ≡ old
+  LeavesDisk (Generate seed count) old new =
+      (new ≡ old)
+      ⊎ (IsHonest tells → NothingPending (reads old) (images old)
+      → KeepsJournal reads images images_since moment faults GENERATE_PIECES old new)
 
   -- The run went on from what the disk read as, with the source's openings.
   pub record HasResumed (options : Options) (source : List ℕ) (old new : D) (text : List ℕ)
@@ -87,6 +93,10 @@ module _ {D : Type 0} (tells : Bool) (reads : D → List ℕ) (images : D → Li
   ShowsDisk Verify source old new text settled = Unit {0}
   ShowsDisk (MakeTable pieces) source old new text settled = Unit {0}
   ShowsDisk TableCheck source old new text settled = Unit {0}
+  ShowsDisk (Generate seed count) source old new text settled =
+      IsHonest tells →
+      Resumes reads images images_since moment faults (λ roots. summary_line (forest_roots roots))
+      GENERATE_PIECES count (openings_from seed count) old new text settled
 
   -- A run with these positions is refused: the faults of the disk rose, its bytes are no such
   -- journal, there would be too many roots, or memory ran out.
@@ -116,3 +126,5 @@ module _ {D : Type 0} (tells : Bool) (reads : D → List ℕ) (images : D → Li
   HasDiskFault Verify source old new r = ⊥
   HasDiskFault (MakeTable pieces) source old new r = ⊥
   HasDiskFault TableCheck source old new r = ⊥
+  HasDiskFault (Generate seed count) source old new r =
+      IsRefusedRun GENERATE_PIECES (openings_from seed count) old new r

@@ -1,17 +1,20 @@
 -- The steps of a run, which the private functions answer for.
-use Rattle.std.specs.Prelude.{◌≡◌, ℕ, ◌⊎◌, Bool, List, ◌++◌, Option}
+use Rattle.std.specs.Prelude.{◌≡◌, ℕ, ◌⊎◌, Bool, true, false, List, ◌++◌, Option, Result, Err, IfErr}
+use Rattle.shared_words.specs.Answers.{Unless}
+use Rattle.bench_disk.specs.Disk.{IsHonest}
 use Rattle.draughts_board.specs.Board.{Board}
 use Rattle.bench_edges.specs.declared.words.Command.{Command}
+use Rattle.journal_looks.specs.declared.refusals.LookRefusal.{LookRefusal}
 use Rattle.pdn_openings.specs.declared.opening.Opening.{Opening}
 use Rattle.opening_report.specs.Lines.{IsLine}
 use Rattle.opening_report.specs.Refusals.{refusal_text}
 use Rattle.opening_report.specs.Report.{ValuesAreTrue}
 use Rattle.opening_report.specs.declared.refusals.Refusal.{Refusal}
 use Rattle.opening_report.specs.declared.refusals.Refusal.TheVariants as refusal
-use Rattle.opening_bench.specs.Accepted.{IsGoodFor, HasRoomFor, IsUnrefused, Accepts}
+use Rattle.opening_bench.specs.Accepted.{IsGoodFor, HasAsked, HasLookCause, HasRoomFor, IsUnrefused, Accepts}
 use Rattle.opening_bench.specs.Bench.{IsInput, status_of}
 use Rattle.opening_bench.specs.Commands.{Answers, HasFault}
-use Rattle.opening_bench.specs.Disks.{ShowsDisk, HasDiskFault}
+use Rattle.opening_bench.specs.Disks.{ShowsDisk, HasDiskFault, of_look}
 use Rattle.opening_bench.specs.Solving.{OpeningsOf, roots_of_openings}
 
 -- the refusal's text is one line
@@ -70,3 +73,24 @@ abbrev pub AcceptsGood : {D : Type 0} → Bool → (D → List ℕ) → Command 
     → Refusal → Type 0
 AcceptsGood tells reads command source disk r =
     Accepts tells reads command source disk (status_of r)
+
+-- ---- a look at the disk
+
+-- the refusal says nothing of what the disk reads as: the disk failed, or memory ran out
+abbrev pub says_nothing_of_bytes : Refusal → Bool
+says_nothing_of_bytes refusal.Disk = true
+says_nothing_of_bytes refusal.Memory = true
+says_nothing_of_bytes other = false
+
+-- a disk that has what the command asks of it is not refused for what it reads as
+abbrev pub AcceptsAsked : {D T : Type 0} → Bool → (D → List ℕ) → Command → D → Result T Refusal
+    → Type 0
+AcceptsAsked tells reads command disk answer =
+    HasAsked tells reads command disk → IfErr answer (λ r. says_nothing_of_bytes r ≡ true)
+
+-- a cause that the disk has is the answer
+abbrev pub AnswersLook : {D T : Type 0} → Bool → (D → List ℕ) → Command → D → Result T Refusal
+    → Type 0
+AnswersLook tells reads command disk answer =
+    IsHonest tells → (cause : LookRefusal) → HasLookCause command (reads disk) cause
+    → Unless says_nothing_of_bytes answer (answer ≡ Err (of_look cause))

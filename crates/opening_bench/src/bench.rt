@@ -1,36 +1,40 @@
 //! The top call: from the words and the source's bytes to the sink's bytes, a status, and the disk.
-ghost use Rattle.std.specs.Prelude.{◌≡◌, ◌≢◌, ◌↔◌, ◌≤◌, ℕ, List, None, IfOk, IfErr, IfSome, OnOk, length};
+ghost use Rattle.std.specs.Prelude.{◌≡◌, true, false, ◌≢◌, ◌↔◌, ◌≤◌, ℕ, List, None, IfSome, length};
 ghost use Rattle.std.specs.Io.KnownBytes.{IsAtEnd};
 ghost use Rattle.shared_words.specs.Counts.{Rose};
+ghost use Rattle.bench_disk.specs.Disk.{IsHonest};
 ghost use Rattle.bench_edges.specs.Words.{IsWithinLimits, Says, texts};
 ghost use Rattle.bench_edges.specs.declared.words.Command.{Command};
 ghost use Rattle.bench_edges.specs.declared.words.Options.{Options};
+ghost use Rattle.bench_records.specs.declared.records.BenchRecord.{BenchRecord};
 ghost use Rattle.certificate_text.specs.Text.{ReadsAs};
 ghost use Rattle.endgame_table.specs.Bytes.{bytes_of};
 ghost use Rattle.endgame_table.specs.Entries.{IsTable};
+ghost use Rattle.journal_looks.specs.Looks.{HasSettledRoot};
+ghost use Rattle.journal_looks.specs.declared.refusals.LookRefusal.{LookRefusal};
 ghost use Rattle.pdn_openings.specs.declared.opening.Opening.{Opening};
 ghost use Rattle.strategy_certificate.specs.Certificates.{IsGood};
 ghost use Rattle.strategy_certificate.specs.declared.certificates.Certificate.{Certificate};
+ghost use Rattle.tree_manager.specs.Receipts.{ReadsRecords};
 ghost use Rattle.opening_report.specs.Report.{ValuesAreTrue};
-ghost use Rattle.opening_bench.specs.Accepted.{Accepts, HasRoom, IsUnrefused};
-ghost use Rattle.opening_bench.specs.Bench.{ComesBeforeDisk, ComesToDisk, Does, Finishes, HoldsOpenings, IsCommandRefusal, IsRefusalByWords, IsRefused, ReadsSource, Refuses, Reports, TakesAtMost, TakesLine, WritesOnly, status_of};
-ghost use Rattle.opening_bench.specs.Commands.{source_limit};
-ghost use Rattle.opening_bench.specs.Disks.{LeavesDisk};
+ghost use Rattle.opening_bench.specs.Accepted.{Accepts, HasAsked, HasLookCause, HasRoom, IsRefusedFor, IsUnrefused};
+ghost use Rattle.opening_bench.specs.Bench.{ComesToDisk, Does, Finishes, HoldsOpenings, IsCommandRefusal, IsRefusalByWords, IsRefused, ReadsSource, Refuses, Reports, TakesAtMost, TakesLine, WritesOnly, status_of};
+ghost use Rattle.opening_bench.specs.Commands.{Searches, source_limit};
+ghost use Rattle.opening_bench.specs.Disks.{LeavesDisk, of_look};
 ghost use Rattle.opening_bench.specs.Solving.{OpeningsOf, roots_of_openings};
-ghost use Rattle.opening_bench.specs.Steps.{AcceptsBytes, AcceptsGood, AnswersBytes, AnswersSource, IsLineOf, RefusesBytes, SaysTrue};
+ghost use Rattle.opening_bench.specs.Steps.{IsLineOf};
 
-use crate::commands::certify::certify;
-use crate::commands::report::report;
-use crate::commands::solve::{GAMES_LIMIT, solve};
-use crate::commands::table::table;
-use crate::commands::table_check::table_check;
-use crate::commands::verify::{CERTIFICATE_LIMIT, verify};
-use crate::output::{Output, write_output};
-use crate::reading::read_source;
+use crate::commands::solve::GAMES_LIMIT;
+use crate::commands::verify::CERTIFICATE_LIMIT;
+use crate::quiet::bench_quiet;
+use crate::searching::run_search;
 use bench_disk::Disk;
 use bench_edges::{Command, Sink, Source, Status, read_words, write_all};
 use opening_report::{Refusal, refusal_line};
 use std::alloc::Global;
+use std::sync::Wait;
+use std::thread::Threads;
+use worker_gate::Gate;
 
 /// The status of a refused run.
 fn status_of(refusal: &Refusal) -> Status
@@ -48,7 +52,7 @@ fn status_of(refusal: &Refusal) -> Status
 
 /// Writes the line of the refusal, and answers its status. Where the sink fails at the line, the
 /// status stays.
-fn refuse<K: Sink>(refusal: Refusal, sink: &mut K) -> Status
+pub(crate) fn refuse<K: Sink>(refusal: Refusal, sink: &mut K) -> Status
     ensures status { result ≡ status_of refusal }
     ensures line { TakesLine refusal (K.taken sink.old) (K.taken sink.new)
         (K.faults sink.old) (K.faults sink.new) }
@@ -59,74 +63,30 @@ fn refuse<K: Sink>(refusal: Refusal, sink: &mut K) -> Status
     status_of(&refusal)
 }
 
-/// What the command has to write for these bytes of its source, and the disk.
-fn answer_bytes<D: Disk>(
-    alloc: Global,
-    command: Command,
-    bytes: &[u8],
-    disk: D,
-) -> (D, Result<Output, Refusal>)
-    requires { IsWithinLimits command }
-    ensures leaves { LeavesDisk D.TELLS D.reads D.images D.images_since D.moment D.faults
-        command disk result.0 }
-    ensures answers { IfOk result.1 (λ output.
-        AnswersBytes D.TELLS D.reads D.images D.images_since D.moment D.faults
-        command bytes.now disk result.0 output.text.items output.is_settled) }
-    ensures says { IfOk result.1 (λ output. SaysTrue output.text.items) }
-    ensures refused { IfErr result.1
-        (RefusesBytes D.TELLS D.reads D.images D.images_since D.moment D.faults
-        command bytes.now disk result.0) }
-    ensures accepted { IfErr result.1 (AcceptsBytes D.TELLS D.reads command bytes.now disk) }
-    ensures unused { IfErr result.1 (λ r. ComesBeforeDisk r → result.0 ≡ disk) }
+/// Whether workers search for the command's values.
+fn searches(command: Command) -> bool
+    ensures yes { result ≡ true → Searches command }
+    ensures no { result ≡ false → Searches command → ⊥ }
 {
     match command {
-        Command::Solve(options) => solve(alloc, &options, bytes, disk),
-        Command::Report => report(alloc, disk),
-        Command::Certify(root) => certify(alloc, root, disk),
-        Command::Verify => (disk, verify(alloc, bytes)),
-        Command::MakeTable(pieces) => (disk, table(alloc, pieces)),
-        Command::TableCheck => (disk, table_check(alloc, bytes)),
-    }
-}
-
-/// What the command has to write, and the disk.
-fn answer<S: Source, D: Disk>(
-    alloc: Global,
-    command: Command,
-    source: &mut S,
-    disk: D,
-) -> (D, Result<Output, Refusal>)
-    requires { IsWithinLimits command }
-    ensures leaves { LeavesDisk D.TELLS D.reads D.images D.images_since D.moment D.faults
-        command disk result.0 }
-    ensures answers { IfOk result.1 (λ output.
-        AnswersSource D.TELLS D.reads D.images D.images_since D.moment D.faults
-        command (S.left source.old) disk result.0 output.text.items output.is_settled) }
-    ensures says { IfOk result.1 (λ output. SaysTrue output.text.items) }
-    ensures refused { IfErr result.1
-        (IsCommandRefusal D.TELLS D.reads D.images D.images_since D.moment D.faults
-        command (S.left source.old) (S.left source.new)
-        (S.faults source.old) (S.faults source.new) disk result.0) }
-    ensures accepted { IfErr result.1
-        (AcceptsGood D.TELLS D.reads command (S.left source.old) disk) }
-    ensures unused { IfErr result.1 (λ r. ComesBeforeDisk r → result.0 ≡ disk) }
-    ensures end { OnOk result.1 (ReadsSource command → IsAtEnd (S.left source.new)) }
-    ensures front { TakesAtMost command (S.left source.old) (S.left source.new) }
-    ensures unread { source_limit command ≡ None → source.new ≡ source.old }
-{
-    match read_source(alloc, command, source) {
-        Ok(bytes) => answer_bytes(alloc, command, &bytes, disk),
-        Err(refusal) => (disk, Err(refusal)),
+        Command::Solve(_) | Command::Generate { .. } => true,
+        Command::Report
+        | Command::Certify(_)
+        | Command::Verify
+        | Command::MakeTable(_)
+        | Command::TableCheck => false,
     }
 }
 
 /// Does a command, and hands the disk back.
-fn run_command<S: Source, K: Sink, D: Disk>(
+fn run_command<R: Threads + Wait + Sync, S: Source, K: Sink, D: Disk + Send, G: Gate + Sync>(
+    rt: &R,
     alloc: Global,
     command: Command,
     source: &mut S,
     sink: &mut K,
     disk: D,
+    gate: &G,
 ) -> (Status, D)
     requires { IsWithinLimits command }
     ensures values { WritesOnly (K.taken sink.old) (K.taken sink.new) ValuesAreTrue }
@@ -145,6 +105,10 @@ fn run_command<S: Source, K: Sink, D: Disk>(
         command disk result.1 }
     ensures words { result.0 ≢ Status.Words }
     ensures accepted { Accepts D.TELLS D.reads command (S.left source.old) disk result.0 }
+    ensures asked { HasAsked D.TELLS D.reads command disk → IsUnrefused result.0 }
+    ensures looked { IsHonest D.TELLS → (cause : LookRefusal) →
+        HasLookCause command (D.reads disk) cause → IsRefusedFor (of_look cause)
+        (K.taken sink.old) (K.taken sink.new) (K.faults sink.old) (K.faults sink.new) result.0 }
     ensures read { result.0 ≡ Status.Read → Rose (S.faults source.old) (S.faults source.new) }
     ensures write { result.0 ≡ Status.Write → Rose (K.faults sink.old) (K.faults sink.new) }
     ensures fault { result.0 ≡ Status.Disk → Rose (D.faults disk) (D.faults result.1) }
@@ -152,50 +116,11 @@ fn run_command<S: Source, K: Sink, D: Disk>(
     ensures front { TakesAtMost command (S.left source.old) (S.left source.new) }
     ensures unread { source_limit command ≡ None → source.new ≡ source.old }
 {
-    let (disk, answer) = answer(alloc, command, source, disk);
-    match answer {
-        Ok(output) => (write_output(&output, sink), disk),
-        Err(refusal) => (refuse(refusal, sink), disk),
+    if searches(command) {
+        run_search(rt, alloc, command, source, sink, disk, gate)
+    } else {
+        bench_quiet(alloc, command, source, sink, disk)
     }
-}
-
-/// Does a command other than `solve`, and hands the disk back. A refused run writes one line that
-/// says why. Every call returns.
-///
-/// The clauses are those of [`bench`], by the command in place of the words.
-pub fn bench_quiet<S: Source, K: Sink, D: Disk>(
-    alloc: Global,
-    command: Command,
-    source: &mut S,
-    sink: &mut K,
-    disk: D,
-) -> (Status, D)
-    requires quiet { (options : Options) → command ≢ Command.Solve options }
-    requires limits { IsWithinLimits command }
-    ensures values { WritesOnly (K.taken sink.old) (K.taken sink.new) ValuesAreTrue }
-    ensures openings { Finishes result.0 → WritesOnly (K.taken sink.old) (K.taken sink.new)
-        (HoldsOpenings command (S.left source.old)) }
-    ensures does { Reports result.0 → Does D.TELLS D.reads D.images D.images_since D.moment D.faults
-        command (S.left source.old) (K.taken sink.old) (K.taken sink.new)
-        disk result.1 result.0 }
-    ensures refused { Refuses result.0 → IsRefused
-        (IsCommandRefusal D.TELLS D.reads D.images D.images_since D.moment D.faults
-        command (S.left source.old) (S.left source.new)
-        (S.faults source.old) (S.faults source.new) disk result.1)
-        disk result.1 (K.taken sink.old) (K.taken sink.new)
-        (K.faults sink.old) (K.faults sink.new) result.0 }
-    ensures leaves { LeavesDisk D.TELLS D.reads D.images D.images_since D.moment D.faults
-        command disk result.1 }
-    ensures words { result.0 ≢ Status.Words }
-    ensures accepted { Accepts D.TELLS D.reads command (S.left source.old) disk result.0 }
-    ensures read { result.0 ≡ Status.Read → Rose (S.faults source.old) (S.faults source.new) }
-    ensures write { result.0 ≡ Status.Write → Rose (K.faults sink.old) (K.faults sink.new) }
-    ensures fault { result.0 ≡ Status.Disk → Rose (D.faults disk) (D.faults result.1) }
-    ensures all_read { ComesToDisk result.0 → ReadsSource command → IsAtEnd (S.left source.new) }
-    ensures front { TakesAtMost command (S.left source.old) (S.left source.new) }
-    ensures unread { source_limit command ≡ None → source.new ≡ source.old }
-{
-    run_command(alloc, command, source, sink, disk)
 }
 
 /// Does what the words say, on the journal of the disk, and hands the disk back. A refused run
@@ -204,9 +129,12 @@ pub fn bench_quiet<S: Source, K: Sink, D: Disk>(
 /// `words` are those of the command line without the program's name: a path, a command, and its
 /// options.
 /// - `solve` reads the games of the source, takes the position of each after its first `--plies`
-///   plies, begins a root of the journal at each that is none, searches `--depth` plies ahead with
-///   the endgame table of `--pieces` until every root has a value or `--budget` records of work are
-///   added, and writes the report: a line for each root and a summary.
+///   plies, begins a root of the journal at each that is none, lets `--workers` workers search
+///   `--depth` plies ahead with the endgame table of `--pieces` until every root has a value or
+///   `--budget` records of work are added, and writes the report: a line for each root and a
+///   summary.
+/// - `generate SEED COUNT` does the same with the openings that the seed gives, four workers, one
+///   ply, the table of 2 pieces and a budget of COUNT, and writes the summary alone.
 /// - `report` writes the report on what the journal holds, and `certify N` the text of a
 ///   certificate of the value of its root N; both write nothing to it.
 /// - `verify` reads the text of a certificate, fills the endgame table that it names, and writes
@@ -215,16 +143,19 @@ pub fn bench_quiet<S: Source, K: Sink, D: Disk>(
 /// - `table-check` reads the bytes of an endgame table, and writes a line where they are sound.
 ///
 /// The order of trial is words, source, its length, its form, what it says, the disk and its
-/// journal, roots. Every call returns. Want of memory is answered by the status `Memory`.
+/// journal, roots. Want of memory is answered by the status `Memory`. The clauses hold for every
+/// number of workers, in whatever order they take their turns, and say nothing of what a gate does.
 ///
 /// What a run leaves of the journal holds also where it is cut off: a crash loses nothing that the
 /// disk read as before, and the next run goes on from what is there.
-pub fn bench<S: Source, K: Sink, D: Disk>(
+pub fn bench<R: Threads + Wait + Sync, S: Source, K: Sink, D: Disk + Send, G: Gate + Sync>(
+    rt: &R,
     alloc: Global,
     words: &[&str],
     source: &mut S,
     sink: &mut K,
     disk: D,
+    gate: &G,
 ) -> (Status, D)
     // Every value that is written is true, whatever the disk tells.
     ensures values { WritesOnly (K.taken sink.old) (K.taken sink.new) ValuesAreTrue }
@@ -267,6 +198,17 @@ pub fn bench<S: Source, K: Sink, D: Disk>(
     ensures accepted_tables { Says (texts words.now) Command.TableCheck
         → IfSome (S.left source.old) (λ bytes. (k : ℕ) (numbers : List ℕ)
         → IsTable k numbers → bytes ≡ bytes_of k numbers → IsUnrefused result.0) }
+    ensures accepted_reports { Says (texts words.now) Command.Report → IsHonest D.TELLS
+        → (pieces : ℕ) (records : List BenchRecord) → ReadsRecords pieces (D.reads disk) records
+        → IsUnrefused result.0 }
+    ensures accepted_roots { (root : ℕ) → Says (texts words.now) (Command.Certify root)
+        → IsHonest D.TELLS → HasSettledRoot (D.reads disk) root → IsUnrefused result.0 }
+    ensures accepted_pieces { (pieces : ℕ) → Says (texts words.now) (Command.MakeTable pieces)
+        → IsUnrefused result.0 }
+    ensures looked { IsHonest D.TELLS → (command : Command) → Says (texts words.now) command
+        → (cause : LookRefusal) → HasLookCause command (D.reads disk) cause
+        → IsRefusedFor (of_look cause) (K.taken sink.old) (K.taken sink.new)
+        (K.faults sink.old) (K.faults sink.new) result.0 }
     ensures read { result.0 ≡ Status.Read → Rose (S.faults source.old) (S.faults source.new) }
     ensures write { result.0 ≡ Status.Write → Rose (K.faults sink.old) (K.faults sink.new) }
     ensures fault { result.0 ≡ Status.Disk → Rose (D.faults disk) (D.faults result.1) }
@@ -282,7 +224,7 @@ pub fn bench<S: Source, K: Sink, D: Disk>(
     ensures unread_by_words { result.0 ≡ Status.Words → source.new ≡ source.old }
 {
     match read_words(words) {
-        Ok(command) => run_command(alloc, command, source, sink, disk),
+        Ok(command) => run_command(rt, alloc, command, source, sink, disk, gate),
         Err(refused) => (refuse(Refusal::from(refused), sink), disk),
     }
 }

@@ -14,8 +14,11 @@ use endgame_table::fill;
 use fen_text::print_fen;
 use std::alloc::Global;
 use std::process::Abort;
+use std::sync::Wait;
 use std::test::Fail;
+use std::thread::Threads;
 use strategy_certificate::{Certificate, Claim};
+use worker_gate::OpenGate;
 
 /// White wins in one ply: 23-19 blocks the last man.
 const BLOCKING: &[u8] =
@@ -37,8 +40,8 @@ const ASTRAY: &[u8] =
       W:W16,23:B12 1 23-18\nB:W16,19:B12 0\nend\n";
 
 /// Runs `verify` over these bytes, and compares the status and the line.
-fn expect(
-    rt: &impl Abort,
+fn expect<R: Abort + Threads + Wait + Sync>(
+    rt: &R,
     alloc: Global,
     text: &[u8],
     status: Status,
@@ -47,7 +50,15 @@ fn expect(
     let mut source = MemorySource::new(Vec::from_slice(alloc, text)?, Vec::new(alloc));
     let mut sink = MemorySink::new(alloc, Vec::new(alloc));
     let disk = MemoryDisk::new(alloc);
-    let (ended, _disk) = bench(alloc, &["-", "verify"], &mut source, &mut sink, disk);
+    let (ended, _disk) = bench(
+        rt,
+        alloc,
+        &["-", "verify"],
+        &mut source,
+        &mut sink,
+        disk,
+        &OpenGate,
+    );
     assert_eq!(rt; ended, status);
     assert_eq!(rt; sink.bytes(), line);
     assert_eq!(rt; source.left().len(), 0);
@@ -172,7 +183,15 @@ fn a_certificate_that_cannot_be_read(rt: HostRuntime) -> Result<(), Fail> {
     let mut source = MemorySource::new(bytes, vec![in rt.alloc(); 0]?);
     let mut sink = MemorySink::new(rt.alloc(), Vec::new(rt.alloc()));
     let disk = MemoryDisk::new(rt.alloc());
-    let (ended, _disk) = bench(rt.alloc(), &["-", "verify"], &mut source, &mut sink, disk);
+    let (ended, _disk) = bench(
+        &rt,
+        rt.alloc(),
+        &["-", "verify"],
+        &mut source,
+        &mut sink,
+        disk,
+        &OpenGate,
+    );
     assert_eq!(rt; ended, Status::Read);
     assert_eq!(rt; sink.bytes(), b"refused read\n".as_slice());
     Ok(())
@@ -182,8 +201,8 @@ fn a_certificate_that_cannot_be_read(rt: HostRuntime) -> Result<(), Fail> {
 
 /// Checks the certificate of this text by the table of two pieces, and gives it back with its
 /// refusal, if there is one.
-fn checked(
-    rt: &impl Abort,
+fn checked<R: Abort + Threads + Wait + Sync>(
+    rt: &R,
     alloc: Global,
     text: &[u8],
 ) -> Result<(Certificate, Option<CheckRefusal>), Fail>

@@ -1,5 +1,6 @@
 //! The commands, each in its file: from its source and its disk to what is written.
 pub mod certify;
+pub mod generate;
 pub mod report;
 pub mod solve;
 pub mod table;

@@ -19,7 +19,8 @@ fn source_limit(command: Command) -> Option<usize>
         Command::Solve(_) => Some(GAMES_LIMIT),
         Command::Verify => Some(CERTIFICATE_LIMIT),
         Command::TableCheck => Some(TABLE_LIMIT),
-        Command::Report | Command::Certify(_) | Command::MakeTable(_) => None,
+        Command::Report | Command::Certify(_) | Command::MakeTable(_) | Command::Generate { .. } =>
+            None,
     }
 }
 

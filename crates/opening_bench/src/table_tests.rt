@@ -5,25 +5,40 @@ use bench_disk::MemoryDisk;
 use bench_edges::{MemorySink, MemorySource, Status};
 use std::alloc::Global;
 use std::process::Abort;
+use std::sync::Wait;
 use std::test::Fail;
+use std::thread::Threads;
+use worker_gate::OpenGate;
 
 /// The place of the entry of `B:WK32:BK1`, whose index is 1232.
 const ENTRY: usize = 8 + 4 * 1232;
 
 /// The bytes that `table` writes.
-fn table(rt: &impl Abort, alloc: Global, pieces: &str) -> Result<Vec<u8>, Fail> {
+fn table<R: Abort + Threads + Wait + Sync>(
+    rt: &R,
+    alloc: Global,
+    pieces: &str,
+) -> Result<Vec<u8>, Fail> {
     let mut source = MemorySource::new(Vec::from_slice(alloc, b"left")?, Vec::new(alloc));
     let mut sink = MemorySink::new(alloc, Vec::new(alloc));
     let disk = MemoryDisk::new(alloc);
-    let (ended, _disk) = bench(alloc, &["-", "table", pieces], &mut source, &mut sink, disk);
+    let (ended, _disk) = bench(
+        rt,
+        alloc,
+        &["-", "table", pieces],
+        &mut source,
+        &mut sink,
+        disk,
+        &OpenGate,
+    );
     assert_eq!(rt; ended, Status::Done);
     assert_eq!(rt; source.left(), b"left".as_slice());
     Ok(Vec::from_slice(alloc, sink.bytes())?)
 }
 
 /// Checks the bytes, and compares the status and the line.
-fn expect_checked(
-    rt: &impl Abort,
+fn expect_checked<R: Abort + Threads + Wait + Sync>(
+    rt: &R,
     alloc: Global,
     bytes: &[u8],
     status: Status,
@@ -32,7 +47,15 @@ fn expect_checked(
     let mut source = MemorySource::new(Vec::from_slice(alloc, bytes)?, Vec::new(alloc));
     let mut sink = MemorySink::new(alloc, Vec::new(alloc));
     let disk = MemoryDisk::new(alloc);
-    let (ended, _disk) = bench(alloc, &["-", "table-check"], &mut source, &mut sink, disk);
+    let (ended, _disk) = bench(
+        rt,
+        alloc,
+        &["-", "table-check"],
+        &mut source,
+        &mut sink,
+        disk,
+        &OpenGate,
+    );
     assert_eq!(rt; ended, status);
     assert_eq!(rt; sink.bytes(), line);
     Ok(())
@@ -123,7 +146,15 @@ fn words_on_tables(rt: HostRuntime) -> Result<(), Fail> {
         let mut source = MemorySource::new(Vec::new(rt.alloc()), Vec::new(rt.alloc()));
         let mut sink = MemorySink::new(rt.alloc(), Vec::new(rt.alloc()));
         let disk = MemoryDisk::new(rt.alloc());
-        let (ended, _disk) = bench(rt.alloc(), words, &mut source, &mut sink, disk);
+        let (ended, _disk) = bench(
+            &rt,
+            rt.alloc(),
+            words,
+            &mut source,
+            &mut sink,
+            disk,
+            &OpenGate,
+        );
         assert_eq!(rt; ended, Status::Words);
         assert_eq!(rt; sink.bytes(), line.as_slice());
     }
@@ -136,11 +167,13 @@ fn a_sink_that_fails_at_a_table(rt: HostRuntime) -> Result<(), Fail> {
     let mut sink = MemorySink::new(rt.alloc(), vec![in rt.alloc(); 1]?).at_most(100);
     let disk = MemoryDisk::new(rt.alloc());
     let (ended, _disk) = bench(
+        &rt,
         rt.alloc(),
         &["-", "table", "2"],
         &mut source,
         &mut sink,
         disk,
+        &OpenGate,
     );
     assert_eq!(rt; ended, Status::Write);
     assert_eq!(rt; sink.bytes().len(), 100);

@@ -5,7 +5,10 @@ use bench_disk::MemoryDisk;
 use bench_edges::{MemorySink, MemorySource, Status};
 use std::alloc::Global;
 use std::process::Abort;
+use std::sync::Wait;
 use std::test::Fail;
+use std::thread::Threads;
+use worker_gate::OpenGate;
 
 const BLOCKING: &[u8] = b"[FEN \"W:W16,23:B12\"] *";
 
@@ -17,8 +20,8 @@ const SOLVE: [&str; 2] = ["-", "solve"];
 
 /// Runs over a source that gives all its bytes and a sink that takes all, on an empty disk, and
 /// compares the status and what was written.
-fn expect(
-    rt: &impl Abort,
+fn expect<R: Abort + Threads + Wait + Sync>(
+    rt: &R,
     alloc: Global,
     words: &[&str],
     text: &str,
@@ -27,15 +30,23 @@ fn expect(
 ) -> Result<(), Fail> {
     let mut source = MemorySource::new(text.as_bytes().to_vec(alloc)?, Vec::new(alloc));
     let mut sink = MemorySink::new(alloc, Vec::new(alloc));
-    let (ended, _disk) = bench(alloc, words, &mut source, &mut sink, MemoryDisk::new(alloc));
+    let (ended, _disk) = bench(
+        rt,
+        alloc,
+        words,
+        &mut source,
+        &mut sink,
+        MemoryDisk::new(alloc),
+        &OpenGate,
+    );
     assert_eq!(rt; ended, status, "{text}");
     assert_eq!(rt; sink.bytes(), written.as_bytes(), "{text}");
     Ok(())
 }
 
 /// Runs `solve` of each position alone, and compares the value that is written.
-fn expect_values(
-    rt: &impl Abort,
+fn expect_values<R: Abort + Threads + Wait + Sync>(
+    rt: &R,
     alloc: Global,
     words: &[&str],
     rows: &[(&str, &str)],
@@ -212,8 +223,8 @@ fn refusals(rt: HostRuntime) -> Result<(), Fail> {
 }
 
 /// Runs over the source and the sink, and compares the status and what was written.
-fn expect_over(
-    rt: &impl Abort,
+fn expect_over<R: Abort + Threads + Wait + Sync>(
+    rt: &R,
     alloc: Global,
     mut source: MemorySource,
     mut sink: MemorySink,
@@ -221,11 +232,13 @@ fn expect_over(
     written: &[u8],
 ) {
     let (ended, disk) = bench(
+        rt,
         alloc,
         &ONE_PLY,
         &mut source,
         &mut sink,
         MemoryDisk::new(alloc),
+        &OpenGate,
     );
     assert_eq!(rt; disk.bytes().is_empty(), status == Status::Read);
     assert_eq!(rt; ended, status);
@@ -288,7 +301,15 @@ fn as_many_roots_as_may_be(rt: HostRuntime) -> Result<(), Fail> {
     let mut sink = MemorySink::new(rt.alloc(), Vec::new(rt.alloc()));
     let words = ["-", "solve", "--budget", "0"];
     let disk = MemoryDisk::new(rt.alloc());
-    let (ended, _disk) = bench(rt.alloc(), &words, &mut source, &mut sink, disk);
+    let (ended, _disk) = bench(
+        &rt,
+        rt.alloc(),
+        &words,
+        &mut source,
+        &mut sink,
+        disk,
+        &OpenGate,
+    );
     assert_eq!(rt; ended, Status::Unsolved);
     let end = b"root 4096 B:WK5,K24:BK17 unsolved\nroots 4096 settled 0 unsolved 4096\n";
     assert!(rt; sink.bytes().ends_with(end));

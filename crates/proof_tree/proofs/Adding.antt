@@ -12,7 +12,7 @@ use Rattle.proof_numbers.specs.Facts.{known}
 use Rattle.proof_numbers.specs.Known.{Known, knows_win, knows_hold}
 use Rattle.proof_numbers.specs.declared.numbers.Numbers.{Numbers}
 use Rattle.proof_numbers.specs.Numbers.{mobility}
-use Rattle.proof_tree.specs.declared.rows.Row.{Row}
+use Rattle.proof_tree.specs.declared.rows.NodeRow.{NodeRow}
 use Rattle.proof_tree.specs.declared.rows.Mark.TheVariants.{Unexpanded}
 use Rattle.proof_tree.specs.Forest.{Own, Node, Forest, no_node, node, forest, nodes, size, numbers_at}
 use Rattle.proof_tree.specs.Changes.{appended, with_root}
@@ -29,7 +29,7 @@ forest-append : (xs ys : List Node) → forest (xs ++ ys) ≡ appended (forest x
 forest-append [] ys = refl
 forest-append (x ∷ xs) ys = ap (node x.own x.children) (forest-append xs ys)
 
-roots_from-push : (j : ℕ) (rows : List Row) (r : Row) → r.parent ≡ None → roots_from j (rows ++ r ∷ []) ≡ roots_from j rows ++ (j + length rows) ∷ []
+roots_from-push : (j : ℕ) (rows : List NodeRow) (r : NodeRow) → r.parent ≡ None → roots_from j (rows ++ r ∷ []) ≡ roots_from j rows ++ (j + length rows) ∷ []
 roots_from-push j [] r e =
     ap (λ (p : Option ℕ). if_root p j []) e ∙ ap (λ (n : ℕ). n ∷ []) (let z : j ≡ j + 0 = omega arith in z)
 roots_from-push j (s ∷ rows) r e =
@@ -40,11 +40,11 @@ roots_from-push j (s ∷ rows) r e =
       in_front None j ks n = refl
       in_front (Some p) j ks n = refl
 
-module _ (rows : List Row) (links : AreLinked rows) (root : Child) where
-  abbrev pub row : Row
+module _ (rows : List NodeRow) (links : AreLinked rows) (root : Child) where
+  abbrev pub row : NodeRow
   row = root_row (length rows) root
 
-  abbrev pub added : List Row
+  abbrev pub added : List NodeRow
   added = rows ++ row ∷ []
 
   long : length added ≡ length rows + 1
@@ -61,19 +61,19 @@ module _ (rows : List Row) (links : AreLinked rows) (root : Child) where
       ⊎_elim (before k) (λ h. subst P (let e : length rows ≡ k = omega (arith, h, long) in e) here) (cases_lt k (length rows))
 
   old_parent : (k : ℕ) → k < length rows → (row_at added k).parent ≡ (row_at rows k).parent
-  old_parent k l = ap (λ (r : Row). r.parent) (old k l)
+  old_parent k l = ap (λ (r : NodeRow). r.parent) (old k l)
 
   first_old : (k : ℕ) → k < length rows → (row_at added k).first ≡ (row_at rows k).first
-  first_old k l = ap (λ (r : Row). r.first) (old k l)
+  first_old k l = ap (λ (r : NodeRow). r.first) (old k l)
 
   count_old : (k : ℕ) → k < length rows → (row_at added k).count ≡ (row_at rows k).count
-  count_old k l = ap (λ (r : Row). r.count) (old k l)
+  count_old k l = ap (λ (r : NodeRow). r.count) (old k l)
 
   first_new : (row_at added (length rows)).first ≡ suc (length rows)
-  first_new = ap (λ (r : Row). r.first) new
+  first_new = ap (λ (r : NodeRow). r.first) new
 
   count_new : (row_at added (length rows)).count ≡ 0
-  count_new = ap (λ (r : Row). r.count) new
+  count_new = ap (λ (r : NodeRow). r.count) new
 
   pub AreLinked-added : AreLinked added
   AreLinked-added =
@@ -101,7 +101,7 @@ module _ (rows : List Row) (links : AreLinked rows) (root : Child) where
             let f = first_old q (omega (arith, low, l')) in
             let n = count_old q (omega (arith, low, l')) in
             (low, omega (arith, mid, f), omega (arith, high, f, n)))
-            (λ e. absurd (let no : None ≡ Some q = sym (ap (λ (r : Row). r.parent) new) ∙ e in cc)) k l;
+            (λ e. absurd (let no : None ≡ Some q = sym (ap (λ (r : NodeRow). r.parent) new) ∙ e in cc)) k l;
       }
 
   kept_old : (goal : Side) (k : ℕ) → k < length rows → kept_numbers goal (row_at added k) ≡ kept_numbers goal (row_at rows k)
@@ -112,7 +112,7 @@ module _ (rows : List Row) (links : AreLinked rows) (root : Child) where
       kept_old goal k l
       ∙ fit
       ∙ ap (numbers_at goal (own_of k (row_at rows k))) (sym (kept_slice rows added goal (row_at rows k) (links.within k l) (omega (arith, long)) (kept_old goal)))
-      ∙ ap (λ (r : Row). numbers_at goal (own_of k r) (map (kept_numbers goal) (slice_of r added))) (sym (old k l))
+      ∙ ap (λ (r : NodeRow). numbers_at goal (own_of k r) (map (kept_numbers goal) (slice_of r added))) (sym (old k l))
 
   fits_row : (goal : Side) (k : ℕ) (below : List Numbers) → kept_numbers goal row ≡ numbers_at goal (own_of k row) below
   fits_row Black k below =
@@ -122,7 +122,7 @@ module _ (rows : List Row) (links : AreLinked rows) (root : Child) where
 
   fits_new : (goal : Side) → FitsRow added goal (length rows)
   fits_new goal =
-      subst (λ (r : Row). kept_numbers goal r ≡ numbers_at goal (own_of (length rows) r) (map (kept_numbers goal) (slice_of r added))) (sym new)
+      subst (λ (r : NodeRow). kept_numbers goal r ≡ numbers_at goal (own_of (length rows) r) (map (kept_numbers goal) (slice_of r added))) (sym new)
       (fits_row goal (length rows) (map (kept_numbers goal) (slice_of row added)))
 
   pub Fits-added : ((k : ℕ) → k < length rows → Fits rows k) → (k : ℕ) → k < length added → Fits added k
@@ -147,21 +147,21 @@ module _ (rows : List Row) (links : AreLinked rows) (root : Child) where
             ∙ ap (λ (ys : List Node). record { own = own_of k r; children = forest ys })
             (sym (take-append-le r.count (drop r.first xs) (new_node ∷ []) (omega (arith, w, fit.as_long, length-drop r.first xs)))
             ∙ ap (take r.count) (sym (drop-append-le r.first xs (new_node ∷ []) (omega (arith, w, fit.as_long)))))
-            ∙ ap (λ (q : Row). node_of k q (xs ++ new_node ∷ [])) (sym (old k l)))
+            ∙ ap (λ (q : NodeRow). node_of k q (xs ++ new_node ∷ [])) (sym (old k l)))
             (ap (node_in (xs ++ new_node ∷ [])) (let z : length rows ≡ length xs + 0 = omega (arith, fit.as_long) in z)
             ∙ get_or-append-add xs (new_node ∷ []) 0 blank_node
-            ∙ ap (λ (q : Row). node_of (length rows) q (xs ++ new_node ∷ [])) (sym new));
+            ∙ ap (λ (q : NodeRow). node_of (length rows) q (xs ++ new_node ∷ [])) (sym new));
       }
 
-pub AreCounted-added : (rows : List Row) (links : AreLinked rows) (root : Child) → AreCounted rows → AreCounted (added rows links root)
+pub AreCounted-added : (rows : List NodeRow) (links : AreLinked rows) (root : Child) → AreCounted rows → AreCounted (added rows links root)
 AreCounted-added rows links root counted =
     each rows links root (IsCounted (added rows links root))
-    (λ k l. subst (λ (r : Row). r.moves ≡ mobility r.position) (sym (old rows links root k l)) (counted k l))
-    (subst (λ (r : Row). r.moves ≡ mobility r.position) (sym (new rows links root)) root.counted)
+    (λ k l. subst (λ (r : NodeRow). r.moves ≡ mobility r.position) (sym (old rows links root k l)) (counted k l))
+    (subst (λ (r : NodeRow). r.moves ≡ mobility r.position) (sym (new rows links root)) root.counted)
 
-module _ (rows : List Row) (entries : List (Board × ℕ)) (space root_space spare : ℕ) (tree : IsTree rows entries space root_space spare) (g : TreeState)
+module _ (rows : List NodeRow) (entries : List (Board × ℕ)) (space root_space spare : ℕ) (tree : IsTree rows entries space root_space spare) (g : TreeState)
     (is : seen rows entries spare ≡ g) (root : Child) where
-  abbrev pub more : List Row
+  abbrev pub more : List NodeRow
   more = rows ++ root_row (length rows) root ∷ []
 
   abbrev pub more_entries : List (Board × ℕ)
@@ -176,7 +176,7 @@ module _ (rows : List Row) (entries : List (Board × ℕ)) (space root_space spa
   next_is : length rows ≡ size (forest_of rows (values_of entries))
   next_is = sym (ap (λ (ts : List ℕ). size (forest_of rows ts)) tree.roots ∙ size-forest rows tree.linked)
 
-  forests-more : forest_of more (values_of more_entries) ≡ with_root root.position (known root.facts) (forest_of rows (values_of entries))
+  pub forests-more : forest_of more (values_of more_entries) ≡ with_root root.position (known root.facts) (forest_of rows (values_of entries))
   forests-more =
       let tops = values_of entries in
       let xs = nodes_from 0 rows in
@@ -209,11 +209,11 @@ module _ (rows : List Row) (entries : List (Board × ℕ)) (space root_space spa
       → (row_at more (get_or (values_of entries) i 0)).position ≡ (row_at rows (get_or (values_of entries) i 0)).position
   position-old i l =
       let t = tops-are rows (values_of entries) tree.roots i l in
-      ap (λ (r : Row). r.position) (old rows tree.linked root (get_or (values_of entries) i 0) t.0)
+      ap (λ (r : NodeRow). r.position) (old rows tree.linked root (get_or (values_of entries) i 0) t.0)
 
   keys-now : keys_of more_entries ≡ map (λ k. (row_at more k).position) (values_of more_entries)
   keys-now =
-      let here : root.position ≡ (row_at more (length rows)).position = sym (ap (λ (r : Row). r.position) (new rows tree.linked root)) in
+      let here : root.position ≡ (row_at more (length rows)).position = sym (ap (λ (r : NodeRow). r.position) (new rows tree.linked root)) in
       keys-more
       ∙ (λ i. (tree.keys ∙ positions-same rows more (values_of entries) position-old) i ++ here i ∷ [])
       ∙ sym (map-append (λ k. (row_at more k).position) (values_of entries) (length rows ∷ []))

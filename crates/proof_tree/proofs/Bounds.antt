@@ -12,7 +12,7 @@ use Rattle.proof_numbers.specs.declared.numbers.Numbers.{Numbers}
 use Rattle.proof_numbers.specs.Known.{Known, knows_win, knows_hold}
 use Rattle.proof_numbers.specs.Numbers.{least, total, least_of, total_of, proved, refuted, unknown, mobility, counted_moves, leaf_numbers, IsFinitely}
 use Rattle.proof_tree.specs.Sums.{finite_sum, finite_part, IsKeepable}
-use Rattle.proof_tree.specs.declared.rows.Row.{Row}
+use Rattle.proof_tree.specs.declared.rows.NodeRow.{NodeRow}
 use Rattle.proof_tree.specs.declared.rows.Mark.{Mark}
 use Rattle.proof_tree.specs.declared.rows.Mark.TheVariants.{Unexpanded, Expanded, Repeats}
 use Rattle.proof_tree.specs.Forest.{Own, Node, Forest, no_node, node, forest, size, numbers, numbers_at, numbers_by_mark, folded, node_numbers}
@@ -93,12 +93,12 @@ numbers_small goal (node own below others) =
     let h = at_small goal own (numbers goal below) (64 * size below) b.0 b.1 in
     (omega (arith, h.0, o.0), omega (arith, h.1, o.1))
 
-pub map-shown : (by_proof : Bool) (goal : Side) (xs : List Row)
-    → map (λ (r : Row). left_to_show by_proof (kept_numbers goal r)) xs ≡ map (left_to_show by_proof) (map (kept_numbers goal) xs)
+pub map-shown : (by_proof : Bool) (goal : Side) (xs : List NodeRow)
+    → map (λ (r : NodeRow). left_to_show by_proof (kept_numbers goal r)) xs ≡ map (left_to_show by_proof) (map (kept_numbers goal) xs)
 map-shown by_proof goal [] = refl
 map-shown by_proof goal (x ∷ xs) = ap (λ (ns : List Number). left_to_show by_proof (kept_numbers goal x) ∷ ns) (map-shown by_proof goal xs)
 
-pub fits_for : (rows : List Row) (goal : Side) (k : ℕ) → Fits rows k → FitsRow rows goal k
+pub fits_for : (rows : List NodeRow) (goal : Side) (k : ℕ) → Fits rows k → FitsRow rows goal k
 fits_for rows Black k h = h.black
 fits_for rows White k h = h.white
 
@@ -124,7 +124,7 @@ leaf-keepable goal facts repeats mover moves h =
     (unknown_keepable moves (same_side goal mover) h)
 
 -- there is room for the sum of what a row's children keep, and for the row's own numbers, where all rows behind it fit
-module _ (rows : List Row) (links : AreLinked rows) (small : AreSmall rows) (at : ℕ) (inside : at < length rows)
+module _ (rows : List NodeRow) (links : AreLinked rows) (small : AreSmall rows) (at : ℕ) (inside : at < length rows)
     (fits : (k : ℕ) → at < k → k < length rows → Fits rows k) (goal : Side) where
   room_for : (xs : List Numbers) → (finite_sum (map (λ x. x.proof) xs) < 2 ^ 63) × (finite_sum (map (λ x. x.disproof) xs) < 2 ^ 63)
       → (by_proof : Bool) → finite_sum (map (left_to_show by_proof) xs) < 2 ^ 63
@@ -146,20 +146,20 @@ module _ (rows : List Row) (links : AreLinked rows) (small : AreSmall rows) (at 
       slice-is rows links xs fit goal at inside
       (λ j after l. kept-is rows links xs fit goal (suc at) (λ k from l'. fits_for rows goal k (fits k from l')) j after l)
 
-  pub room : (by_proof : Bool) → finite_sum (map (λ (r : Row). left_to_show by_proof (kept_numbers goal r)) (slice_of (row_at rows at) rows)) < 2 ^ 63
+  pub room : (by_proof : Bool) → finite_sum (map (λ (r : NodeRow). left_to_show by_proof (kept_numbers goal r)) (slice_of (row_at rows at) rows)) < 2 ^ 63
   room by_proof =
       let n = numbers_small goal children in
       let f = few in
       rw (map-shown by_proof goal (slice_of (row_at rows at) rows))
       (rw kept-children (room_for (numbers goal children) (omega (arith, n.0, f), omega (arith, n.1, f)) by_proof))
 
-  pub room_in : (row : Row) → row ≡ get_or rows at row → (by_proof : Bool)
-      → finite_sum (map (λ (r : Row). left_to_show by_proof (kept_numbers goal r)) (take (row.first + row.count - row.first) (drop row.first rows))) < 2 ^ 63
+  pub room_in : (row : NodeRow) → row ≡ get_or rows at row → (by_proof : Bool)
+      → finite_sum (map (λ (r : NodeRow). left_to_show by_proof (kept_numbers goal r)) (take (row.first + row.count - row.first) (drop row.first rows))) < 2 ^ 63
   room_in row e by_proof =
       let same : row ≡ row_at rows at = get_or_read rows at row inside e blank in
       let count : row.first + row.count - row.first ≡ row.count = omega arith in
       rw count
-      (subst (λ (r : Row). finite_sum (map (λ (q : Row). left_to_show by_proof (kept_numbers goal q)) (slice_of r rows)) < 2 ^ 63) (sym same) (room by_proof))
+      (subst (λ (r : NodeRow). finite_sum (map (λ (q : NodeRow). left_to_show by_proof (kept_numbers goal q)) (slice_of r rows)) < 2 ^ 63) (sym same) (room by_proof))
 
 folded_fits : (moves : Bool) (below : List Numbers) → finite_sum (map (λ x. x.proof) below) < 2 ^ 63
     → finite_sum (map (λ x. x.disproof) below) < 2 ^ 63 → IsKeepable (folded moves below)
@@ -173,26 +173,26 @@ folded_fits false below p d =
     record { proof = keepable_part _ proof; disproof = keepable_part _ disproof }
 
 -- what is folded of the numbers that rows keep has room
-pub folded-keepable : (goal : Side) (moves : Bool) (xs : List Row) (x : Numbers) → x ≡ folded moves (map (kept_numbers goal) xs)
-    → ((by_proof : Bool) → finite_sum (map (λ (r : Row). left_to_show by_proof (kept_numbers goal r)) xs) < 2 ^ 63) → IsKeepable x
+pub folded-keepable : (goal : Side) (moves : Bool) (xs : List NodeRow) (x : Numbers) → x ≡ folded moves (map (kept_numbers goal) xs)
+    → ((by_proof : Bool) → finite_sum (map (λ (r : NodeRow). left_to_show by_proof (kept_numbers goal r)) xs) < 2 ^ 63) → IsKeepable x
 folded-keepable goal moves xs x e room =
     subst IsKeepable (sym e)
     (folded_fits moves (map (kept_numbers goal) xs)
     (subst (λ (ns : List Number). finite_sum ns < 2 ^ 63) (map-shown true goal xs) (room true))
     (subst (λ (ns : List Number). finite_sum ns < 2 ^ 63) (map-shown false goal xs) (room false)))
 
-shown : (fold : List Number → Number) (by_proof : Bool) (goal : Side) (xs : List Row) (a : Number)
-    → a ≡ fold (map (λ (r : Row). left_to_show by_proof (kept_numbers goal r)) xs) → a ≡ fold (map (left_to_show by_proof) (map (kept_numbers goal) xs))
+shown : (fold : List Number → Number) (by_proof : Bool) (goal : Side) (xs : List NodeRow) (a : Number)
+    → a ≡ fold (map (λ (r : NodeRow). left_to_show by_proof (kept_numbers goal r)) xs) → a ≡ fold (map (left_to_show by_proof) (map (kept_numbers goal) xs))
 shown fold by_proof goal xs a e = e ∙ ap fold (map-shown by_proof goal xs)
 
-pub below_moving : (goal : Side) (moves : Bool) (xs : List Row) (a b : Number) → moves ≡ true
-    → a ≡ least_of (map (λ (r : Row). left_to_show true (kept_numbers goal r)) xs) → b ≡ total_of (map (λ (r : Row). left_to_show false (kept_numbers goal r)) xs)
+pub below_moving : (goal : Side) (moves : Bool) (xs : List NodeRow) (a b : Number) → moves ≡ true
+    → a ≡ least_of (map (λ (r : NodeRow). left_to_show true (kept_numbers goal r)) xs) → b ≡ total_of (map (λ (r : NodeRow). left_to_show false (kept_numbers goal r)) xs)
     → record { proof = a; disproof = b } ≡ folded moves (map (kept_numbers goal) xs)
 below_moving goal true xs a b t p d = λ i. record { proof = (shown least_of true goal xs a p) i; disproof = (shown total_of false goal xs b d) i }
 below_moving goal false xs a b t p d = absurd (false≢true t)
 
-pub below_waiting : (goal : Side) (moves : Bool) (xs : List Row) (a b : Number) → moves ≡ false
-    → a ≡ total_of (map (λ (r : Row). left_to_show true (kept_numbers goal r)) xs) → b ≡ least_of (map (λ (r : Row). left_to_show false (kept_numbers goal r)) xs)
+pub below_waiting : (goal : Side) (moves : Bool) (xs : List NodeRow) (a b : Number) → moves ≡ false
+    → a ≡ total_of (map (λ (r : NodeRow). left_to_show true (kept_numbers goal r)) xs) → b ≡ least_of (map (λ (r : NodeRow). left_to_show false (kept_numbers goal r)) xs)
     → record { proof = a; disproof = b } ≡ folded moves (map (kept_numbers goal) xs)
 below_waiting goal false xs a b t p d = λ i. record { proof = (shown total_of true goal xs a p) i; disproof = (shown least_of false goal xs b d) i }
 below_waiting goal true xs a b t p d = absurd (false≢true (sym t))

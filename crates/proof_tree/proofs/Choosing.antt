@@ -6,7 +6,7 @@ use Rattle.draughts_board.specs.declared.pieces.Side.{Side}
 use Rattle.draughts_board.specs.declared.pieces.Side.TheVariants.{Black, White}
 use Rattle.draughts_board.specs.declared.pieces.Value.{Value}
 use Rattle.proof_numbers.specs.declared.numbers.Numbers.{Numbers}
-use Rattle.proof_tree.specs.declared.rows.Row.{Row}
+use Rattle.proof_tree.specs.declared.rows.NodeRow.{NodeRow}
 use Rattle.proof_tree.specs.Forest.{Node, Forest, forest, nodes, node_numbers, goal_by, value_by, value_of, or_else}
 use Rattle.proof_tree.specs.Picking.{leaf_below, pick_by, pick_at, pick_from}
 use Rattle.proof_tree.specs.Rows.{blank, row_at, node_in, nodes_from, kept_numbers, AreLinked, Fits}
@@ -17,8 +17,8 @@ pub nodes-forest : (xs : List Node) → nodes (forest xs) ≡ xs
 nodes-forest [] = refl
 nodes-forest (x ∷ xs) = ap (λ (ys : List Node). x ∷ ys) (nodes-forest xs)
 
-module _ (rows : List Row) (links : AreLinked rows) (fits : (k : ℕ) → k < length rows → Fits rows k) (taken : ℕ → Bool) (root : ℕ)
-    (inside : root < length rows) (d e : Row) where
+module _ (rows : List NodeRow) (links : AreLinked rows) (fits : (k : ℕ) → k < length rows → Fits rows k) (taken : ℕ → Bool) (root : ℕ)
+    (inside : root < length rows) (d e : NodeRow) where
   x : Node
   x = node_in (nodes_from 0 rows) root
 
@@ -31,14 +31,18 @@ module _ (rows : List Row) (links : AreLinked rows) (fits : (k : ℕ) → k < le
   black-is : black ≡ node_numbers Black x
   unfolding black x
   black-is =
-      ap (λ (r : Row). r.black) (get_or_default rows root d blank inside)
+      ap (λ (r : NodeRow). r.black) (get_or_default rows root d blank inside)
       ∙ kept-is rows links (nodes_from 0 rows) (IsMeaning-nodes rows links) Black 0 (λ k from l. (fits k l).black) root (omega arith) inside
 
   white-is : white ≡ node_numbers White x
   unfolding white x
   white-is =
-      ap (λ (r : Row). r.white) (get_or_default rows root e blank inside)
+      ap (λ (r : NodeRow). r.white) (get_or_default rows root e blank inside)
       ∙ kept-is rows links (nodes_from 0 rows) (IsMeaning-nodes rows links) White 0 (λ k from l. (fits k l).white) root (omega arith) inside
+
+  pub value-kept : value_by (get_or rows root d).black (get_or rows root e).white ≡ value_of (node_in (nodes_from 0 rows) root)
+  unfolding black white x
+  value-kept = λ i. value_by (black-is i) (white-is i)
 
   at-is : pick_by (value_by black white) (leaf_below (goal_by black) taken x) (goal_by black) ≡ pick_at taken x
   at-is = λ i. pick_by (value_by (black-is i) (white-is i)) (leaf_below (goal_by (black-is i)) taken x) (goal_by (black-is i))

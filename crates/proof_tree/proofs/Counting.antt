@@ -2,7 +2,7 @@
 use Rattle.std.proofs.Common.{◌≡◌, ◌≢◌, ℕ, zero, suc, ◌+◌, ◌-◌, ◌*◌, ◌<◌, ◌≤◌, ◌^◌, Bool, true, false, cond, eqb, leb, List, [], ◌∷◌, ◌++◌, map, length, take, drop, get_or, Option, Some, None, refl, sym, ap, ◌∙◌, subst, arith, ◌⊎◌, inl, inr, ⊎_elim, drop-cons}
 use Rattle.std.proofs.lemmas.Bool.{cases_eq, cases_lt}
 use Rattle.std.proofs.lemmas.Bool.Decides.{nat_tests}
-use Rattle.proof_tree.specs.declared.rows.Row.{Row}
+use Rattle.proof_tree.specs.declared.rows.NodeRow.{NodeRow}
 use Rattle.proof_tree.specs.Forest.{Own, Node, Forest, no_node, node, forest, size}
 use Rattle.proof_tree.specs.Rows.{blank, row_at, own_of, blank_node, node_in, slice_of, nodes_from, forest_of, if_root, roots_from, AreLinked, AreSmall}
 use Rattle.proof_tree.proofs.Meaning.{node_of, IsMeaning, IsMeaning-nodes}
@@ -90,7 +90,7 @@ unfolding top_weight
 top_is j None s h = refl
 top_is j (Some p) s h = let below : p < j = h p refl in grind (arith, nat_tests, below)
 
-module _ (rows : List Row) (links : AreLinked rows) (xs : List Node) (fit : IsMeaning rows xs) where
+module _ (rows : List NodeRow) (links : AreLinked rows) (xs : List Node) (fit : IsMeaning rows xs) where
   w : ℕ → ℕ
   w k = weight (node_in xs k)
 
@@ -169,7 +169,7 @@ module _ (rows : List Row) (links : AreLinked rows) (xs : List Node) (fit : IsMe
       let none : cond (leb 0 p) 0 (1 + size (node_in xs j).children) ≡ 0 = ap (λ (b : Bool). cond b 0 (1 + size (node_in xs j).children)) test in
       omega (arith, e, none)
 
-  root_sum : (j : ℕ) (suffix : List Row) → ((i : ℕ) → i < length suffix → row_at suffix i ≡ row_at rows (j + i))
+  root_sum : (j : ℕ) (suffix : List NodeRow) → ((i : ℕ) → i < length suffix → row_at suffix i ≡ row_at rows (j + i))
       → size (forest (map (node_in xs) (roots_from j suffix))) ≡ between (top 0) j (length suffix)
   unfolding between top w weight top_weight
   root_sum j [] same = refl
@@ -177,16 +177,16 @@ module _ (rows : List Row) (links : AreLinked rows) (xs : List Node) (fit : IsMe
       let here : row ≡ row_at rows j = same 0 (omega arith) ∙ ap (row_at rows) (let z : j + 0 ≡ j = omega arith in z) in
       let rest = root_sum (suc j) suffix (λ i l. same (suc i) (omega arith) ∙ ap (row_at rows) (let z : j + suc i ≡ suc j + i = omega arith in z)) in
       root_step j row.parent (roots_from (suc j) suffix) (between (top 0) (suc j) (length suffix)) rest
-      ∙ ap (λ (r : Row). top_weight 0 r.parent (w j) + between (top 0) (suc j) (length suffix)) here
+      ∙ ap (λ (r : NodeRow). top_weight 0 r.parent (w j) + between (top 0) (suc j) (length suffix)) here
 
 -- the size of a forest is the number of its rows
-pub size-forest : (rows : List Row) → AreLinked rows → size (forest_of rows (roots_from 0 rows)) ≡ length rows
+pub size-forest : (rows : List NodeRow) → AreLinked rows → size (forest_of rows (roots_from 0 rows)) ≡ length rows
 size-forest rows links =
     let fit = IsMeaning-nodes rows links in
     root_sum rows links (nodes_from 0 rows) fit 0 rows (λ i l. ap (row_at rows) (let z : i ≡ 0 + i = omega arith in z))
     ∙ tops rows links (nodes_from 0 rows) fit (length rows) 0 (omega arith)
 
-pub AreSmall-linked : (rows : List Row) → AreLinked rows → length rows < 2 ^ 57 → AreSmall rows
+pub AreSmall-linked : (rows : List NodeRow) → AreLinked rows → length rows < 2 ^ 57 → AreSmall rows
 unfolding w weight
 AreSmall-linked rows links few k l =
     let m = w-most rows links (nodes_from 0 rows) (IsMeaning-nodes rows links) k l in omega (arith, m)

@@ -4,7 +4,7 @@ use Rattle.std.proofs.lemmas.List.{ext_get_or, take-map, drop-map, get_or-map, l
 use Rattle.std.proofs.lemmas.Bool.{cases_eq, cases_lt}
 use Rattle.draughts_board.specs.Board.{Board}
 use Rattle.proof_numbers.specs.declared.leaves.Child.{Child}
-use Rattle.proof_tree.specs.declared.rows.Row.{Row}
+use Rattle.proof_tree.specs.declared.rows.NodeRow.{NodeRow}
 use Rattle.proof_tree.specs.declared.rows.Mark.TheVariants.{Expanded}
 use Rattle.proof_numbers.specs.Numbers.{mobility}
 use Rattle.proof_tree.specs.Forest.{Own, Node, Forest, no_node, node, forest}
@@ -48,7 +48,7 @@ test_true m n e = grind arith
 test_false : (m n : ℕ) → m ≢ n → eqb m n ≡ false
 test_false m n e = grind arith
 
-module _ (rows after : List Row) (n : ℕ) (children : List Child) (links : AreLinked rows) (inside : n < length rows)
+module _ (rows after : List NodeRow) (n : ℕ) (children : List Child) (links : AreLinked rows) (inside : n < length rows)
     (step : AreExpanded rows after n children) (xs : List Node) (fit : IsMeaning rows xs) where
   abbrev pub grown : Node → Node
   grown x = grow n children (length rows) (path rows (row_at rows x.own.number).parent) x
@@ -245,7 +245,7 @@ module _ (rows after : List Row) (n : ℕ) (children : List Child) (links : AreL
       }
 
 -- mending changes nothing of this
-pub AreExpanded-rekept : (rows after mended : List Row) (n : ℕ) (children : List Child) → n < length rows → AreExpanded rows after n children
+pub AreExpanded-rekept : (rows after mended : List NodeRow) (n : ℕ) (children : List Child) → n < length rows → AreExpanded rows after n children
     → AreRekept after mended → AreExpanded rows mended n children
 AreExpanded-rekept rows after mended n children l step same =
     record {

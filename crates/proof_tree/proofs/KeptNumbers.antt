@@ -4,7 +4,7 @@ use Rattle.std.proofs.lemmas.List.{ext_get_or, take-map, drop-map, get_or-map, l
 use Rattle.draughts_board.specs.declared.pieces.Side.{Side}
 use Rattle.proof_numbers.specs.declared.numbers.Numbers.{Numbers}
 use Rattle.proof_numbers.specs.Numbers.{refuted}
-use Rattle.proof_tree.specs.declared.rows.Row.{Row}
+use Rattle.proof_tree.specs.declared.rows.NodeRow.{NodeRow}
 use Rattle.proof_tree.specs.Forest.{Node, forest, numbers, numbers_at, node_numbers}
 use Rattle.proof_tree.specs.Rows.{blank, row_at, own_of, blank_node, node_in, slice_of, nodes_from, kept_numbers, AreLinked, FitsRow}
 use Rattle.proof_tree.proofs.Meaning.{node_of, IsMeaning}
@@ -16,7 +16,7 @@ numbers-forest goal (x ∷ xs) = ap (λ (ns : List Numbers). node_numbers goal x
 pub map-slice : {A B : Type 0} (f : A → B) (c d : ℕ) (xs : List A) → map f (take c (drop d xs)) ≡ take c (drop d (map f xs))
 map-slice f c d xs = sym (take-map f c (drop d xs)) ∙ ap (take c) (sym (drop-map f d xs))
 
-module _ (rows : List Row) (links : AreLinked rows) (xs : List Node) (fit : IsMeaning rows xs) (goal : Side) where
+module _ (rows : List NodeRow) (links : AreLinked rows) (xs : List Node) (fit : IsMeaning rows xs) (goal : Side) where
   -- where each row behind keeps its node's numbers, the children of row k keep theirs
   pub slice-is : (k : ℕ) → k < length rows
       → ((j : ℕ) → k < j → j < length rows → kept_numbers goal (row_at rows j) ≡ node_numbers goal (node_in xs j))
@@ -44,7 +44,7 @@ module _ (rows : List Row) (links : AreLinked rows) (xs : List Node) (fit : IsMe
       ∙ sym (map-slice (node_numbers goal) row.count row.first xs)
       ∙ sym (numbers-forest goal (slice_of row xs))
 
-module _ (rows : List Row) (links : AreLinked rows) (xs : List Node) (fit : IsMeaning rows xs) (goal : Side)
+module _ (rows : List NodeRow) (links : AreLinked rows) (xs : List Node) (fit : IsMeaning rows xs) (goal : Side)
     (low : ℕ) (fits : (k : ℕ) → low ≤ k → k < length rows → FitsRow rows goal k) where
   below : (m k : ℕ) → length rows - k ≤ m → low ≤ k → k < length rows → kept_numbers goal (row_at rows k) ≡ node_numbers goal (node_in xs k)
   below zero k h from l = absurd (omega arith)

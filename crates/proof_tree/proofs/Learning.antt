@@ -9,7 +9,7 @@ use Rattle.proof_numbers.specs.Facts.{known}
 use Rattle.proof_numbers.specs.Known.{Known, joined}
 use Rattle.proof_numbers.specs.declared.numbers.Numbers.{Numbers}
 use Rattle.proof_numbers.specs.Numbers.{refuted, mobility}
-use Rattle.proof_tree.specs.declared.rows.Row.{Row}
+use Rattle.proof_tree.specs.declared.rows.NodeRow.{NodeRow}
 use Rattle.proof_tree.specs.Forest.{Own, Node, Forest, forest, size, numbers_at}
 use Rattle.proof_tree.specs.Changes.{learn, changed}
 use Rattle.proof_tree.specs.Rows.{blank, row_at, own_of, blank_node, node_in, slice_of, nodes_from, forest_of, kept_numbers, AreLinked, AreSmall, HaveSameLinks, AreRekept, Fits, FitsRow, AreCounted, IsCounted}
@@ -18,7 +18,7 @@ use Rattle.proof_tree.proofs.KeptNumbers.{map-slice}
 use Rattle.proof_tree.proofs.Updates.{change, AreLinked-same, IsMeaning-change}
 
 -- what a row's children keep, where those of both rows keep the same
-pub kept_slice : (rows after : List Row) (goal : Side) (r : Row) → r.first + r.count ≤ length rows → length rows ≤ length after
+pub kept_slice : (rows after : List NodeRow) (goal : Side) (r : NodeRow) → r.first + r.count ≤ length rows → length rows ≤ length after
     → ((i : ℕ) → i < length rows → kept_numbers goal (row_at after i) ≡ kept_numbers goal (row_at rows i))
     → map (kept_numbers goal) (slice_of r after) ≡ map (kept_numbers goal) (slice_of r rows)
 kept_slice rows after goal r within longer same =
@@ -49,23 +49,23 @@ test_same n = grind arith
 test_other : (m n : ℕ) → m ≢ n → eqb m n ≡ false
 test_other m n e = grind arith
 
-module _ (rows : List Row) (n : ℕ) (inside : n < length rows) (facts : Known) (d : Row) (all : Facts)
+module _ (rows : List NodeRow) (n : ℕ) (inside : n < length rows) (facts : Known) (d : NodeRow) (all : Facts)
     (are : known all ≡ joined (known (get_or rows n d).facts) facts) where
-  abbrev pub told : List Row
+  abbrev pub told : List NodeRow
   told = set rows n (record (get_or rows n d) { facts = all })
 
   now_row : row_at told n ≡ record (row_at rows n) { facts = all }
   now_row =
       get_or-set_same rows n (record (get_or rows n d) { facts = all }) blank inside
-      ∙ ap (λ (r : Row). record r { facts = all }) (get_or_default rows n d blank inside)
+      ∙ ap (λ (r : NodeRow). record r { facts = all }) (get_or_default rows n d blank inside)
 
   known_row : known all ≡ joined (known (row_at rows n).facts) facts
-  known_row = are ∙ ap (λ (r : Row). joined (known r.facts) facts) (get_or_default rows n d blank inside)
+  known_row = are ∙ ap (λ (r : NodeRow). joined (known r.facts) facts) (get_or_default rows n d blank inside)
 
   other_row : (k : ℕ) → k ≢ n → row_at told k ≡ row_at rows k
   other_row k h = get_or-set_other rows n k (record (get_or rows n d) { facts = all }) blank h
 
-  each : {A : Type 0} (f : Row → A) → f (record (row_at rows n) { facts = all }) ≡ f (row_at rows n) → (k : ℕ) → f (row_at told k) ≡ f (row_at rows k)
+  each : {A : Type 0} (f : NodeRow → A) → f (record (row_at rows n) { facts = all }) ≡ f (row_at rows n) → (k : ℕ) → f (row_at told k) ≡ f (row_at rows k)
   each f e k = ⊎_elim (λ s. subst (λ i. f (row_at told i) ≡ f (row_at rows i)) (sym s) (ap f now_row ∙ e)) (λ h. ap f (other_row k h)) (cases_eq k n)
 
   pub HaveSameLinks-told : HaveSameLinks rows told
@@ -102,7 +102,7 @@ module _ (rows : List Row) (n : ℕ) (inside : n < length rows) (facts : Known) 
       ∙ old
       ∙ ap (numbers_at goal (own_of k (row_at rows k)))
       (sym (kept_slice rows told goal (row_at rows k) (links.within k l) (omega (arith, HaveSameLinks-told.as_long)) (λ i l'. kept_told goal i)))
-      ∙ ap (λ (r : Row). numbers_at goal (own_of k r) (map (kept_numbers goal) (slice_of r told))) (sym (other_row k h))
+      ∙ ap (λ (r : NodeRow). numbers_at goal (own_of k r) (map (kept_numbers goal) (slice_of r told))) (sym (other_row k h))
 
   pub Fits-told : AreLinked rows → ((k : ℕ) → k < length rows → Fits rows k) → (k : ℕ) → k < length told → k ≢ n → Fits told k
   Fits-told links fits k l h =
@@ -118,7 +118,7 @@ module _ (rows : List Row) (n : ℕ) (inside : n < length rows) (facts : Known) 
       let first = counted k (omega (arith, l, HaveSameLinks-told.as_long)) in
       HaveSameLinks-told.moves k ∙ first ∙ sym (ap mobility (each (λ r. r.position) refl k))
 
-  pub links_after : (after : List Row) → AreRekept told after → HaveSameLinks rows after
+  pub links_after : (after : List NodeRow) → AreRekept told after → HaveSameLinks rows after
   links_after after same =
       let a = same.links in
       let b = HaveSameLinks-told in
@@ -130,5 +130,5 @@ module _ (rows : List Row) (n : ℕ) (inside : n < length rows) (facts : Known) 
         moves = λ k. a.moves k ∙ b.moves k;
       }
 
-  pub own_after : (after : List Row) → AreRekept told after → (k : ℕ) → own_of k (row_at after k) ≡ learn n facts (own_of k (row_at rows k))
+  pub own_after : (after : List NodeRow) → AreRekept told after → (k : ℕ) → own_of k (row_at after k) ≡ learn n facts (own_of k (row_at rows k))
   own_after after same k = same.own k ∙ own-told k

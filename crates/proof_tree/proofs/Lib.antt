@@ -26,3 +26,5 @@ pub mod Trees
 pub mod Adding
 pub mod Picked
 pub mod RootLemmas
+pub mod Settled
+pub mod Fronts

@@ -52,7 +52,7 @@ and_nothing : (b : Bool) → false ≡ (b && false)
 and_nothing true = refl
 and_nothing false = refl
 
-least_zero : (a b : Number) → is_zero (least a b) ≡ (is_zero a || is_zero b)
+pub least_zero : (a b : Number) → is_zero (least a b) ≡ (is_zero a || is_zero b)
 least_zero Infinite b = refl
 least_zero (Finite m) Infinite = or_nothing (eqb m 0)
 least_zero (Finite m) (Finite n) = min_zero m n
@@ -61,7 +61,7 @@ sum_zero : (m n : ℕ) → eqb (m + n) 0 ≡ (eqb m 0 && eqb n 0)
 sum_zero zero n = ap (λ (k : ℕ). eqb k 0) (let e : 0 + n ≡ n = omega arith in e)
 sum_zero (suc m) n = nonzero_test (suc m + n) (omega arith) ∙ sym (λ i. nonzero_test (suc m) (omega arith) i && eqb n 0)
 
-total_zero : (a b : Number) → is_zero (total a b) ≡ (is_zero a && is_zero b)
+pub total_zero : (a b : Number) → is_zero (total a b) ≡ (is_zero a && is_zero b)
 total_zero Infinite b = refl
 total_zero (Finite m) Infinite = and_nothing (eqb m 0)
 total_zero (Finite m) (Finite n) = sum_zero m n

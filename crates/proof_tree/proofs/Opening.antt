@@ -10,7 +10,7 @@ use Rattle.proof_numbers.specs.declared.numbers.Numbers.{Numbers}
 use Rattle.proof_numbers.specs.Facts.{known}
 use Rattle.proof_numbers.specs.Known.{knows_win, knows_hold}
 use Rattle.proof_numbers.specs.Numbers.{proved, refuted, unknown, mobility, leaf_numbers}
-use Rattle.proof_tree.specs.declared.rows.Row.{Row}
+use Rattle.proof_tree.specs.declared.rows.NodeRow.{NodeRow}
 use Rattle.proof_tree.specs.declared.rows.Mark.TheVariants.{Unexpanded, Expanded, Repeats}
 use Rattle.proof_tree.specs.Forest.{Own, Node, Forest, no_node, node, forest, numbers_at, numbers_by_mark}
 use Rattle.proof_tree.specs.Changes.{expand_own, new_nodes, stands_on}
@@ -42,7 +42,7 @@ kept_new Black above parent number child = refl
 kept_new White above parent number child = refl
 
 -- a new row
-pub record IsNew (above : List Board) (parent next : ℕ) (children : List Child) (i : ℕ) (row : Row) : Type 0 where
+pub record IsNew (above : List Board) (parent next : ℕ) (children : List Child) (i : ℕ) (row : NodeRow) : Type 0 where
   pub own : own_of (next + i) row ≡ (node_in (new_nodes above next children) i).own
   pub leaf : row.count ≡ 0
   pub behind : row.first ≡ suc (next + i)
@@ -76,14 +76,14 @@ new_rows-at above parent next (c ∷ children) (suc i) l =
       counted = rest.counted;
     }
 
-module _ (rows : List Row) (n : ℕ) (children : List Child) (links : AreLinked rows) (inside : n < length rows) (none : (row_at rows n).count ≡ 0) where
-  abbrev pub pushed : List Row
+module _ (rows : List NodeRow) (n : ℕ) (children : List Child) (links : AreLinked rows) (inside : n < length rows) (none : (row_at rows n).count ≡ 0) where
+  abbrev pub pushed : List NodeRow
   pushed = rows ++ new_rows (path rows (Some n)) n (length rows) children
 
-  abbrev pub after : List Row
+  abbrev pub after : List NodeRow
   after = opened pushed n (row_at pushed n) (length rows) (length children)
 
-  abbrev new_n : Row
+  abbrev new_n : NodeRow
   new_n = record (row_at pushed n) { mark = Expanded; first = length rows; count = length children }
 
   long : length pushed ≡ length rows + length children
@@ -111,7 +111,7 @@ module _ (rows : List Row) (n : ℕ) (children : List Child) (links : AreLinked 
   test : eqb n n ≡ true
   test = grind arith
 
-  old_each : {A : Type 0} (f : Row → A) → f new_n ≡ f (row_at pushed n) → (k : ℕ) → k < length rows → f (row_at after k) ≡ f (row_at rows k)
+  old_each : {A : Type 0} (f : NodeRow → A) → f new_n ≡ f (row_at pushed n) → (k : ℕ) → k < length rows → f (row_at after k) ≡ f (row_at rows k)
   old_each f e k l =
       ⊎_elim
       (λ s. subst (λ i. f (row_at after i) ≡ f (row_at rows i)) (sym s) (ap f after_n ∙ e ∙ ap f (pushed_old n inside)))
@@ -122,14 +122,14 @@ module _ (rows : List Row) (n : ℕ) (children : List Child) (links : AreLinked 
       record {
         as_long = length-set pushed n new_n ∙ long;
         old_own = λ k l h. ap (own_of k) (after_old k l h);
-        old_first = λ k l h. ap (λ (r : Row). r.first) (after_old k l h);
-        old_count = λ k l h. ap (λ (r : Row). r.count) (after_old k l h);
+        old_first = λ k l h. ap (λ (r : NodeRow). r.first) (after_old k l h);
+        old_count = λ k l h. ap (λ (r : NodeRow). r.count) (after_old k l h);
         own =
             ap (own_of n) after_n
-            ∙ ap (λ (r : Row). record (own_of n r) { mark = Expanded }) (pushed_old n inside)
+            ∙ ap (λ (r : NodeRow). record (own_of n r) { mark = Expanded }) (pushed_old n inside)
             ∙ sym (ap (λ (b : Bool). cond b (record (own_of n (row_at rows n)) { mark = Expanded }) (own_of n (row_at rows n))) test);
-        first = ap (λ (r : Row). r.first) after_n;
-        count = ap (λ (r : Row). r.count) after_n;
+        first = ap (λ (r : NodeRow). r.first) after_n;
+        count = ap (λ (r : NodeRow). r.count) after_n;
         parent = old_each (λ r. r.parent) refl;
         new = λ i l. (after_new i l).own;
         leaf = λ i l. (after_new i l).leaf;
@@ -153,7 +153,7 @@ module _ (rows : List Row) (n : ℕ) (children : List Child) (links : AreLinked 
       ∙ old
       ∙ ap (numbers_at goal (own_of k (row_at rows k)))
       (sym (kept_slice rows after goal (row_at rows k) (links.within k l) (omega (arith, a)) (kept_old goal)))
-      ∙ ap (λ (r : Row). numbers_at goal (own_of k r) (map (kept_numbers goal) (slice_of r after))) (sym (after_old k l h))
+      ∙ ap (λ (r : NodeRow). numbers_at goal (own_of k r) (map (kept_numbers goal) (slice_of r after))) (sym (after_old k l h))
 
   fits_new : (goal : Side) (i : ℕ) → i < length children → FitsRow after goal (length rows + i)
   fits_new goal i l = (after_new i l).keeps goal (map (kept_numbers goal) (slice_of (row_at after (length rows + i)) after))
@@ -174,7 +174,7 @@ position-expand true own = refl
 position-expand false own = refl
 
 -- where these rows keep the mobility of their positions, so do the rows after
-pub AreCounted-expanded : (rows after : List Row) (n : ℕ) (children : List Child) → n < length rows → AreExpanded rows after n children
+pub AreCounted-expanded : (rows after : List NodeRow) (n : ℕ) (children : List Child) → n < length rows → AreExpanded rows after n children
     → AreCounted rows → AreCounted after
 AreCounted-expanded rows after n children inside step counted k l =
     ⊎_elim

@@ -5,7 +5,7 @@ use Rattle.std.proofs.lemmas.Bool.Decides.{nat_tests}
 use Rattle.draughts_board.specs.declared.pieces.Side.{Side}
 use Rattle.proof_numbers.specs.declared.numbers.Number.{Number}
 use Rattle.proof_numbers.specs.declared.numbers.Number.TheVariants.{Finite, Infinite}
-use Rattle.proof_tree.specs.declared.rows.Row.{Row}
+use Rattle.proof_tree.specs.declared.rows.NodeRow.{NodeRow}
 use Rattle.proof_tree.specs.Walking.{is_before, key, comes, is_behind, is_candidate, first_child_of, IsFirst}
 
 finite_trans : (l a m b n c : ℕ) → cond (ltb l m) true (cond (ltb m l) false (ltb a b)) ≡ true → cond (ltb m n) true (cond (ltb n m) false (ltb b c)) ≡ true
@@ -40,7 +40,7 @@ before_total x a y b p = ⊎_elim (λ e. inl e) (λ h. inr (other_way x a y b h 
 
 -- ---- the first candidate, one place further
 
-module _ (rows : List Row) (goal : Side) (by_proof : Bool) (last : Option ℕ) (low : ℕ) where
+module _ (rows : List NodeRow) (goal : Side) (by_proof : Bool) (last : Option ℕ) (low : ℕ) where
   abbrev First : ℕ → Option ℕ → Type 0
   First high best = IsFirst rows goal by_proof last low high best
 

@@ -8,7 +8,7 @@ use Rattle.proof_numbers.specs.declared.numbers.Number.{Number}
 use Rattle.proof_numbers.specs.declared.numbers.Number.TheVariants.{Finite, Infinite}
 use Rattle.proof_numbers.specs.declared.numbers.Numbers.{Numbers}
 use Rattle.proof_numbers.specs.Numbers.{is_resolved}
-use Rattle.proof_tree.specs.declared.rows.Row.{Row}
+use Rattle.proof_tree.specs.declared.rows.NodeRow.{NodeRow}
 use Rattle.proof_tree.specs.declared.rows.Mark.{Mark}
 use Rattle.proof_tree.specs.declared.rows.Mark.TheVariants.{Unexpanded, Expanded, Repeats}
 use Rattle.proof_tree.specs.Forest.{Own, Node, Forest, forest, numbers, numbers_at, node_numbers, or_else}
@@ -120,7 +120,7 @@ none_both false = refl
 none_way : (x : Number) (o : Option ℕ) → o ≡ None → way_of x o ≡ None
 none_way x o e = ap (way_of x) e
 
-module _ (rows : List Row) (links : AreLinked rows) (goal : Side) (fits : (k : ℕ) → k < length rows → FitsRow rows goal k)
+module _ (rows : List NodeRow) (links : AreLinked rows) (goal : Side) (fits : (k : ℕ) → k < length rows → FitsRow rows goal k)
     (xs : List Node) (fit : IsMeaning rows xs) (taken : ℕ → Bool) where
   -- where the walk from a row ends
   abbrev pub leaf : ℕ → Option ℕ

@@ -16,7 +16,7 @@ use Rattle.proof_numbers.specs.declared.numbers.Numbers.{Numbers}
 use Rattle.proof_numbers.specs.Facts.{known}
 use Rattle.proof_numbers.specs.Known.{Known, joined, IsConsistent}
 use Rattle.proof_numbers.specs.Numbers.{mobility}
-use Rattle.proof_tree.specs.declared.rows.Row.{Row}
+use Rattle.proof_tree.specs.declared.rows.NodeRow.{NodeRow}
 use Rattle.proof_tree.specs.declared.rows.Mark.{Mark}
 use Rattle.proof_tree.specs.declared.rows.Mark.TheVariants.{Unexpanded, Expanded}
 use Rattle.proof_tree.specs.Forest.{Own, Node, Forest, no_node, forest, nodes, size, node_at, node_numbers, value_by, value_of}
@@ -47,7 +47,7 @@ map-tops xs ys h (r ∷ tops) each = λ i. (each 0 (omega arith)) i ∷ (map-top
 if_root-same : (p q : Option ℕ) (j : ℕ) (xs ys : List ℕ) → p ≡ q → xs ≡ ys → if_root p j xs ≡ if_root q j ys
 if_root-same p q j xs ys e f = λ i. if_root (e i) j (f i)
 
-pub roots_from-same : (j : ℕ) (rows after : List Row) → length after ≡ length rows
+pub roots_from-same : (j : ℕ) (rows after : List NodeRow) → length after ≡ length rows
     → ((k : ℕ) → k < length rows → (row_at after k).parent ≡ (row_at rows k).parent) → roots_from j after ≡ roots_from j rows
 roots_from-same j [] [] e same = refl
 roots_from-same j [] (a ∷ after) e same = absurd (omega arith)
@@ -57,7 +57,7 @@ roots_from-same j (r ∷ rows) (a ∷ after) e same =
     (roots_from-same (suc j) rows after (omega arith) (λ k l. same (suc k) (omega arith)))
 
 -- each root is a row without a parent
-pub tops-are : (rows : List Row) (tops : List ℕ) → tops ≡ roots_from 0 rows → (i : ℕ) → i < length tops
+pub tops-are : (rows : List NodeRow) (tops : List ℕ) → tops ≡ roots_from 0 rows → (i : ℕ) → i < length tops
     → (get_or tops i 0 < length rows) × ((row_at rows (get_or tops i 0)).parent ≡ None)
 tops-are rows tops is i l =
     subst (λ (ts : List ℕ). i < length ts → (get_or ts i 0 < length rows) × ((row_at rows (get_or ts i 0)).parent ≡ None)) (sym is)
@@ -67,11 +67,11 @@ tops-are rows tops is i l =
     let z : get_or (roots_from 0 rows) i 0 - 0 ≡ get_or (roots_from 0 rows) i 0 = omega arith in
     (omega (arith, w), ap (λ (k : ℕ). (row_at rows k).parent) (sym z) ∙ r.parent)) l
 
-no_roots : (j n : ℕ) (after : List Row) → ((k : ℕ) → k < length after → (row_at after k).parent ≡ Some n) → roots_from j after ≡ []
+no_roots : (j n : ℕ) (after : List NodeRow) → ((k : ℕ) → k < length after → (row_at after k).parent ≡ Some n) → roots_from j after ≡ []
 no_roots j n [] h = refl
 no_roots j n (a ∷ after) h = if_root-same a.parent (Some n) j _ _ (h 0 (omega arith)) (no_roots (suc j) n after (λ k l. h (suc k) (omega arith)))
 
-pub roots_from-longer : (j n m : ℕ) (rows after : List Row) → length after ≡ length rows + m
+pub roots_from-longer : (j n m : ℕ) (rows after : List NodeRow) → length after ≡ length rows + m
     → ((k : ℕ) → k < length rows → (row_at after k).parent ≡ (row_at rows k).parent)
     → ((i : ℕ) → i < m → (row_at after (length rows + i)).parent ≡ Some n) → roots_from j after ≡ roots_from j rows
 roots_from-longer j n m [] after e same new =
@@ -83,14 +83,14 @@ roots_from-longer j n m (r ∷ rows) (a ∷ after) e same new =
     (λ i l. ap (λ (q : ℕ). (row_at (a ∷ after) q).parent) (let z : suc (length rows + i) ≡ suc (length rows) + i = omega arith in z) ∙ new i l))
 
 -- the positions of these rows
-pub positions-same : (rows after : List Row) (tops : List ℕ)
+pub positions-same : (rows after : List NodeRow) (tops : List ℕ)
     → ((i : ℕ) → i < length tops → (row_at after (get_or tops i 0)).position ≡ (row_at rows (get_or tops i 0)).position)
     → map (λ k. (row_at rows k).position) tops ≡ map (λ k. (row_at after k).position) tops
 positions-same rows after [] same = refl
 positions-same rows after (r ∷ tops) same =
     λ i. sym (same 0 (omega arith)) i ∷ positions-same rows after tops (λ k l. same (suc k) (omega arith)) i
 
-abbrev pub seen : List Row → List (Board × ℕ) → ℕ → TreeState
+abbrev pub seen : List NodeRow → List (Board × ℕ) → ℕ → TreeState
 seen rows entries spare = record { forest = forest_of rows (values_of entries); spare = spare }
 
 pub if_some-map : {A : Type 0} (P Q : A → Type 0) → ((x : A) → P x → Q x) → (o : Option A) → IfSome o P → IfSome o Q
@@ -115,7 +115,7 @@ pub leaf_not : (o : Option Node) (m : Mark) → IfSome o (λ x. m ≡ x.own.mark
 leaf_not None m e n h = absurd h
 leaf_not (Some x) m e n h = n (e ∙ h)
 
-pub length-roots : (rows : List Row) (entries : List (Board × ℕ)) → length (nodes (forest_of rows (values_of entries))) ≡ length entries
+pub length-roots : (rows : List NodeRow) (entries : List (Board × ℕ)) → length (nodes (forest_of rows (values_of entries))) ≡ length entries
 length-roots rows entries =
     ap length (nodes-forest (map (node_in (nodes_from 0 rows)) (values_of entries)))
     ∙ length-map (values_of entries) (node_in (nodes_from 0 rows))
@@ -123,7 +123,7 @@ length-roots rows entries =
 
 -- ---- a node and its row
 
-module _ (rows : List Row) (entries : List (Board × ℕ)) (space root_space spare : ℕ) (tree : IsTree rows entries space root_space spare) (g : TreeState)
+module _ (rows : List NodeRow) (entries : List (Board × ℕ)) (space root_space spare : ℕ) (tree : IsTree rows entries space root_space spare) (g : TreeState)
     (is : seen rows entries spare ≡ g) (n : ℕ) where
   forest-is : forest_of rows (values_of entries) ≡ g.forest
   forest-is = ap (λ (h : TreeState). h.forest) is
@@ -207,11 +207,11 @@ module _ (rows : List Row) (entries : List (Board × ℕ)) (space root_space spa
         by_place xs i l e =
             subst (λ (o : Option Node). IfSome o (λ child. child.own.number ≡ (row_at rows n).first + i)) (sym (slice_get-get_or xs i blank_node l)) e
 
-  pub read-row : IsSome (node_at n g.forest) → (row : Row) → row ≡ get_or rows n row → IfSome (node_at n g.forest) (IsRowOf n row)
+  pub read-row : IsSome (node_at n g.forest) → (row : NodeRow) → row ≡ get_or rows n row → IfSome (node_at n g.forest) (IsRowOf n row)
   read-row h row e =
       let l = there h in
       subst (λ (o : Option Node). IfSome o (IsRowOf n row)) (sym (found-there h))
-      (subst (λ (r : Row). IsRowOf n r the_node) (sym (get_or_read rows n row l e blank)) (row-is l))
+      (subst (λ (r : NodeRow). IsRowOf n r the_node) (sym (get_or_read rows n row l e blank)) (row-is l))
 
   -- an unexpanded node has no children
   pub leaf_there : IsSomeAnd (node_at n g.forest) (λ x. x.own.mark ≡ Unexpanded) → (n < length rows) × ((row_at rows n).count ≡ 0)
@@ -234,11 +234,11 @@ module _ (rows : List Row) (entries : List (Board × ℕ)) (space root_space spa
 
 -- ---- facts
 
-module _ (rows : List Row) (entries : List (Board × ℕ)) (space root_space spare : ℕ) (tree : IsTree rows entries space root_space spare) (g : TreeState)
-    (is : seen rows entries spare ≡ g) (n : ℕ) (after : List Row) (facts : Known)
+module _ (rows : List NodeRow) (entries : List (Board × ℕ)) (space root_space spare : ℕ) (tree : IsTree rows entries space root_space spare) (g : TreeState)
+    (is : seen rows entries spare ≡ g) (n : ℕ) (after : List NodeRow) (facts : Known)
     (some : IsSome (node_at n g.forest)) (agree : IfSome (node_at n g.forest) (λ x. IsConsistent (joined x.own.facts facts))) (same : HaveSameLinks rows after)
     (owns : (k : ℕ) → own_of k (row_at after k) ≡ learn n facts (own_of k (row_at rows k))) where
-  forests-learnt : forest_of after (values_of entries) ≡ with_facts n facts (forest_of rows (values_of entries))
+  pub forests-learnt : forest_of after (values_of entries) ≡ with_facts n facts (forest_of rows (values_of entries))
   forests-learnt =
       let tops = values_of entries in
       let xs = nodes_from 0 rows in
@@ -287,8 +287,8 @@ module _ (rows : List Row) (entries : List (Board × ℕ)) (space root_space spa
 
 -- ---- children
 
-module _ (rows : List Row) (entries : List (Board × ℕ)) (space root_space spare : ℕ) (tree : IsTree rows entries space root_space spare) (g : TreeState)
-    (is : seen rows entries spare ≡ g) (n : ℕ) (children : List Child) (after : List Row) (inside : n < length rows)
+module _ (rows : List NodeRow) (entries : List (Board × ℕ)) (space root_space spare : ℕ) (tree : IsTree rows entries space root_space spare) (g : TreeState)
+    (is : seen rows entries spare ≡ g) (n : ℕ) (children : List Child) (after : List NodeRow) (inside : n < length rows)
     (none : (row_at rows n).count ≡ 0) (some : IsSome (node_at n g.forest)) (opening : IfSome (node_at n g.forest) (IsOpening children))
     (step : AreExpanded rows after n children) where
   next_is : length rows ≡ size (forest_of rows (values_of entries))
@@ -297,7 +297,7 @@ module _ (rows : List Row) (entries : List (Board × ℕ)) (space root_space spa
   links_now : AreLinked after
   links_now = AreLinked-expanded rows after n children tree.linked inside step (nodes_from 0 rows) (IsMeaning-nodes rows tree.linked) none
 
-  forests-expanded : forest_of after (values_of entries) ≡ with_children n children (forest_of rows (values_of entries))
+  pub forests-expanded : forest_of after (values_of entries) ≡ with_children n children (forest_of rows (values_of entries))
   forests-expanded =
       let tops = values_of entries in
       let xs = nodes_from 0 rows in
@@ -367,7 +367,7 @@ module _ (rows : List Row) (entries : List (Board × ℕ)) (space root_space spa
 
 -- ---- the roots
 
-module _ (rows : List Row) (entries : List (Board × ℕ)) (space root_space spare : ℕ) (tree : IsTree rows entries space root_space spare) (g : TreeState)
+module _ (rows : List NodeRow) (entries : List (Board × ℕ)) (space root_space spare : ℕ) (tree : IsTree rows entries space root_space spare) (g : TreeState)
     (is : seen rows entries spare ≡ g) where
   roots-are : nodes g.forest ≡ map (node_in (nodes_from 0 rows)) (values_of entries)
   roots-are = sym (ap (λ (h : TreeState). nodes h.forest) is) ∙ nodes-forest (map (node_in (nodes_from 0 rows)) (values_of entries))
@@ -416,7 +416,7 @@ module _ (rows : List Row) (entries : List (Board × ℕ)) (space root_space spa
   root_kept goal k l =
       kept-is rows tree.linked (nodes_from 0 rows) (IsMeaning-nodes rows tree.linked) goal 0 (λ j from l'. fits_for rows goal j (tree.fits j l')) k (omega arith) l
 
-  pub root-value : (i : ℕ) (l : i < length entries) (r : ℕ) → r ≡ get_or (values_of entries) i 0 → (row : Row) → row ≡ get_or rows r row → (v : Option Value)
+  pub root-value : (i : ℕ) (l : i < length entries) (r : ℕ) → r ≡ get_or (values_of entries) i 0 → (row : NodeRow) → row ≡ get_or rows r row → (v : Option Value)
       → v ≡ value_by (kept_numbers Black row) (kept_numbers White row) → IfSome (slice_get (nodes g.forest) i) (λ x. v ≡ value_of x)
   root-value i l r e row read v is =
       let k = get_or (values_of entries) i 0 in

@@ -5,12 +5,12 @@ ghost use Rattle.proof_tree.specs.Changes.{stands_on};
 ghost use Rattle.proof_tree.specs.Rows.{row_at, path, new_row, new_rows, root_row, opened, AreLinked, AreRekept, AreExpanded, AreCounted, Fits};
 
 use crate::numbering::mend;
-use crate::rows::{KeptNumbers, Mark, ParentLink, Row};
+use crate::rows::{KeptNumbers, Mark, NodeRow, ParentLink};
 use draughts_board::{Position, Side};
 use proof_numbers::{Child, leaf};
 
 /// The position stands on the way from a row up to its root.
-fn stands_above(rows: &[Row], from: usize, p: &Position) -> bool
+fn stands_above(rows: &[NodeRow], from: usize, p: &Position) -> bool
     requires inside { from < length rows.now }
     requires linked { AreLinked rows.now }
     ensures { result ≡ stands_on (path rows.now (Some from)) p.now }
@@ -45,13 +45,13 @@ ghost use Rattle.proof_numbers.specs.Facts.{known};
 ghost use Rattle.proof_numbers.specs.Numbers.{leaf_numbers};
 
 /// The row of a new node below a parent.
-fn new_row(parent: usize, number: usize, child: &Child, repeats: bool) -> Row
+fn new_row(parent: usize, number: usize, child: &Child, repeats: bool) -> NodeRow
     requires few { number < 2 ^ 60 }
     requires parent { parent < 2 ^ 60 }
     ensures { (above : List Board) → repeats ≡ stands_on above child.now.position
         → result ≡ new_row above parent number child.now }
 {
-    Row {
+    NodeRow {
         position: child.position,
         facts: child.facts,
         mark: if repeats {
@@ -69,7 +69,7 @@ fn new_row(parent: usize, number: usize, child: &Child, repeats: bool) -> Row
 }
 
 /// Adds the rows of a row's children, for which there is room.
-fn push_children(rows: &mut Vec<Row>, parent: usize, children: &[Child])
+fn push_children(rows: &mut Vec<NodeRow>, parent: usize, children: &[Child])
     requires inside { parent < length rows.old.items }
     requires linked { AreLinked rows.old.items }
     requires few { length rows.old.items + length children.now < 2 ^ 57 }
@@ -91,7 +91,7 @@ fn push_children(rows: &mut Vec<Row>, parent: usize, children: &[Child])
 }
 
 /// Makes a row expanded, with `count` children from `first` on, and mends what is kept.
-fn open(rows: &mut [Row], at: usize, first: usize, count: usize)
+fn open(rows: &mut [NodeRow], at: usize, first: usize, count: usize)
     requires inside { at < length rows.old }
     requires linked { AreLinked (opened rows.old at (row_at rows.old at) first count) }
     requires few { length rows.old < 2 ^ 57 }
@@ -109,7 +109,7 @@ fn open(rows: &mut [Row], at: usize, first: usize, count: usize)
 }
 
 /// Gives a row its children, for which there is room.
-pub(crate) fn expand(rows: &mut Vec<Row>, at: usize, children: &[Child])
+pub(crate) fn expand(rows: &mut Vec<NodeRow>, at: usize, children: &[Child])
     requires inside { at < length rows.old.items }
     requires linked { AreLinked rows.old.items }
     requires leaf { (row_at rows.old.items at).count ≡ 0 }
@@ -127,7 +127,7 @@ pub(crate) fn expand(rows: &mut Vec<Row>, at: usize, children: &[Child])
 }
 
 /// Adds the row of a root, for which there is room.
-pub(crate) fn push_root(rows: &mut Vec<Row>, root: &Child)
+pub(crate) fn push_root(rows: &mut Vec<NodeRow>, root: &Child)
     requires few { length rows.old.items < 2 ^ 57 }
     requires room { length rows.old.items < vec_capacity rows.old }
     ensures items { rows.new.items
@@ -135,7 +135,7 @@ pub(crate) fn push_root(rows: &mut Vec<Row>, root: &Child)
     ensures room { vec_capacity rows.old ≤ vec_capacity rows.new }
     ensures lawful { IsLawful root.now.position }
 {
-    let row = Row {
+    let row = NodeRow {
         position: root.position,
         facts: root.facts,
         mark: Mark::Unexpanded,

@@ -9,7 +9,7 @@ ghost use Rattle.proof_tree.specs.Picking.{left_to_show};
 ghost use Rattle.proof_tree.specs.Rows.{kept_numbers, row_at, own_of, slice_of, AreLinked, AreRekept, HaveSameLinks, Fits, AreCounted, IsCounted};
 ghost use Rattle.proof_tree.specs.Sums.{finite_sum, IsKeepable};
 
-use crate::rows::{KeptNumbers, Mark, Row};
+use crate::rows::{KeptNumbers, Mark, NodeRow};
 use draughts_board::Side;
 use proof_numbers::{Facts, Number, Numbers, leaf, least, total};
 
@@ -25,7 +25,7 @@ pub(crate) fn left_to_show(by_proof: bool, numbers: Numbers) -> Number
 }
 
 /// The least of the children's proof numbers, or of their disproof numbers.
-fn least_among(children: &[Row], goal: Side, by_proof: bool) -> Number
+fn least_among(children: &[NodeRow], goal: Side, by_proof: bool) -> Number
     ensures { result
         ≡ least_of (map (λ r. left_to_show by_proof (kept_numbers goal r)) children.now) }
 {
@@ -37,7 +37,7 @@ fn least_among(children: &[Row], goal: Side, by_proof: bool) -> Number
 }
 
 /// The sum of the children's proof numbers, or of their disproof numbers.
-fn total_among(children: &[Row], goal: Side, by_proof: bool) -> Number
+fn total_among(children: &[NodeRow], goal: Side, by_proof: bool) -> Number
     requires { finite_sum (map (λ r. left_to_show by_proof (kept_numbers goal r)) children.now)
         < 2 ^ 128 }
     ensures { result
@@ -51,7 +51,7 @@ fn total_among(children: &[Row], goal: Side, by_proof: bool) -> Number
 }
 
 /// The numbers of an expanded node that its facts do not decide, by those that its children keep.
-fn folded(children: &[Row], goal: Side, goal_moves: bool) -> Numbers
+fn folded(children: &[NodeRow], goal: Side, goal_moves: bool) -> Numbers
     requires proof { finite_sum (map (λ r. left_to_show true (kept_numbers goal r)) children.now)
         < 2 ^ 63 }
     requires disproof { finite_sum
@@ -73,7 +73,7 @@ fn folded(children: &[Row], goal: Side, goal_moves: bool) -> Numbers
 
 /// The numbers of a row's node, by those that its children keep, where each row behind it keeps
 /// right ones.
-fn numbers_of(rows: &[Row], at: usize, goal: Side) -> Numbers
+fn numbers_of(rows: &[NodeRow], at: usize, goal: Side) -> Numbers
     requires inside { at < length rows.now }
     requires linked { AreLinked rows.now }
     requires few { length rows.now < 2 ^ 57 }
@@ -93,7 +93,7 @@ fn numbers_of(rows: &[Row], at: usize, goal: Side) -> Numbers
 }
 
 /// Mends the numbers that a row and the rows above it keep, where each other row keeps right ones.
-pub(crate) fn mend(rows: &mut [Row], from: usize)
+pub(crate) fn mend(rows: &mut [NodeRow], from: usize)
     requires inside { from < length rows.old }
     requires linked { AreLinked rows.old }
     requires few { length rows.old < 2 ^ 57 }
@@ -114,7 +114,7 @@ pub(crate) fn mend(rows: &mut [Row], from: usize)
 }
 
 /// Adds these facts to those of a row, and mends what is kept.
-pub(crate) fn learn(rows: &mut [Row], at: usize, facts: &Facts)
+pub(crate) fn learn(rows: &mut [NodeRow], at: usize, facts: &Facts)
     requires inside { at < length rows.old }
     requires linked { AreLinked rows.old }
     requires few { length rows.old < 2 ^ 57 }

@@ -10,7 +10,7 @@ ghost use Rattle.proof_tree.specs.Rows.{row_at, kept_numbers, AreLinked};
 ghost use Rattle.proof_tree.specs.Walking.{is_before, key, comes, is_behind, is_candidate, first_child_of, IsFirst};
 
 use crate::numbering::left_to_show;
-use crate::rows::{Mark, NodeId, Row};
+use crate::rows::{Mark, NodeId, NodeRow};
 use draughts_board::{Side, Value};
 use proof_numbers::{Number, Numbers};
 
@@ -39,7 +39,7 @@ fn is_before(x: Number, a: usize, y: Number, b: usize) -> bool
 }
 
 /// The one row comes before the other in the order of trying.
-fn comes(rows: &[Row], goal: Side, by_proof: bool, a: usize, b: usize) -> bool
+fn comes(rows: &[NodeRow], goal: Side, by_proof: bool, a: usize, b: usize) -> bool
     requires one { a < length rows.now }
     requires other { b < length rows.now }
     ensures { result ≡ comes rows.now goal by_proof a b }
@@ -50,7 +50,7 @@ fn comes(rows: &[Row], goal: Side, by_proof: bool, a: usize, b: usize) -> bool
 }
 
 /// The row is still to be tried.
-fn is_candidate(rows: &[Row], goal: Side, by_proof: bool, last: Option<usize>, k: usize) -> bool
+fn is_candidate(rows: &[NodeRow], goal: Side, by_proof: bool, last: Option<usize>, k: usize) -> bool
     requires inside { k < length rows.now }
     requires last { (a : ℕ) → last ≡ Some a → a < length rows.now }
     ensures { result ≡ is_candidate rows.now goal by_proof last k }
@@ -66,7 +66,7 @@ fn is_candidate(rows: &[Row], goal: Side, by_proof: bool, last: Option<usize>, k
 
 /// The child that is tried next, where `last` was tried last.
 fn next_child(
-    rows: &[Row],
+    rows: &[NodeRow],
     at: usize,
     goal: Side,
     by_proof: bool,
@@ -91,7 +91,7 @@ fn next_child(
 
 /// Of the two rows, the one that is tried first.
 fn first_of(
-    rows: &[Row],
+    rows: &[NodeRow],
     goal: Side,
     by_proof: bool,
     best: Option<usize>,
@@ -129,7 +129,7 @@ ghost use Rattle.proof_tree.specs.Picking.{leaf_below};
 ghost use Rattle.proof_tree.specs.Rows.{nodes_from, node_in, FitsRow};
 
 /// The goal's side is to move at the row.
-fn goal_moves(rows: &[Row], at: usize, goal: Side) -> bool
+fn goal_moves(rows: &[NodeRow], at: usize, goal: Side) -> bool
     requires { at < length rows.now }
     ensures { result ≡ same_side goal (row_at rows.now at).position.to_move }
 {
@@ -137,7 +137,7 @@ fn goal_moves(rows: &[Row], at: usize, goal: Side) -> bool
 }
 
 /// The leaf at which the walk from an expanded and unresolved row ends, with its ways back.
-fn search<T: Taken>(rows: &[Row], root: usize, goal: Side, taken: &T) -> Option<usize>
+fn search<T: Taken>(rows: &[NodeRow], root: usize, goal: Side, taken: &T) -> Option<usize>
     requires inside { root < length rows.now }
     requires linked { AreLinked rows.now }
     requires fits { (k : ℕ) → k < length rows.now → FitsRow rows.now goal k }
@@ -179,7 +179,7 @@ fn search<T: Taken>(rows: &[Row], root: usize, goal: Side, taken: &T) -> Option<
 }
 
 /// The leaf at which the walk from a root ends; none where the root is not open for the goal.
-fn leaf_from<T: Taken>(rows: &[Row], root: usize, goal: Side, taken: &T) -> Option<usize>
+fn leaf_from<T: Taken>(rows: &[NodeRow], root: usize, goal: Side, taken: &T) -> Option<usize>
     requires inside { root < length rows.now }
     requires linked { AreLinked rows.now }
     requires fits { (k : ℕ) → k < length rows.now → FitsRow rows.now goal k }
@@ -203,10 +203,10 @@ fn leaf_from<T: Taken>(rows: &[Row], root: usize, goal: Side, taken: &T) -> Opti
     }
 }
 
-ghost use Rattle.std.specs.Prelude.{map, All, slice_index};
-ghost use Rattle.proof_tree.specs.Forest.{goal_by, value_by};
+ghost use Rattle.std.specs.Prelude.{map, All, is_some, slice_index};
+ghost use Rattle.proof_tree.specs.Forest.{goal_by, value_by, value_of};
 ghost use Rattle.proof_tree.specs.Picking.{pick_at, pick_from};
-ghost use Rattle.proof_tree.specs.Rows.{Fits};
+ghost use Rattle.proof_tree.specs.Rows.{Fits, settled_front};
 
 /// The side whose win is sought at a root with these numbers for Black.
 fn goal_by(black: Numbers) -> Side
@@ -236,7 +236,7 @@ pub(crate) fn value_by(black: Numbers, white: Numbers) -> Option<Value>
 }
 
 /// What a root gives to work on: nothing where it is settled or not open for its goal.
-fn pick_at<T: Taken>(rows: &[Row], root: usize, taken: &T) -> Option<(NodeId, Side)>
+fn pick_at<T: Taken>(rows: &[NodeRow], root: usize, taken: &T) -> Option<(NodeId, Side)>
     requires inside { root < length rows.now }
     requires linked { AreLinked rows.now }
     requires fits { (k : ℕ) → k < length rows.now → Fits rows.now k }
@@ -255,10 +255,11 @@ fn pick_at<T: Taken>(rows: &[Row], root: usize, taken: &T) -> Option<(NodeId, Si
     }
 }
 
-/// The leaf to work on next.
+/// The leaf to work on next, where so many roots at the front are settled.
 pub(crate) fn pick_from<T: Taken>(
-    rows: &[Row],
+    rows: &[NodeRow],
     roots: &[usize],
+    front: usize,
     taken: &T,
 ) -> Option<(NodeId, Side)>
     requires linked { AreLinked rows.now }
@@ -266,13 +267,42 @@ pub(crate) fn pick_from<T: Taken>(
     requires inside { (i : ℕ) → i < length roots.now → slice_index roots.now i < length rows.now }
     requires tops { (i : ℕ) → i < length roots.now
         → (row_at rows.now (slice_index roots.now i)).parent ≡ None }
+    requires settled { front ≤ settled_front (map (node_in (nodes_from 0 rows.now)) roots.now) }
     ensures { result ≡ pick_from (T.taken taken.now)
         (map (node_in (nodes_from 0 rows.now)) roots.now) }
 {
-    for root in roots {
-        if let Some(found) = pick_at(rows, *root, taken) {
+    for i in front..roots.len() {
+        if let Some(found) = pick_at(rows, roots[i], taken) {
             return Some(found);
         }
     }
     None
+}
+
+/// The root has its value.
+fn is_settled(rows: &[NodeRow], root: usize) -> bool
+    requires inside { root < length rows.now }
+    requires linked { AreLinked rows.now }
+    requires fits { (k : ℕ) → k < length rows.now → Fits rows.now k }
+    ensures { result ≡ is_some (value_of (node_in (nodes_from 0 rows.now) root)) }
+{
+    let black = rows[root].kept(Side::Black);
+    let white = rows[root].kept(Side::White);
+    value_by(black, white).is_some()
+}
+
+/// How many roots stand before the first that is unsettled, where at least so many do.
+pub(crate) fn settled_front(rows: &[NodeRow], roots: &[usize], front: usize) -> usize
+    requires linked { AreLinked rows.now }
+    requires fits { (k : ℕ) → k < length rows.now → Fits rows.now k }
+    requires inside { (i : ℕ) → i < length roots.now → slice_index roots.now i < length rows.now }
+    requires settled { front ≤ settled_front (map (node_in (nodes_from 0 rows.now)) roots.now) }
+    ensures { result ≡ settled_front (map (node_in (nodes_from 0 rows.now)) roots.now) }
+{
+    for i in front..roots.len() {
+        if !is_settled(rows, roots[i]) {
+            return i;
+        }
+    }
+    roots.len()
 }

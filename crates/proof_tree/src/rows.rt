@@ -165,7 +165,7 @@ impl ParentLink {
 
 /// A node.
 #[derive(Clone, Copy)]
-pub(crate) struct Row {
+pub(crate) struct NodeRow {
     /// Where the moves down to it led.
     pub(crate) position: Position,
     /// What is known there.
@@ -186,7 +186,7 @@ pub(crate) struct Row {
     pub(crate) white: KeptNumbers,
 }
 
-impl Row {
+impl NodeRow {
     ghost use Rattle.proof_tree.specs.Rows.{kept_numbers};
 
     /// The numbers that it keeps for the goal.

@@ -1,9 +1,9 @@
 //! The proof tree.
 use crate::growing::{expand, push_root};
 use crate::numbering::learn;
-use crate::picking::{Taken, pick_from, value_by};
+use crate::picking::{Taken, pick_from, settled_front, value_by};
 use crate::roots::{add, top};
-use crate::rows::{Mark, NodeId, Row};
+use crate::rows::{Mark, NodeId, NodeRow};
 use draughts_board::{Position, Side, Value};
 use indexmap::IndexMap;
 use proof_numbers::{Child, Facts, Numbers};
@@ -24,11 +24,13 @@ const MOST_NODES: usize = 1 << 57;
 #[derive(Drop)]
 pub struct Tree {
     /// One for each node, in the order in which they were made.
-    rows: Vec<Row>,
+    rows: Vec<NodeRow>,
     /// The rows of the roots by their positions, in order.
     roots: IndexMap<Position, usize>,
     /// For so many more nodes room was made.
     spare: usize,
+    /// So many roots stand before the first that is unsettled.
+    front: usize,
 }
 
 impl Model for Tree {
@@ -36,7 +38,7 @@ impl Model for Tree {
     ghost use Rattle.std.specs.Map.{values_of};
     ghost use Rattle.indexmap.specs.IndexMap.{spare as map_spare};
     ghost use Rattle.proof_tree.specs.Code.{state_code};
-    ghost use Rattle.proof_tree.specs.Rows.{forest_of, IsTree};
+    ghost use Rattle.proof_tree.specs.Rows.{forest_of, IsTreeFrom};
     ghost use Rattle.proof_tree.specs.Sound.{TreeState};
 
     ghost Value = { TreeState };
@@ -47,11 +49,13 @@ impl Model for Tree {
         record { forest = forest_of t.rows.items (values_of t.roots.entries); spare = t.spare } };
 
     ghost invariant = { λ t.
-        IsTree t.rows.items t.roots.entries (vec_capacity t.rows) (map_spare t.roots) t.spare };
+        IsTreeFrom t.rows.items t.roots.entries (vec_capacity t.rows) (map_spare t.roots) t.spare
+        t.front };
 }
 
 impl Tree {
-    ghost use Rattle.std.specs.Prelude.{◌≡◌, ◌-◌, ◌+◌, ◌<◌, ◌≤◌, ◌↔◌, ◌==◌, ℕ, length, map, Contains, slice_get, OnOk, OnErr, IfSome, IsNone, IsSome, IsSomeAnd};
+    ghost use Rattle.std.specs.Prelude.{◌≡◌, ◌-◌, ◌+◌, ◌<◌, ◌≤◌, ◌↔◌, ◌==◌, ℕ, length, map, is_some, Contains, slice_get, OnOk, OnErr, IfSome, IsNone, IsSome, IsSomeAnd};
+    ghost use Rattle.std.specs.List.{list_all};
     ghost use Rattle.draughts_board.specs.Play.{successors_of};
     ghost use Rattle.proof_numbers.specs.Facts.{known};
     ghost use Rattle.proof_numbers.specs.Known.{joined, IsConsistent};
@@ -69,6 +73,7 @@ impl Tree {
             rows: Vec::new(alloc),
             roots: IndexMap::new(alloc),
             spare: 0,
+            front: 0,
         }
     }
 
@@ -111,6 +116,7 @@ impl Tree {
         push_root(&mut self.rows, &root);
         add(&mut self.roots, &root.position, number);
         self.spare -= 1;
+        self.front = front_of(&self.rows, &self.roots, self.front);
         self.roots.len() as u32
     }
 
@@ -128,6 +134,7 @@ impl Tree {
     {
         expand(&mut self.rows, n.number() as usize, children);
         self.spare -= children.len();
+        self.front = front_of(&self.rows, &self.roots, self.front);
     }
 
     /// Adds these facts to those of a node. The caller knows that the two do not contradict each
@@ -141,6 +148,7 @@ impl Tree {
         } }
     {
         learn(&mut self.rows, n.number() as usize, facts);
+        self.front = front_of(&self.rows, &self.roots, self.front);
     }
 
     /// How many roots there are, at most 65,536.
@@ -235,8 +243,15 @@ impl Tree {
         value_by(row.kept(Side::Black), row.kept(Side::White))
     }
 
+    /// Whether every root is settled. It looks at none of them.
+    pub fn are_settled(&self) -> bool
+        ensures { result ≡ list_all (λ root. is_some (value_of root)) (nodes self.now.forest) }
+    {
+        self.front == self.roots.len()
+    }
+
     /// The row of a node.
-    fn row(&self, n: NodeId) -> &Row
+    fn row(&self, n: NodeId) -> &NodeRow
         requires { IsSome (node_at n self.now.forest) }
         ensures { IfSome (node_at n self.now.forest) (IsRowOf n result.now) }
     {
@@ -304,6 +319,24 @@ impl Tree {
         ensures leaf { IfSome result (λ found.
             IsSomeAnd (node_at found.0 self.now.forest) (IsOpenLeaf found.1 (T.taken taken.now))) }
     {
-        pick_from(&self.rows, self.roots.values().as_slice(), taken)
+        let roots = self.roots.values();
+        pick_from(&self.rows, roots.as_slice(), self.front, taken)
     }
+}
+
+ghost use Rattle.std.specs.Prelude.{◌≡◌, ◌≤◌, ◌<◌, ℕ, length};
+ghost use Rattle.std.specs.Map.{values_of};
+ghost use Rattle.proof_tree.specs.Forest.{nodes};
+ghost use Rattle.proof_tree.specs.Rows.{roots_from, forest_of, settled_front, AreLinked, Fits};
+
+/// How many roots stand before the first that is unsettled, where at least so many do.
+fn front_of(rows: &[NodeRow], roots: &IndexMap<Position, usize>, front: usize) -> usize
+    requires linked { AreLinked rows.now }
+    requires fits { (k : ℕ) → k < length rows.now → Fits rows.now k }
+    requires roots { values_of roots.now.entries ≡ roots_from 0 rows.now }
+    requires settled { front
+        ≤ settled_front (nodes (forest_of rows.now (values_of roots.now.entries))) }
+    ensures { result ≡ settled_front (nodes (forest_of rows.now (values_of roots.now.entries))) }
+{
+    settled_front(rows, roots.values().as_slice(), front)
 }

@@ -20,7 +20,7 @@ mod measure;
 mod settling;
 
 use crate::counted::Counted;
-use crate::lists::{Row, read_rows};
+use crate::lists::{ListedPosition, read_rows};
 use crate::measure::best_time;
 use crate::settling::{Tally, settle_all};
 use anyhow::{Result, ensure};
@@ -39,7 +39,7 @@ const NARROW: usize = 1;
 /// Searches a list so many plies ahead, with an empty memory of so many positions. What is settled, and the nodes.
 fn searched(
     alloc: Global,
-    rows: &[Row],
+    rows: &[ListedPosition],
     depth: u8,
     capacity: usize,
     table: &Table,
@@ -55,7 +55,7 @@ fn searched(
 /// Searches a list with a wide and a narrow memory, and prints what is settled and the nodes of both.
 fn tell_memories(
     rt: &(impl Print + Alloc<A = Global>),
-    rows: &[Row],
+    rows: &[ListedPosition],
     depth: u8,
     table: &Table,
 ) -> Result<()> {
@@ -83,7 +83,7 @@ fn tell(rt: &impl Print, depth: u8, tally: &Tally) -> Result<()> {
 /// Searches a list and prints what is settled and the nodes.
 fn tell_list(
     rt: &(impl Print + Alloc<A = Global>),
-    rows: &[Row],
+    rows: &[ListedPosition],
     depth: u8,
     table: &Table,
 ) -> Result<()> {
@@ -96,7 +96,7 @@ fn tell_list(
 /// Prints how fast the positions of a list are searched, and the share of the nodes that a narrow memory takes.
 fn time(
     rt: &(impl Print + Clock + Alloc<A = Global>),
-    rows: &[Row],
+    rows: &[ListedPosition],
     depth: u8,
     table: &Table,
 ) -> Result<()> {
@@ -115,7 +115,7 @@ fn time(
 /// Prints what is settled of each list.
 fn tell_all(
     rt: &(impl Print + Files + Alloc<A = Global>),
-    fixed: &[Row],
+    fixed: &[ListedPosition],
     tables: &[Table; 2],
 ) -> Result<()> {
     for table in tables {

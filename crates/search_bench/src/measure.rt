@@ -1,7 +1,7 @@
 //! How fast lists are searched.
 ghost use Rattle.std.specs.Prelude.{◌≤◌};
 
-use crate::lists::Row;
+use crate::lists::ListedPosition;
 use crate::settling::settle_all;
 use anyhow::Result;
 use endgame_table::Table;
@@ -16,7 +16,7 @@ const RUNS: u32 = 5;
 /// The best time of searching the list, in nanoseconds, each time with an empty memory of so many positions.
 pub(crate) fn best_time(
     rt: &(impl Clock + Alloc<A = Global>),
-    rows: &[Row],
+    rows: &[ListedPosition],
     depth: u8,
     capacity: usize,
     table: &Table,

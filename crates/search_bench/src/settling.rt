@@ -1,5 +1,5 @@
 //! What a search settles of a position, and of a list.
-use crate::lists::Row;
+use crate::lists::ListedPosition;
 use anyhow::{Result, ensure};
 use certificate_checker::Outcome;
 use draughts_board::{Position, Side, Value};
@@ -86,7 +86,7 @@ pub(crate) fn settle<O: Oracle>(
 /// How many positions of the list are settled so many plies ahead. A value that is found and is not the list's is an error.
 pub(crate) fn settle_all<O: Oracle>(
     alloc: Global,
-    rows: &[Row],
+    rows: &[ListedPosition],
     depth: u8,
     oracle: &O,
     memo: &mut Memo,

@@ -4,6 +4,7 @@ pub mod RowLemmas
 pub mod PickLemmas
 pub mod CoreLemmas
 pub mod HistoryLaws
+pub mod UnleasedLemmas
 pub mod ForgetLemmas
 pub mod OwedLemmas
 pub mod ReceiptLemmas
@@ -19,3 +20,4 @@ pub mod ExactLemmas
 pub mod WorksLemmas
 pub mod TurnLemmas
 pub mod SharedLemmas
+pub mod SearchLemmas

@@ -123,6 +123,11 @@ lease_worker s worker lease h =
     let leaf = answer_is s worker (are_settled s.forest) (nat_le s.settings.budget s.work) (pick (λ n. is_leased s.leases n (s.given + 1)) s.forest) lease h in
     sym (ap (λ (l : Lease). l.worker) leaf.2)
 
+pub lease_settings : (s : CoreState) (worker : ℕ) (lease : Lease) → lease_answer s worker ≡ Ok lease → (lease.pieces ≡ s.settings.pieces) × (lease.depth ≡ s.settings.depth)
+lease_settings s worker lease h =
+    let leaf = answer_is s worker (are_settled s.forest) (nat_le s.settings.budget s.work) (pick (λ n. is_leased s.leases n (s.given + 1)) s.forest) lease h in
+    (sym (ap (λ (l : Lease). l.pieces) leaf.2), sym (ap (λ (l : Lease). l.depth) leaf.2))
+
 and_true : (b : Bool) → (b && true) ≡ b
 and_true true = refl
 and_true false = refl

@@ -1,6 +1,7 @@
 -- A session's line: its entries, the oldest first. Which records it has, and of which session.
 use Rattle.std.specs.Prelude.{◌≡◌, ℕ, Bool, cond, List, [], ◌∷◌, ◌++◌, count_by, Option, Some, None}
 use Rattle.std.specs.List.{list_any}
+use Rattle.std.specs.Option.{option_map_or}
 use Rattle.shared_words.specs.Counts.{Rose}
 use Rattle.bench_records.specs.declared.records.BenchRecord.{BenchRecord}
 use Rattle.bench_core.specs.Records.{is_work}
@@ -38,6 +39,13 @@ attachment_of (Leased lease ∷ line) = attachment_of line
 attachment_of (Released id ∷ line) = attachment_of line
 attachment_of (Acked moment ∷ line) = attachment_of line
 attachment_of (Broken faults ∷ line) = attachment_of line
+
+-- for how many pieces its tables are, and how deep it searches; 0 where the line has no Attached
+abbrev pub session_pieces : List Entry → ℕ
+session_pieces line = option_map_or (λ a. a.pieces) (attachment_of line) 0
+
+abbrev pub session_depth : List Entry → ℕ
+session_depth line = option_map_or (λ a. a.depth) (attachment_of line) 0
 
 -- what stands behind the Attached
 abbrev pub behind_attached : List Entry → List Entry

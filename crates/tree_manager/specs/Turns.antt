@@ -2,6 +2,8 @@
 -- left, which is the front of its pass.
 use Rattle.std.specs.Prelude.{◌≡◌, ◌≢◌, ◌⊎◌, ℕ, false, List, [], ◌∷◌, ◌++◌, Contains, length, Result, Ok, Err}
 use Rattle.turn_lock.specs.Growth.{GrowsTo}
+use Rattle.draughts_board.specs.Draughts.{draughts}
+use Rattle.draughts_board.specs.Game.{is_at_sight}
 use Rattle.certificate_checker.specs.declared.outcomes.Outcome.{Outcome}
 use Rattle.disk_journal.specs.declared.journal.Receipt.{Receipt}
 use Rattle.lease_table.specs.declared.leases.Lease.{Lease}
@@ -17,7 +19,7 @@ use Rattle.tree_manager.specs.declared.refusals.StageRefusal.{StageRefusal}
 use Rattle.tree_manager.specs.declared.refusals.StageRefusal.TheVariants as stage
 use Rattle.tree_manager.specs.declared.refusals.CommitRefusal.{CommitRefusal}
 use Rattle.tree_manager.specs.declared.refusals.CommitRefusal.TheVariants as commit
-use Rattle.tree_manager.specs.Lines.{recorded, unapplied_in, EndsBroken}
+use Rattle.tree_manager.specs.Lines.{recorded, unapplied_in, session_pieces, session_depth, EndsBroken}
 use Rattle.tree_manager.specs.Histories.{IsCoreOf}
 use Rattle.tree_manager.specs.Sessions.{MayAddInTurn}
 
@@ -46,6 +48,13 @@ pub record InStateOf (line : List Entry) (P : CoreState → Type 0) : Type 0 whe
 -- so a worker who asks for a leaf is answered
 abbrev pub AnswersWorker : ℕ → Result Lease LeaseRefusal → List Entry → Type 0
 AnswersWorker worker answer line = InStateOf line (λ s. lease_answer s worker ≡ answer)
+
+-- The lease is for a search by the settings of the line's session. Its position is not decided at
+-- sight.
+pub record AsksForSearch (line : List Entry) (given : Lease) : Type 0 where
+  pub pieces : given.pieces ≡ session_pieces line
+  pub depth : given.depth ≡ session_depth line
+  pub undecided : is_at_sight draughts given.pieces given.position ≡ false
 
 -- this very lease lives, and no result of it is staged
 abbrev pub AwaitsResult : Lease → List Entry → Type 0

@@ -366,6 +366,7 @@ impl<D: Disk> JoinedBench<D> {
 
     /// The number of the first lease that lives and is not kept, which is the least; none where there is no such lease.
     fn first_waiting(&self) -> Option<LeaseId>
+        ensures history { IsHistory self.now.line self.now.core }
         ensures first { result ≡ option_map (λ row. row.lease.id)
             (first_unkept self.now.core.state.leases.rows) }
         ensures least { IfSome result (λ id.
@@ -374,12 +375,15 @@ impl<D: Disk> JoinedBench<D> {
         self.bench.first_waiting()
     }
 
-    /// Ends every lease that lives and is not kept, in rising order of number. It takes no memory.
+    /// Ends every lease that lives and is not kept, in rising order of number. Where nothing is staged, none lives then. It
+    /// takes no memory.
     ///
     /// For each of them it goes once over the rows of the leases that were given and have not ended.
     pub fn end_leases(&mut self)
         requires { is_failed self.old.line ≡ false }
-        ensures { EndsLeases self.old self.new }
+        ensures ended { EndsLeases self.old self.new }
+        ensures unleased { self.old.core.staged ≡ [] → self.new.core.state.leases.rows ≡ [] }
+        ensures stands { IsCoreOf self.new.line self.new.core }
     {
         while let Some(id) = self.first_waiting() {
             let _ended = self.release(id);

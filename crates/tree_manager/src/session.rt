@@ -276,12 +276,15 @@ impl<D: Disk> Session<D> {
         self.joined.commit()
     }
 
-    /// Ends every lease that lives and is not kept, in rising order of number. It takes no memory.
+    /// Ends every lease that lives and is not kept, in rising order of number. Where nothing is staged, none lives then. It
+    /// takes no memory.
     ///
     /// For each of them it goes once over the rows of the leases that were given and have not ended.
     pub fn end_leases(&mut self)
         requires { is_failed self.old.line ≡ false }
-        ensures { EndsLeases self.old self.new }
+        ensures ended { EndsLeases self.old self.new }
+        ensures unleased { self.old.core.staged ≡ [] → self.new.core.state.leases.rows ≡ [] }
+        ensures stands { IsCoreOf self.new.line self.new.core }
     {
         self.joined.end_leases();
     }

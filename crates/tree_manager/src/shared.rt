@@ -8,7 +8,7 @@ ghost use Rattle.bench_disk.specs.Disk.{IsHonest};
 ghost use Rattle.turn_lock.specs.Seen.{IsOutside};
 ghost use Rattle.bench_core.specs.Cores.{IsOutcomeOf};
 ghost use Rattle.tree_manager.specs.Receipts.{acknowledgements};
-ghost use Rattle.tree_manager.specs.Turns.{GrowsByTurns, InOneTurn, Leases, Stages, Commits, Releases};
+ghost use Rattle.tree_manager.specs.Turns.{GrowsByTurns, InOneTurn, AsksForSearch, Leases, Stages, Commits, Releases};
 
 use crate::refusals::{CommitRefusal, StageRefusal};
 use crate::session::Session;
@@ -58,6 +58,7 @@ impl<D: Disk> SharedBench<D> {
     }
 
     /// Leases the next leaf to a worker, in one turn. It waits while another pass has the turn, and refuses as a session does.
+    /// The leaf is not decided at sight, and the lease has the session's depth and tables, which no turn changes.
     pub fn lease<R: Wait>(
         &self,
         rt: &R,
@@ -69,6 +70,7 @@ impl<D: Disk> SharedBench<D> {
         ensures grows { GrowsByTurns pass.old.front pass.new.front }
         ensures turn { InOneTurn pass.old.front pass.new.front
             (λ found new. Leases found new worker result) }
+        ensures settings { IfOk result (AsksForSearch pass.old.front) }
     {
         let mut session = self.lock.enter(rt, pass);
         let before = session.count();

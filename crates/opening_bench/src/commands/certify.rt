@@ -6,7 +6,7 @@ ghost use Rattle.certificate_text.specs.Text.{ReadsAs};
 ghost use Rattle.strategy_certificate.specs.Tables.{IsTableSize};
 ghost use Rattle.opening_bench.specs.Bench.{ComesBeforeDisk};
 ghost use Rattle.opening_bench.specs.Disks.{LeavesDisk};
-ghost use Rattle.opening_bench.specs.Steps.{AnswersBytes, RefusesBytes, SaysTrue};
+ghost use Rattle.opening_bench.specs.Steps.{AcceptsAsked, AnswersBytes, AnswersLook, RefusesBytes, SaysTrue};
 
 use crate::looking::refusal_of;
 use crate::output::Output;
@@ -38,6 +38,8 @@ pub(crate) fn certify<D: Disk>(alloc: Global, root: u32, disk: D) -> (D, Result<
     ensures refused { IfErr result.1
         (RefusesBytes D.TELLS D.reads D.images D.images_since D.moment D.faults
         (commands.Certify root) [] disk result.0) }
+    ensures asked { AcceptsAsked D.TELLS D.reads (commands.Certify root) disk result.1 }
+    ensures looked { AnswersLook D.TELLS D.reads (commands.Certify root) disk result.1 }
     ensures used { IfErr result.1 (λ r. ComesBeforeDisk r → ⊥) }
 {
     let mut disk = disk;

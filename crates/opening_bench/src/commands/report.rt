@@ -3,7 +3,7 @@ ghost use Rattle.std.specs.Prelude.{◌≡◌, [], IfOk, IfErr};
 ghost use Rattle.bench_edges.specs.declared.words.Command.TheVariants as commands;
 ghost use Rattle.opening_bench.specs.Bench.{ComesBeforeDisk};
 ghost use Rattle.opening_bench.specs.Disks.{LeavesDisk};
-ghost use Rattle.opening_bench.specs.Steps.{AnswersBytes, RefusesBytes, SaysTrue};
+ghost use Rattle.opening_bench.specs.Steps.{AcceptsAsked, AnswersBytes, AnswersLook, RefusesBytes, SaysTrue};
 
 use crate::looking::refusal_of;
 use crate::output::Output;
@@ -22,6 +22,8 @@ pub(crate) fn report<D: Disk>(alloc: Global, disk: D) -> (D, Result<Output, Refu
     ensures refused { IfErr result.1
         (RefusesBytes D.TELLS D.reads D.images D.images_since D.moment D.faults
         commands.Report [] disk result.0) }
+    ensures asked { AcceptsAsked D.TELLS D.reads commands.Report disk result.1 }
+    ensures looked { AnswersLook D.TELLS D.reads commands.Report disk result.1 }
     ensures used { IfErr result.1 (λ r. ComesBeforeDisk r → ⊥) }
 {
     let mut disk = disk;

@@ -22,6 +22,9 @@ use opening_report::Refusal;
 use pdn_openings::{Opening, openings};
 use pdn_text::read_games;
 use std::alloc::{AllocError, Global};
+use std::sync::Wait;
+use std::thread::Threads;
+use worker_gate::Gate;
 
 /// The longest source that `solve` reads, in bytes.
 pub const GAMES_LIMIT: usize = 16_777_216;
@@ -61,7 +64,7 @@ fn refusal_of_flaw(flaw: JournalFlaw) -> Refusal
 }
 
 /// The refusal of a run on a journal.
-fn refusal_of(refusal: RunRefusal) -> Refusal
+pub(crate) fn refusal_of(refusal: RunRefusal) -> Refusal
     ensures { result ≡ of_run refusal }
 {
     match refusal {
@@ -73,11 +76,13 @@ fn refusal_of(refusal: RunRefusal) -> Refusal
 }
 
 /// Runs on the journal of the disk with these positions.
-fn run_with<D: Disk>(
+fn run_with<R: Threads + Wait + Sync, D: Disk + Send, G: Gate + Sync>(
+    rt: &R,
     alloc: Global,
     options: &Options,
     positions: &[Position],
     disk: D,
+    gate: &G,
 ) -> (D, Result<Output, Refusal>)
     requires { IsWithinLimits (commands.Solve options.now) }
     ensures leaves { LeavesDisk D.TELLS D.reads D.images D.images_since D.moment D.faults
@@ -102,7 +107,16 @@ fn run_with<D: Disk>(
         budget: options.budget,
         lease: options.lease,
     };
-    let (disk, answer) = journal_runs::solve(alloc, disk, settings, positions, &table);
+    let (disk, answer) = journal_runs::solve(
+        rt,
+        alloc,
+        disk,
+        settings,
+        options.workers,
+        positions,
+        &table,
+        gate,
+    );
     match answer {
         Ok(ran) => (
             disk,
@@ -116,11 +130,13 @@ fn run_with<D: Disk>(
 }
 
 /// What a run on the journal with the openings of these games has to write, and the disk.
-pub(crate) fn solve<D: Disk>(
+pub(crate) fn solve<R: Threads + Wait + Sync, D: Disk + Send, G: Gate + Sync>(
+    rt: &R,
     alloc: Global,
     options: &Options,
     text: &[u8],
     disk: D,
+    gate: &G,
 ) -> (D, Result<Output, Refusal>)
     requires { IsWithinLimits (commands.Solve options.now) }
     ensures leaves { LeavesDisk D.TELLS D.reads D.images D.images_since D.moment D.faults
@@ -138,7 +154,7 @@ pub(crate) fn solve<D: Disk>(
     ensures unused { IfErr result.1 (λ r. ComesBeforeDisk r → result.0 ≡ disk) }
 {
     match roots_in(alloc, options, text) {
-        Ok(positions) => run_with(alloc, options, positions.as_slice(), disk),
+        Ok(positions) => run_with(rt, alloc, options, positions.as_slice(), disk, gate),
         Err(refusal) => (disk, Err(refusal)),
     }
 }

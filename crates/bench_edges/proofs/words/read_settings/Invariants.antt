@@ -6,7 +6,7 @@ use Rattle.bench_edges.proofs.words.read_settings.Given as goal
 
 abbrev pub invariant-loop-at : goal.invariant-loop-at
 invariant-loop-at l = record {
-  size : length l.numbers ≡ 5;
+  size : length l.numbers ≡ 6;
   given : List Setting;
   read : IsReadTo (texts l.words) l.at given;
   placed : ArePlaced l.numbers given;

@@ -28,7 +28,7 @@ returns-in_default c =
     let named : get_or words 0 [] ≢ [] = text_some c.args.words.now 0 _ c.is_empty-else-is_empty.result (grind (arith, common_steps)) c.is_empty-else-is_empty.ensures c.if-is_empty-2.false in
     let within : 1 < length c.args.words.now = grind (arith, common_steps) in
     let word = text_at c.args.words.now 1 _ within in
-    let other = no_name (get_or words 1 []) (λ same. c.in_default.not-solve (sym word ∙ same)) (λ same. c.in_default.not-report (sym word ∙ same)) (λ same. c.in_default.not-certify (sym word ∙ same)) (λ same. c.in_default.not-verify (sym word ∙ same)) (λ same. c.in_default.not-table (sym word ∙ same)) (λ same. c.in_default.not-text (sym word ∙ same)) in
+    let other = no_name (get_or words 1 []) (λ same. c.in_default.not-solve (sym word ∙ same)) (λ same. c.in_default.not-report (sym word ∙ same)) (λ same. c.in_default.not-certify (sym word ∙ same)) (λ same. c.in_default.not-verify (sym word ∙ same)) (λ same. c.in_default.not-table (sym word ∙ same)) (λ same. c.in_default.not-text (sym word ∙ same)) (λ same. c.in_default.not-generate (sym word ∙ same)) in
     one_refusal words 1 (refused_command words (grind (arith, common_steps)) named (λ inside. other))
 
 pub read_solve-requires : goal.read_solve-requires
@@ -75,3 +75,10 @@ returns-in-verify c = one_answer (texts c.args.words.now) c.read_plain-in-verify
 
 pub returns-in-text : goal.returns-in-text
 returns-in-text c = one_answer (texts c.args.words.now) c.read_plain-in-text.result c.read_plain-in-text.ensures.command c.read_plain-in-text.ensures.refused
+
+pub read_generate-requires : goal.read_generate-requires
+read_generate-requires c =
+    front_read c.args.words.now _ (codes "generate") c.is_empty-else-is_empty.result (grind (arith, common_steps)) c.is_empty-else-is_empty.ensures c.if-is_empty-2.false c.in-generate.is
+
+pub returns-in-generate : goal.returns-in-generate
+returns-in-generate c = one_answer (texts c.args.words.now) c.read_generate.result c.read_generate.ensures.command c.read_generate.ensures.refused

@@ -1,6 +1,5 @@
-use Rattle.std.proofs.Common.{ℕ, List}
-use Rattle.proof_tree.specs.Forest.{Forest}
-use Rattle.journal_looks.proofs.LookLemmas.{certifies_from, size_from, refuses_from, no_fault}
+use Rattle.strategy_certificate.specs.declared.certificates.Certificate.{Certificate}
+use Rattle.journal_looks.proofs.LookLemmas.{certifies_from, certify_accepted, certify_read, certify_unread, no_fault, refuses_from, size_from, unread_accepted}
 use Rattle.journal_looks.proofs.looks.certify.Goals as goal
 
 pub returns-clause-certifies : goal.returns-clause-certifies
@@ -20,3 +19,20 @@ returns-clause-refused g c honest =
 
 pub returns-clause-cause : goal.returns-clause-cause
 returns-clause-cause g c is = absurd (no_fault c.in-Ok.read.0.state.forest c.args.root c.certified_root.result c.certified_root.ensures.refused is)
+
+pub returns-in-Err-clause-causes : goal.returns-in-Err-clause-causes
+returns-in-Err-clause-causes g c honest = certify_unread Certificate (g.D.Disk.reads c.args.disk.now) c.args.root c.in-Err.refusal (c.in-Err.ensures.refused honest)
+
+pub returns-in-Err-clause-accepted : goal.returns-in-Err-clause-accepted
+returns-in-Err-clause-accepted g c honest there =
+    unread_accepted Certificate there.pieces (g.D.Disk.reads c.args.disk.now) there.has.records c.in-Err.refusal there.has.read (c.in-Err.ensures.refused honest)
+
+pub returns-clause-causes : goal.returns-clause-causes
+returns-clause-causes g c honest =
+    certify_read c.in-Ok.read.1.pieces (g.D.Disk.reads c.args.disk.now) c.in-Ok.read.0.state.forest c.args.root c.certified_root.result
+    (c.in-Ok.ensures.forest honest) c.certified_root.ensures.settled c.certified_root.ensures.refused
+
+pub returns-clause-accepted : goal.returns-clause-accepted
+returns-clause-accepted g c honest there =
+    certify_accepted c.in-Ok.read.1.pieces (g.D.Disk.reads c.args.disk.now) c.in-Ok.read.0.state.forest c.args.root c.certified_root.result
+    (c.in-Ok.ensures.forest honest) c.certified_root.ensures.refused there

@@ -1,17 +1,13 @@
-use Rattle.std.proofs.Common.{◌≡◌, ℕ, List, [], subst}
+use Rattle.std.proofs.Common.{ℕ, List, [], subst}
 use Rattle.std.specs.Prelude.{IfOk, IfErr}
 use Rattle.disk_journal.specs.declared.payload.Payload.{Payload}
-use Rattle.disk_journal.specs.Contents.{contents_of}
 use Rattle.tree_manager.specs.Receipts.{SpellsRecords}
 use Rattle.tree_manager.specs.Replaying.{RefusesPayloads, payload_texts}
-use Rattle.journal_looks.proofs.ReadingLemmas.{stays_from, unread_journal, none_read, cause_is, forest_read, refused_read, no_fault_read}
+use Rattle.journal_looks.proofs.ReadingLemmas.{stays_from, unread_journal, forest_read, refused_read, no_fault_read}
 use Rattle.journal_looks.proofs.reading.read_bench.Goals as goal
 
 pub returns-in-Err-clause-refused : goal.returns-in-Err-clause-refused
 returns-in-Err-clause-refused g c honest = unread_journal (g.D.Disk.reads c.args.disk.now) c.in-Err.refusal (c.in-Err.ensures.exact honest).fault
-
-pub returns-in-Err-clause-first : goal.returns-in-Err-clause-first
-returns-in-Err-clause-first g c honest e stands = cause_is (g.D.Disk.reads c.args.disk.now) c.in-Err.refusal e (c.in-Err.ensures.exact honest) stands
 
 pub returns-in-Err-clause-stays : goal.returns-in-Err-clause-stays
 returns-in-Err-clause-stays g c honest =
@@ -38,10 +34,6 @@ returns-clause-refused g c honest =
     let items : List Payload = c.in-Ok.read.1.items in
     refused_read k file items c.bench_of.result (c.in-Ok.ensures.exact honest).good.0.payloads (c.in-Ok.ensures.exact honest).good.0.places
     (subst (λ (l : List Payload). IfErr c.bench_of.result (RefusesPayloads k l)) c.deref.ensures.value c.bench_of.ensures.refused)
-
-pub returns-clause-first : goal.returns-clause-first
-returns-clause-first g c honest e stands =
-    absurd (none_read (g.D.Disk.reads c.args.disk.now) (contents_of c.in-Ok.read.0 c.in-Ok.read.1.items) e (c.in-Ok.ensures.exact honest) stands)
 
 pub returns-clause-cause : goal.returns-clause-cause
 returns-clause-cause g c is = absurd (no_fault_read c.in-Ok.read.0 c.deref.result.now c.bench_of.result c.bench_of.ensures.refused is)

@@ -12,5 +12,5 @@ use Rattle.lease_table.specs.Tables.{rows_of}
 use Rattle.lease_table.proofs.TableLemmas.{row_found, leased_is, noted_lives, node_lives, still_table, rows_filtered, marked_table, marked_is, given_table, none_filtered}
 use Rattle.lease_table.proofs.table.drop_rows_of.Goals as goal
 
-pub returns-then-known-clause-entries : goal.returns-then-known-clause-entries
-returns-then-known-clause-entries c = filter_same_pairs _ (λ (e : ℕ × Row). not (is_of c.args.node e.1)) _ (λ k v b w f' t. search rules) _ _ c.retain.ensures.filtered
+pub returns-then-stands-clause-entries : goal.returns-then-stands-clause-entries
+returns-then-stands-clause-entries c = filter_same_pairs _ (λ (e : ℕ × Row). not (is_of c.args.node e.1)) _ (λ k v b w f' t. search rules) _ _ c.retain.ensures.filtered

@@ -1,7 +1,8 @@
-use Rattle.std.proofs.Common.{subst}
+use Rattle.std.proofs.Common.{subst, sym}
 use Rattle.bench_edges.specs.Words.{texts}
-use Rattle.bench_edges.specs.declared.words.Command.TheVariants.{Solve, Verify, TableCheck}
-use Rattle.opening_bench.specs.Accepted.{Accepts}
+use Rattle.bench_edges.specs.declared.words.Command.TheVariants.{Solve, Report, Certify, Verify, MakeTable, TableCheck}
+use Rattle.opening_bench.specs.Accepted.{Accepts, HasAsked, HasLookCause}
+use Rattle.opening_bench.specs.Bench.{HoldsOpenings, WritesOnly}
 use Rattle.opening_bench.proofs.RefusalLemmas.{certificates_accepted, tables_accepted}
 use Rattle.opening_bench.proofs.SolvingLemmas.{openings_accepted, said_once}
 use Rattle.opening_bench.proofs.WritingLemmas.{line_values}
@@ -29,3 +30,28 @@ returns-in-Ok-clause-accepted_tables g c said =
     let same = said_once (texts c.args.words.now) c.in-Ok.command TableCheck c.in-Ok.ensures.each_command said in
     tables_accepted g.D.Disk.TELLS g.D.Disk.reads (g.S.Source.left c.args.source.now) c.args.disk c.run_command.result.0
     (subst (λ command. Accepts g.D.Disk.TELLS g.D.Disk.reads command (g.S.Source.left c.args.source.now) c.args.disk c.run_command.result.0) same c.run_command.ensures.accepted)
+
+pub returns-in-Ok-clause-accepted_reports : goal.returns-in-Ok-clause-accepted_reports
+returns-in-Ok-clause-accepted_reports g c said honest pieces records read =
+    let same = said_once (texts c.args.words.now) c.in-Ok.command Report c.in-Ok.ensures.each_command said in
+    c.run_command.ensures.asked (subst (λ command. HasAsked g.D.Disk.TELLS g.D.Disk.reads command c.args.disk) (sym same) (honest, (pieces, (records, read))))
+
+pub returns-in-Ok-clause-accepted_roots : goal.returns-in-Ok-clause-accepted_roots
+returns-in-Ok-clause-accepted_roots g c root said honest there =
+    let same = said_once (texts c.args.words.now) c.in-Ok.command (Certify root) c.in-Ok.ensures.each_command said in
+    c.run_command.ensures.asked (subst (λ command. HasAsked g.D.Disk.TELLS g.D.Disk.reads command c.args.disk) (sym same) (honest, there))
+
+pub returns-in-Ok-clause-accepted_pieces : goal.returns-in-Ok-clause-accepted_pieces
+returns-in-Ok-clause-accepted_pieces g c pieces said =
+    let same = said_once (texts c.args.words.now) c.in-Ok.command (MakeTable pieces) c.in-Ok.ensures.each_command said in
+    c.run_command.ensures.asked (subst (λ command. HasAsked g.D.Disk.TELLS g.D.Disk.reads command c.args.disk) (sym same) tt)
+
+pub returns-in-Ok-clause-looked : goal.returns-in-Ok-clause-looked
+returns-in-Ok-clause-looked g c honest command said cause stands =
+    let same = said_once (texts c.args.words.now) c.in-Ok.command command c.in-Ok.ensures.each_command said in
+    c.run_command.ensures.looked honest cause (subst (λ x. HasLookCause x (g.D.Disk.reads c.args.disk) cause) (sym same) stands)
+
+pub returns-in-Ok-clause-openings : goal.returns-in-Ok-clause-openings
+returns-in-Ok-clause-openings g c command said finished =
+    let same = said_once (texts c.args.words.now) c.in-Ok.command command c.in-Ok.ensures.each_command said in
+    subst (λ x. WritesOnly (g.K.Sink.taken c.args.sink.now) (g.K.Sink.taken c.run_command.new.sink) (HoldsOpenings x (g.S.Source.left c.args.source.now))) same (c.run_command.ensures.openings finished)

@@ -1,25 +1,8 @@
-use Rattle.opening_bench.specs.Steps.{AnswersSource, SaysTrue}
-use Rattle.opening_bench.proofs.RefusalLemmas.{if_ok_at}
-use Rattle.opening_bench.proofs.SolvingLemmas.{output_holds}
-use Rattle.opening_bench.proofs.WritingLemmas.{line_values, output_has}
-use Rattle.opening_report.specs.Report.{ValuesAreTrue}
+use Rattle.opening_bench.proofs.LookingLemmas.{asked_quiet, look_quiet}
 use Rattle.opening_bench.proofs.bench.run_command.Goals as goal
 
-pub returns-in-Ok-clause-values : goal.returns-in-Ok-clause-values
-returns-in-Ok-clause-values g c =
-    output_has ValuesAreTrue c.in-Ok.output.text.items c.in-Ok.output.is_settled (g.K.Sink.taken c.args.sink.now) (g.K.Sink.taken c.write_output.new.sink)
-    (if_ok_at c.answer-disk.result.1 c.in-Ok.output c.in-Ok.is (λ output. SaysTrue output.text.items) c.answer-disk.ensures.says) c.write_output.result c.write_output.ensures.taken
+pub returns-then-searches-clause-asked : goal.returns-then-searches-clause-asked
+returns-then-searches-clause-asked g c asked = absurd (asked_quiet g.D.Disk.TELLS g.D.Disk.reads c.args.command c.args.disk asked (c.searches.ensures.yes c.if-searches.true))
 
-pub returns-in-Ok-clause-openings : goal.returns-in-Ok-clause-openings
-returns-in-Ok-clause-openings g c finished =
-    output_holds g.D.Disk.TELLS g.D.Disk.reads g.D.Disk.images g.D.Disk.images_since g.D.Disk.moment g.D.Disk.faults c.args.command (g.S.Source.left c.args.source.now) c.args.disk c.answer-disk.result.0
-    c.in-Ok.output.text.items c.in-Ok.output.is_settled (g.K.Sink.taken c.args.sink.now) (g.K.Sink.taken c.write_output.new.sink) c.write_output.result finished
-    (if_ok_at c.answer-disk.result.1 c.in-Ok.output c.in-Ok.is
-    (λ output. AnswersSource g.D.Disk.TELLS g.D.Disk.reads g.D.Disk.images g.D.Disk.images_since g.D.Disk.moment g.D.Disk.faults c.args.command (g.S.Source.left c.args.source.now) c.args.disk c.answer-disk.result.0 output.text.items output.is_settled)
-    c.answer-disk.ensures.answers)
-    c.write_output.ensures.taken
-
-pub returns-in-Err-clause-values : goal.returns-in-Err-clause-values
-returns-in-Err-clause-values g c =
-    line_values c.in-Err.refusal (g.K.Sink.taken c.args.sink.now) (g.K.Sink.taken c.refuse.new.sink) (g.K.Sink.faults c.args.sink.now) (g.K.Sink.faults c.refuse.new.sink)
-    c.refuse.ensures.said c.refuse.ensures.line
+pub returns-then-searches-clause-looked : goal.returns-then-searches-clause-looked
+returns-then-searches-clause-looked g c honest cause stands = absurd (look_quiet c.args.command (g.D.Disk.reads c.args.disk) cause stands (c.searches.ensures.yes c.if-searches.true))

@@ -1,7 +1,7 @@
 use Rattle.std.proofs.Common.{◌≡◌, ◌≢◌, ◌<◌, ◌∙◌, ℕ, List, length, length-set, arith, ap, sym, subst}
 use Rattle.std.proofs.lemmas.List.{with_items_is}
 use Rattle.std.specs.Vec.{with_items}
-use Rattle.proof_tree.specs.declared.rows.Row.{Row}
+use Rattle.proof_tree.specs.declared.rows.NodeRow.{NodeRow}
 use Rattle.proof_tree.specs.Rows.{row_at, opened, AreLinked, AreRekept, AreExpanded, AreCounted, Fits}
 use Rattle.proof_tree.proofs.Expanding.{AreExpanded-rekept}
 use Rattle.proof_tree.proofs.Opening.{pushed, after, AreExpanded-after, AreCounted-expanded, links_after, Fits-after}
@@ -31,9 +31,9 @@ open-requires-clause-counted c =
 
 pub open-requires-clause-fits : goal.open-requires-clause-fits
 open-requires-clause-fits c k l h =
-    subst (λ (xs : List Row). Fits xs k) (sym (after_is c))
+    subst (λ (xs : List NodeRow). Fits xs k) (sym (after_is c))
     (Fits-after c.args.rows.now.items c.args.at c.args.children.now c.requires.linked c.requires.inside c.requires.leaf c.requires.fits k
-    (subst (λ (xs : List Row). k < length xs) (rows_are c) l) h)
+    (subst (λ (xs : List NodeRow). k < length xs) (rows_are c) l) h)
 
 module _ (c : goal.After-rows-1) where
   rows_now : c.deref_mut.result.now ≡ pushed c.args.rows.now.items c.args.at c.args.children.now c.requires.linked c.requires.inside c.requires.leaf
@@ -47,7 +47,7 @@ module _ (c : goal.After-rows-1) where
   after_now = λ i. opened (rows_now i) c.args.at (row_at (rows_now i) c.args.at) (first_now i) (length c.args.children.now)
 
   same : AreRekept (after c.args.rows.now.items c.args.at c.args.children.now c.requires.linked c.requires.inside c.requires.leaf) c.open.new.rows
-  same = subst (λ (xs : List Row). AreRekept xs c.open.new.rows) after_now c.open.ensures.same
+  same = subst (λ (xs : List NodeRow). AreRekept xs c.open.new.rows) after_now c.open.ensures.same
 
   step : AreExpanded c.args.rows.now.items c.open.new.rows c.args.at c.args.children.now
   step =
@@ -59,8 +59,8 @@ module _ (c : goal.After-rows-1) where
       (c.open.ensures.same.links.as_long ∙ length-set c.deref_mut.result.now c.args.at _ ∙ c.deref_mut.ensures.len)
 
 pub returns-clause-step : goal.returns-clause-step
-returns-clause-step c = subst (λ (xs : List Row). AreExpanded c.args.rows.now.items xs c.args.at c.args.children.now) (sym (written c)) (step c)
+returns-clause-step c = subst (λ (xs : List NodeRow). AreExpanded c.args.rows.now.items xs c.args.at c.args.children.now) (sym (written c)) (step c)
 
 pub returns-clause-fits : goal.returns-clause-fits
 returns-clause-fits c k l =
-    subst (λ (xs : List Row). k < length xs → Fits xs k) (sym (written c)) (c.open.ensures.fits k) l
+    subst (λ (xs : List NodeRow). k < length xs → Fits xs k) (sym (written c)) (c.open.ensures.fits k) l

@@ -1,5 +1,5 @@
 use Rattle.std.proofs.Common.{◌≡◌, ◌∙◌, ◌++◌, ◌∷◌, [], ap, sym, subst, refl, rules, ℕ, List, Bool, true, false, Option, Some, None}
-use Rattle.std.specs.Prelude.{eqb, not, filter, find, ◌&&◌}
+use Rattle.std.specs.Prelude.{eqb, is_some, not, filter, find, ◌&&◌}
 use Rattle.std.specs.Map.{lookup}
 use Rattle.std.specs.Option.{option_map_or}
 use Rattle.std.proofs.lemmas.Bool.{false≢true, eq-eqb, ne_eqb}
@@ -9,18 +9,20 @@ use Rattle.indexmap.proofs.CallerLemmas.{insert_entry-new}
 use Rattle.lease_table.specs.declared.leases.Row.{Row}
 use Rattle.lease_table.specs.Rows.{LeaseRows, is_live_row, has_id, is_of, row_with, without, without_node, marked}
 use Rattle.lease_table.specs.Tables.{rows_of, IsLeaseTable}
-use Rattle.lease_table.proofs.TableLemmas.{row_found, leased_is, noted_lives, node_lives, still_table, rows_filtered, marked_table, marked_is, given_table, none_filtered}
+use Rattle.lease_table.proofs.TableLemmas.{row_found, leased_is, noted_lives, node_lives, still_table, rows_filtered, marked_table, marked_is, given_table, none_standing}
 use Rattle.lease_table.proofs.TableLemmas.{none_known, absent_filtered}
 use Rattle.std.proofs.lemmas.List.{map_push}
 use Rattle.lease_table.proofs.table.Leases.give.Goals as goal
 
 pub drop_rows_of-requires : goal.drop_rows_of-requires
 drop_rows_of-requires c =
-    λ unknown.
-    let known : lookup (eqb c.args.lease.node) c.self.inside.nodes.entries ≡ None =
-    ap (lookup (eqb c.args.lease.node)) (sym c.in_ok-reserve-2.ensures.entries) ∙ sym c.in-Ok.ensures.old ∙ none_known c.in-Ok.known (sym c.is_some.ensures ∙ unknown) in
+    λ stands.
+    let known : c.in-Ok.last ≡ lookup (eqb c.args.lease.node) c.self.inside.nodes.entries =
+    c.in-Ok.ensures.old ∙ ap (lookup (eqb c.args.lease.node)) c.in_ok-reserve-2.ensures.entries in
+    let none = sym c.has_row-stands.ensures ∙ stands in
     subst (λ (es : List (ℕ × Row)). filter (λ e. not (is_of c.args.lease.node e.1)) es ≡ es) (sym c.in_ok-reserve.ensures.entries)
-    (none_filtered c.args.lease.node c.self.inside.nodes.entries c.self.inside.rows.entries c.self.invariant.noted known)
+    (none_standing c.args.lease.node c.self.inside.nodes.entries c.self.inside.rows.entries c.self.invariant.noted c.in-Ok.last known
+    (ap (λ (es : List (ℕ × Row)). option_map_or (λ id. is_some (lookup (eqb id) es)) c.in-Ok.last false) (sym c.in_ok-reserve.ensures.entries) ∙ none))
 
 pub invariant_of-self-2 : goal.invariant_of-self-2
 invariant_of-self-2 c =

@@ -1,5 +1,23 @@
 use Rattle.opening_bench.proofs.CertificateLemmas.{certified_says}
+use Rattle.opening_bench.proofs.LookingLemmas.{look_accepts, look_answers, memory_accepts, no_error}
+use Rattle.opening_bench.proofs.CauseLemmas.{uncertified}
 use Rattle.opening_bench.proofs.commands.certify.certify.Goals as goal
 
 pub returns-in-Ok-clause-says : goal.returns-in-Ok-clause-says
 returns-in-Ok-clause-says g c = certified_says _ c.certificate_text.result (λ output. output.text.items) c.certificate_text.ensures.text
+
+pub returns-in-Ok-clause-asked : goal.returns-in-Ok-clause-asked
+returns-in-Ok-clause-asked g c asked = memory_accepts c.certificate_text.result c.certificate_text.ensures.refused
+
+pub returns-in-Ok-clause-looked : goal.returns-in-Ok-clause-looked
+returns-in-Ok-clause-looked g c honest cause stands = absurd (no_error c.in-Ok.certificate cause (c.in-Ok.ensures.causes honest cause stands))
+
+pub returns-in-Err-clause-asked : goal.returns-in-Err-clause-asked
+returns-in-Err-clause-asked g c asked = look_accepts c.in-Err.refusal c.refusal_of.result c.refusal_of.ensures (c.in-Err.ensures.accepted asked.0 asked.1)
+
+pub returns-in-Err-clause-looked : goal.returns-in-Err-clause-looked
+returns-in-Err-clause-looked g c honest cause stands = look_answers _ _ c.in-Err.refusal cause c.refusal_of.result c.refusal_of.ensures (c.in-Err.ensures.causes honest cause stands)
+
+pub returns-in-Err-clause-refused : goal.returns-in-Err-clause-refused
+returns-in-Err-clause-refused g c =
+    uncertified g.D.Disk.TELLS g.D.Disk.reads g.D.Disk.images g.D.Disk.images_since g.D.Disk.moment g.D.Disk.faults _ c.args.root c.args.disk c.certify.new.disk c.in-Err.refusal c.refusal_of.result c.refusal_of.ensures c.in-Err.ensures.cause c.in-Err.ensures.refused

@@ -1,4 +1,4 @@
-use Rattle.std.proofs.Common.{◌≡◌, rules}
+use Rattle.std.proofs.Common.{◌≡◌, inl, rules}
 use Rattle.opening_bench.proofs.JournalLemmas.{run_all_accepts}
 use Rattle.opening_bench.proofs.SolvingLemmas.{run_says}
 use Rattle.opening_bench.proofs.commands.solve.solve.Goals as goal
@@ -11,3 +11,6 @@ returns-in-Ok-clause-accepted g c =
     let same : c.as_slice.result.now ≡ c.in-Ok.positions.keys = search rules in
     run_all_accepts g.D.Disk.TELLS g.D.Disk.reads g.D.Disk.images g.D.Disk.images_since g.D.Disk.moment g.D.Disk.faults c.args.options.now c.args.text.now c.in-Ok.positions.keys c.as_slice.result.now c.args.disk c.run_with.result.0 c.run_with.result.1
     c.in-Ok.ensures.read same c.run_with.ensures.refused
+
+pub returns-in-Err-clause-refused : goal.returns-in-Err-clause-refused
+returns-in-Err-clause-refused g c = inl c.in-Err.ensures.refused

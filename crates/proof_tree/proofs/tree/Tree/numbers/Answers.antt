@@ -1,13 +1,13 @@
 use Rattle.std.proofs.Common.{◌≡◌, ℕ, ◌∙◌}
 use Rattle.draughts_board.specs.declared.pieces.Side.{Side}
 use Rattle.draughts_board.specs.declared.pieces.Side.TheVariants.{Black, White}
-use Rattle.proof_tree.specs.declared.rows.Row.{Row}
+use Rattle.proof_tree.specs.declared.rows.NodeRow.{NodeRow}
 use Rattle.proof_tree.specs.Forest.{Node, node_at, node_numbers}
 use Rattle.proof_tree.specs.Rows.{IsRowOf, kept_numbers}
 use Rattle.proof_tree.proofs.Trees.{if_some-map}
 use Rattle.proof_tree.proofs.tree.Tree.numbers.Goals as goal
 
-by_goal : (s : Side) (n : ℕ) (row : Row) (x : Node) → IsRowOf n row x → kept_numbers s row ≡ node_numbers s x
+by_goal : (s : Side) (n : ℕ) (row : NodeRow) (x : Node) → IsRowOf n row x → kept_numbers s row ≡ node_numbers s x
 by_goal Black n row x r = r.black
 by_goal White n row x r = r.white
 

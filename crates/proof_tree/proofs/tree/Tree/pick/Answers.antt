@@ -1,8 +1,8 @@
-use Rattle.std.proofs.Common.{◌≡◌, ◌<◌, ℕ, None, List, length, map, get_or, arith, sym, ap, subst, ◌∙◌}
+use Rattle.std.proofs.Common.{◌≡◌, ◌<◌, ◌≤◌, ℕ, None, List, length, map, get_or, arith, sym, ap, subst, ◌∙◌}
 use Rattle.std.specs.Map.{values_of}
-use Rattle.proof_tree.specs.declared.rows.Row.{Row}
+use Rattle.proof_tree.specs.declared.rows.NodeRow.{NodeRow}
 use Rattle.proof_tree.specs.Picking.{pick, pick_from}
-use Rattle.proof_tree.specs.Rows.{row_at, node_in, nodes_from}
+use Rattle.proof_tree.specs.Rows.{row_at, node_in, nodes_from, settled_front}
 use Rattle.proof_tree.specs.Sound.{TreeState}
 use Rattle.proof_tree.proofs.Choosing.{nodes-forest}
 use Rattle.proof_tree.proofs.Picked.{picked-clause}
@@ -11,25 +11,33 @@ use Rattle.proof_tree.proofs.tree.Tree.pick.Goals as goal
 
 pub pick_from-requires-clause-inside : goal.pick_from-requires-clause-inside
 pick_from-requires-clause-inside g c i l =
-    let R = c.as_slice.ensures ∙ c.values.ensures.rest in
+    let R = c.as_slice.ensures ∙ c.values-roots.ensures.rest in
     let D = c.deref.ensures.value in
     let l' : i < length (values_of c.self.inside.roots.entries) = subst (λ (ts : List ℕ). i < length ts) R l in
-    let t = tops-are c.self.inside.rows.items (values_of c.self.inside.roots.entries) c.self.invariant.roots i l' in
+    let t = tops-are c.self.inside.rows.items (values_of c.self.inside.roots.entries) c.self.invariant.tree.roots i l' in
     subst (λ (ts : List ℕ). get_or ts i 0 < length c.deref.result.now) (sym R)
-    (subst (λ (rs : List Row). get_or (values_of c.self.inside.roots.entries) i 0 < length rs) (sym D) t.0)
+    (subst (λ (rs : List NodeRow). get_or (values_of c.self.inside.roots.entries) i 0 < length rs) (sym D) t.0)
 
 pub pick_from-requires-clause-tops : goal.pick_from-requires-clause-tops
 pick_from-requires-clause-tops g c i l =
-    let R = c.as_slice.ensures ∙ c.values.ensures.rest in
+    let R = c.as_slice.ensures ∙ c.values-roots.ensures.rest in
     let D = c.deref.ensures.value in
     let l' : i < length (values_of c.self.inside.roots.entries) = subst (λ (ts : List ℕ). i < length ts) R l in
-    let t = tops-are c.self.inside.rows.items (values_of c.self.inside.roots.entries) c.self.invariant.roots i l' in
+    let t = tops-are c.self.inside.rows.items (values_of c.self.inside.roots.entries) c.self.invariant.tree.roots i l' in
     subst (λ (ts : List ℕ). (row_at c.deref.result.now (get_or ts i 0)).parent ≡ None) (sym R)
-    (subst (λ (rs : List Row). (row_at rs (get_or (values_of c.self.inside.roots.entries) i 0)).parent ≡ None) (sym D) t.1)
+    (subst (λ (rs : List NodeRow). (row_at rs (get_or (values_of c.self.inside.roots.entries) i 0)).parent ≡ None) (sym D) t.1)
+
+pub pick_from-requires-clause-settled : goal.pick_from-requires-clause-settled
+pick_from-requires-clause-settled g c =
+    let R = c.as_slice.ensures ∙ c.values-roots.ensures.rest in
+    let D = c.deref.ensures.value in
+    subst (λ (ts : List ℕ). c.self.inside.front ≤ settled_front (map (node_in (nodes_from 0 c.deref.result.now)) ts)) (sym R)
+    (subst (λ (rs : List NodeRow). c.self.inside.front ≤ settled_front (map (node_in (nodes_from 0 rs)) (values_of c.self.inside.roots.entries))) (sym D)
+    (let same = c.self.invariant.settled ∙ ap settled_front (nodes-forest (map (node_in (nodes_from 0 c.self.inside.rows.items)) (values_of c.self.inside.roots.entries))) in omega (arith, same)))
 
 pub returns-clause-value : goal.returns-clause-value
 returns-clause-value g c =
-    let R = c.as_slice.ensures ∙ c.values.ensures.rest in
+    let R = c.as_slice.ensures ∙ c.values-roots.ensures.rest in
     let D = c.deref.ensures.value in
     c.pick_from.ensures
     ∙ (λ i. pick_from (g.T.Taken.taken c.args.taken.now) (map (node_in (nodes_from 0 (D i))) (R i)))
@@ -38,5 +46,5 @@ returns-clause-value g c =
 
 pub returns-clause-leaf : goal.returns-clause-leaf
 returns-clause-leaf g c =
-    let v = valid c.self.inside.rows.items c.self.inside.roots.entries _ _ c.self.inside.spare c.self.invariant c.args.self.now c.self.view_is in
+    let v = valid c.self.inside.rows.items c.self.inside.roots.entries _ _ c.self.inside.spare c.self.invariant.tree c.args.self.now c.self.view_is in
     picked-clause (g.T.Taken.taken c.args.taken.now) c.args.self.now.forest c.pick_from.result (returns-clause-value g c) v.sound

@@ -5,8 +5,8 @@ use Rattle.proof_tree.proofs.tree.Tree.roots.Goals as goal
 pub returns-clause-value : goal.returns-clause-value
 returns-clause-value c =
     let e = c.len.ensures.len in
-    let m = roots-many c.self.inside.rows.items c.self.inside.roots.entries _ _ c.self.inside.spare c.self.invariant c.args.self.now c.self.view_is in
+    let m = roots-many c.self.inside.rows.items c.self.inside.roots.entries _ _ c.self.inside.spare c.self.invariant.tree c.args.self.now c.self.view_is in
     omega (arith, e, m)
 
 pub returns-clause-valid : goal.returns-clause-valid
-returns-clause-valid c = valid c.self.inside.rows.items c.self.inside.roots.entries _ _ c.self.inside.spare c.self.invariant c.args.self.now c.self.view_is
+returns-clause-valid c = valid c.self.inside.rows.items c.self.inside.roots.entries _ _ c.self.inside.spare c.self.invariant.tree c.args.self.now c.self.view_is

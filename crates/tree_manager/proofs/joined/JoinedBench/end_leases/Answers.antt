@@ -1,4 +1,7 @@
+use Rattle.std.proofs.Common.{◌∙◌}
 use Rattle.tree_manager.proofs.IdLemmas.{EndedOneMore, ended_all, ended_none, ended_step}
+use Rattle.tree_manager.proofs.HistoryLaws.{history_stands}
+use Rattle.tree_manager.proofs.UnleasedLemmas.{unleased}
 use Rattle.tree_manager.proofs.joined.JoinedBench.end_leases.Goals as goal
 
 pub loop-id-init : goal.loop-id-init
@@ -14,5 +17,13 @@ loop-id-smaller g c =
     (ended_step c.args.self.now c.loop-id.self c.release-ended.new.self c.in-Some.id c.release-ended.result c.loop-id.invariant c.in-Some.ensures.first c.in-Some.ensures.least c.release-ended.ensures.appends
     c.release-ended.ensures.disk _ c.release-ended.ensures.stale).fewer
 
-pub returns : goal.returns
-returns g c = ended_all c.args.self.now c.loop-id.self c.loop-id.invariant c.in_default.ensures.first
+pub returns-clause-ended : goal.returns-clause-ended
+returns-clause-ended g c = ended_all c.args.self.now c.loop-id.self c.loop-id.invariant c.in_default.ensures.first
+
+pub returns-clause-unleased : goal.returns-clause-unleased
+returns-clause-unleased g c none =
+    let ended = ended_all c.args.self.now c.loop-id.self c.loop-id.invariant c.in_default.ensures.first in
+    unleased c.loop-id.self.line c.loop-id.self.core (history_stands c.loop-id.self.line c.loop-id.self.core c.in_default.ensures.history).0 (ended.staged ∙ none) ended.kept
+
+pub returns-clause-stands : goal.returns-clause-stands
+returns-clause-stands g c = (history_stands c.loop-id.self.line c.loop-id.self.core c.in_default.ensures.history).0

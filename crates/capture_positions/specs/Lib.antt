@@ -1,0 +1,4 @@
+pub mod Jumps
+pub mod Walk
+pub mod Laws
+pub mod Examples

@@ -1,0 +1,59 @@
+//! Work on a session by many workers, and what follows it.
+ghost use Rattle.std.specs.Prelude.{◌≡◌, ◌≤◌};
+ghost use Rattle.tree_manager.specs.Lines.{session_pieces, session_depth};
+ghost use Rattle.tree_manager.specs.Turns.{GrowsByTurns};
+ghost use Rattle.worker_gate.specs.Work.{CanSearch};
+ghost use Rattle.journal_runs.specs.Ends.{IsEndedBy};
+
+use crate::alone::work_alone;
+use bench_disk::Disk;
+use leaf_search::MOST_DEPTH;
+use std::alloc::{AllocError, Global};
+use std::sync::Wait;
+use std::thread::Threads;
+use strategy_certificate::Oracle;
+use tree_manager::{Session, SharedBench};
+use worker_gate::{Ended, Gate, run_workers};
+
+/// Commits what is staged, ends the leases that are left, and works on with the session alone.
+///
+/// With `Done` and `Spent` the session is idle.
+fn go_on_alone<D: Disk, O: Oracle>(alloc: Global, session: &mut Session<D>, oracle: &O) -> Ended
+    requires { CanSearch (O.piece_limit oracle.now) session.old.line }
+    ensures grows { GrowsByTurns session.old.line session.new.line }
+    ensures ended { IsEndedBy result session.new }
+{
+    match session.commit() {
+        Ok(_) => {
+            session.end_leases();
+            work_alone(alloc, session, oracle)
+        }
+        Err(_) => Ended::Failed,
+    }
+}
+
+/// Workers share the session until none of them finds more to do; then it goes on with the session alone.
+///
+/// How it ended rests on no answer of a worker: it is said of the session that comes back, and of that alone.
+pub fn work_together<R: Threads + Wait + Sync, D: Disk + Send, O: Oracle + Sync, G: Gate + Sync>(
+    rt: &R,
+    alloc: Global,
+    session: Session<D>,
+    workers: u8,
+    oracle: &O,
+    gate: &G,
+) -> (Session<D>, Ended)
+    requires tables { O.piece_limit oracle.now ≡ session_pieces session.line }
+    requires depth { session_depth session.line ≤ MOST_DEPTH }
+    ensures grows { GrowsByTurns session.line result.0.line }
+    ensures ended { IsEndedBy result.1 result.0 }
+{
+    let (shared, mut pass) = match SharedBench::new(alloc, session) {
+        Ok(made) => made,
+        Err((session, AllocError)) => return (session, Ended::Memory),
+    };
+    run_workers(rt, alloc, &shared, &mut pass, workers, oracle, gate);
+    let mut session = shared.finish(rt, pass);
+    let ended = go_on_alone(alloc, &mut session, oracle);
+    (session, ended)
+}

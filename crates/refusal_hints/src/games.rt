@@ -1,0 +1,280 @@
+//! Games that have no opening: of another game, from no position, or with a move that is none.
+ghost use Rattle.std.specs.Prelude.{◌≤◌, ◌<◌, ◌+◌, length};
+
+use crate::boards::{say_position, side_name};
+use crate::excerpts::say_excerpt;
+use crate::fens::{place_in_fen, say_fen_fault};
+use crate::move_lists::{is_capture, legal_moves_text, push_moves};
+use crate::pdn::{QUOTE_WIDTH, word_from};
+use crate::places::place_of;
+use crate::texts::{quote, say, say_number};
+use draughts_board::{Move, Position, is_written};
+use draughts_rules::legal_moves;
+use fen_text::FenRefusal;
+use pdn_openings::{OpeningRefusal, openings};
+use pdn_text::{Game, MoveText, PdnRefusal, read_games};
+use std::alloc::{AllocError, Global};
+
+/// The games of a source; none where it has no games to be read.
+pub(crate) fn games_of(alloc: Global, source: &[u8]) -> Result<Vec<Game>, AllocError> {
+    match read_games(alloc, source) {
+        Ok(games) => Ok(games),
+        Err(PdnRefusal::Memory(error)) => Err(error),
+        Err(_) => Ok(Vec::new(alloc)),
+    }
+}
+
+/// The game with this number, counted from 1.
+pub(crate) fn game_numbered(games: &[Game], number: u32) -> Option<&Game> {
+    if number == 0 {
+        return None;
+    }
+    games.get(number as usize - 1)
+}
+
+/// The value of a game's first tag of this name.
+fn value_of<'a>(game: &'a Game, name: &[u8]) -> Option<&'a [u8]> {
+    let first = game
+        .tags
+        .as_slice()
+        .iter()
+        .find(|tag| tag.name.as_slice() == name)?;
+    Some(first.value.as_slice())
+}
+
+/// The front of these bytes that is quoted.
+fn cut(bytes: &[u8]) -> &[u8] {
+    &bytes[..bytes.len().min(QUOTE_WIDTH)]
+}
+
+/// Appends a game's number, and in parentheses its event and its players where it names them.
+fn say_game(text: &mut Vec<u8>, number: u32, game: &Game) -> Result<(), AllocError> {
+    say_number(text, "Game ", u64::from(number), "")?;
+    let mut before = " (";
+    for name in ["Event", "Black", "White"] {
+        if let Some(value) = value_of(game, name.as_bytes()) {
+            say(text, before)?;
+            say(text, name)?;
+            say(text, ": ")?;
+            quote(text, cut(value))?;
+            before = ", ";
+        }
+    }
+    say(text, if before == ", " { ")" } else { "" })
+}
+
+/// Appends that a game is of another kind, and which.
+pub(crate) fn say_other_game(
+    text: &mut Vec<u8>,
+    number: u32,
+    game: &Game,
+) -> Result<(), AllocError> {
+    say_game(text, number, game)?;
+    say(text, " has the tag GameType \"")?;
+    quote(text, cut(value_of(game, b"GameType").unwrap_or(b"")))?;
+    say(
+        text,
+        "\". English draughts is 21: [GameType \"21\"], or no such tag. Take the game out of the file.\n",
+    )
+}
+
+/// Where the games before this one have their last move, at most the end of the source.
+fn end_of_earlier(games: &[Game], number: u32, source: &[u8]) -> usize
+    ensures { result ≤ length source.now }
+{
+    let mut end = 0;
+    let most = games.len().min(number.saturating_sub(1) as usize);
+    for game in &games[..most] {
+        if let Some(written) = game.moves.as_slice().last() {
+            end = written.end;
+        }
+    }
+    end.min(source.len())
+}
+
+/// The place from `from` on at which these bytes stand behind a quotation mark.
+fn find_quoted(source: &[u8], from: usize, bytes: &[u8]) -> Option<usize>
+    requires { from ≤ length source.now }
+{
+    for place in from..source.len() {
+        if source[place] == b'"' && source[place + 1..].starts_with(bytes) {
+            return Some(place + 1);
+        }
+    }
+    None
+}
+
+/// Appends a line and a column, and the text as it stands there.
+pub(crate) fn say_place(text: &mut Vec<u8>, source: &[u8], at: usize) -> Result<(), AllocError> {
+    let at = at.min(source.len());
+    let place = place_of(source, at);
+    say_number(text, "line ", place.line as u64, "")?;
+    say_number(text, ", column ", place.column as u64, ":\n")?;
+    say_excerpt(text, source, at)
+}
+
+/// Appends why the FEN of a game is none: where it stands, and the fault in words.
+pub(crate) fn say_fen(
+    text: &mut Vec<u8>,
+    games: &[Game],
+    number: u32,
+    fault: FenRefusal,
+    source: &[u8],
+) -> Result<(), AllocError> {
+    let Some(game) = game_numbered(games, number) else {
+        return say_fen_fault(text, b"", fault);
+    };
+    let fen = value_of(game, b"FEN").unwrap_or(b"");
+    let within = place_in_fen(fault).unwrap_or(0);
+    match find_quoted(source, end_of_earlier(games, number, source), fen) {
+        Some(place) => say_place(text, source, place.saturating_add(within)),
+        None => say_excerpt(text, fen, within.min(fen.len())),
+    }?;
+    say_game(text, number, game)?;
+    say(text, " begins from no position. ")?;
+    say_fen_fault(text, fen, fault)
+}
+
+/// The position before the move of a ply, counted from 1, of the game with this number; none where
+/// it cannot be had.
+fn position_before(
+    alloc: Global,
+    games: &[Game],
+    number: u32,
+    ply: u32,
+) -> Result<Option<Position>, AllocError> {
+    let at = number.saturating_sub(1) as usize;
+    if at >= games.len() {
+        return Ok(None);
+    }
+    match openings(alloc, &games[at..at + 1], ply.saturating_sub(1)) {
+        Ok(found) => match found.first() {
+            Some(opening) => Ok(Some(opening.position)),
+            None => Ok(None),
+        },
+        Err(OpeningRefusal::Memory(error)) => Err(error),
+        Err(_) => Ok(None),
+    }
+}
+
+/// The sides of a position that cannot move, or which moves are legal.
+fn say_legal(text: &mut Vec<u8>, alloc: Global, p: &Position) -> Result<(), AllocError> {
+    let moves = legal_moves(alloc, p)?;
+    let side = side_name(p.to_move());
+    match moves.first() {
+        None => {
+            say(text, side)?;
+            say(text, " has no legal move: the game is over.\n")
+        }
+        Some(first) => {
+            say(text, side)?;
+            if is_capture(first.path()) {
+                say(text, " has to capture. The captures: ")?;
+            } else {
+                say(text, " has no capture. The legal moves: ")?;
+            }
+            text.extend_from_slice(&legal_moves_text(alloc, p)?)?;
+            say(text, "\n")
+        }
+    }
+}
+
+/// Appends why a written move cannot be made, so far as its first square says.
+fn say_first_square(text: &mut Vec<u8>, p: &Position, written: &Move) -> Result<(), AllocError> {
+    let from = written.path()[0];
+    let cell = p.at(from);
+    if cell.belongs_to(p.to_move()) {
+        return Ok(());
+    }
+    let number = u64::from(from.number());
+    if cell.is_empty() {
+        return say_number(text, "No piece stands on ", number, ".\n");
+    }
+    say_number(text, "The piece on ", number, " is ")?;
+    say(text, side_name(p.to_move().other()))?;
+    say(
+        text,
+        "'s: a move before it may be missing or stand there twice.\n",
+    )
+}
+
+/// The star that ends the game before may have been meant for the move behind it.
+fn follows_star(source: &[u8], at: usize) -> bool
+    requires { at ≤ length source.now }
+{
+    let front = source[..at].trim_ascii_end();
+    front.ends_with(b"*")
+}
+
+/// Appends the position before a move, and what is legal there.
+fn say_illegal(
+    text: &mut Vec<u8>,
+    alloc: Global,
+    p: &Position,
+    written: &MoveText,
+) -> Result<(), AllocError> {
+    say(text, " is not legal.\n")?;
+    say_first_square(text, p, &written.squares)?;
+    say_position(text, p)?;
+    say_legal(text, alloc, p)
+}
+
+/// Appends which legal moves are written so.
+fn say_ambiguous(
+    text: &mut Vec<u8>,
+    alloc: Global,
+    p: &Position,
+    written: &MoveText,
+) -> Result<(), AllocError> {
+    let squares = written.squares.path();
+    let last = squares.len() - 1;
+    let (from, middle, to) = (squares[0], &squares[1..last], squares[last]);
+    let mut moves = legal_moves(alloc, p)?;
+    moves.retain(|m| is_written(m, from, middle, to));
+    say(
+        text,
+        " may mean two moves that differ. Write all squares of the one that was played: ",
+    )?;
+    push_moves(text, &moves)?;
+    say(text, "\n")?;
+    say_position(text, p)
+}
+
+/// Appends what is wrong with the move of a ply of a game, whose first byte stands at `at`.
+pub(crate) fn say_move_fault(
+    text: &mut Vec<u8>,
+    alloc: Global,
+    source: &[u8],
+    at: usize,
+    number: u32,
+    ply: u32,
+    is_ambiguous: bool,
+) -> Result<(), AllocError>
+    requires { at ≤ length source.now }
+{
+    say_excerpt(text, source, at)?;
+    let games = games_of(alloc, source)?;
+    let Some(game) = game_numbered(&games, number) else {
+        return Ok(());
+    };
+    let Some(written) = game.moves.as_slice().get(ply.saturating_sub(1) as usize) else {
+        return Ok(());
+    };
+    let Some(p) = position_before(alloc, &games, number, ply)? else {
+        return Ok(());
+    };
+    say_game(text, number, game)?;
+    say_number(text, ", ply ", u64::from(ply), ": ")?;
+    quote(text, word_from(source, at))?;
+    if is_ambiguous {
+        return say_ambiguous(text, alloc, &p, written);
+    }
+    say_illegal(text, alloc, &p, written)?;
+    if ply == 1 && follows_star(source, at) {
+        say(
+            text,
+            "A star before a move is read as the end of the game before it.\n",
+        )?;
+    }
+    Ok(())
+}

@@ -1,0 +1,85 @@
+//! Moves, and the list of those that are legal.
+ghost use Rattle.std.specs.Prelude.{◌≡◌, ◌≤◌, ◌++◌, ◌∷◌, [], ℕ, length, IfOk, OnOk};
+ghost use Rattle.draughts_board.specs.Play.{legal_paths};
+ghost use Rattle.certificate_text.specs.Lines.{further_squares, move_text, separator};
+ghost use Rattle.refusal_hints.specs.MoveLists.{further_moves, moves_text};
+
+use draughts_board::{Move, Position, Square};
+use draughts_rules::legal_moves;
+use shared_words::push_number;
+use std::alloc::{AllocError, Global};
+
+/// The path is that of a capture, or jumps at least.
+pub(crate) fn is_capture(path: &[Square]) -> bool
+    requires { 2 ≤ length path.now }
+{
+    path[0].row().abs_diff(path[1].row()) == 2
+}
+
+/// What stands between the squares of a path.
+fn separator(path: &[Square]) -> u8
+    requires { 2 ≤ length path.now }
+    ensures { result ≡ separator path.now }
+{
+    if path[0].row().abs_diff(path[1].row()) == 2 {
+        b'x'
+    } else {
+        b'-'
+    }
+}
+
+/// Appends squares, each behind the separator.
+fn push_further(text: &mut Vec<u8>, separator: u8, squares: &[Square]) -> Result<(), AllocError>
+    ensures { OnOk result (text.new.items ≡ text.old.items
+        ++ further_squares separator squares.now) }
+{
+    for square in squares {
+        text.push(separator)?;
+        push_number(text, u64::from(square.number()))?;
+    }
+    Ok(())
+}
+
+/// Appends a move by its squares, with `x` between those of a capture and `-` between those of a
+/// step.
+pub(crate) fn push_move(text: &mut Vec<u8>, m: &Move) -> Result<(), AllocError>
+    ensures { OnOk result (text.new.items ≡ text.old.items ++ move_text m.now) }
+{
+    let path = m.path();
+    push_number(text, u64::from(path[0].number()))?;
+    push_further(text, separator(path), &path[1..])
+}
+
+/// Appends moves, each behind a comma and a blank.
+fn push_further_moves(text: &mut Vec<u8>, moves: &[Move]) -> Result<(), AllocError>
+    ensures { OnOk result (text.new.items ≡ text.old.items ++ further_moves moves.now) }
+{
+    for m in moves {
+        text.push(b',')?;
+        text.push(b' ')?;
+        push_move(text, m)?;
+    }
+    Ok(())
+}
+
+/// Appends moves, with a comma and a blank between each two.
+pub(crate) fn push_moves(text: &mut Vec<u8>, moves: &[Move]) -> Result<(), AllocError>
+    ensures { OnOk result (text.new.items ≡ text.old.items ++ moves_text moves.now) }
+{
+    let [first, further @ ..] = moves else {
+        return Ok(());
+    };
+    push_move(text, first)?;
+    push_further_moves(text, further)
+}
+
+/// The legal moves of a position, in rising order of their paths: each by its squares, with a comma
+/// and a blank between each two.
+pub fn legal_moves_text(alloc: Global, p: &Position) -> Result<Vec<u8>, AllocError>
+    ensures { IfOk result (λ text. text.items ≡ moves_text (legal_paths p.now)) }
+{
+    let moves = legal_moves(alloc, p)?;
+    let mut text = Vec::new(alloc);
+    push_moves(&mut text, &moves)?;
+    Ok(text)
+}

@@ -1,0 +1,34 @@
+-- What work on a session needs, and what it comes to.
+use Rattle.std.specs.Prelude.{◌≡◌, ◌≤◌, ℕ, false, List, Err}
+use Rattle.draughts_board.specs.Draughts.{draughts}
+use Rattle.draughts_board.specs.Game.{is_at_sight}
+use Rattle.lease_table.specs.declared.leases.Lease.{Lease}
+use Rattle.bench_core.specs.declared.refusals.LeaseRefusal.TheVariants as lease
+use Rattle.tree_manager.specs.declared.entries.Entry.{Entry}
+use Rattle.tree_manager.specs.Lines.{session_pieces, session_depth, EndsBroken}
+use Rattle.tree_manager.specs.Turns.{AnswersWorker}
+use Rattle.worker_gate.specs.declared.worker.Ended.{Ended}
+use Rattle.worker_gate.specs.declared.worker.Ended.TheVariants.{Done, Spent, Failed, Memory}
+
+-- Leaves of the line's session can be searched with tables of so many pieces: these are its tables,
+-- and it searches no deeper than 12 plies.
+pub record CanSearch (pieces : ℕ) (front : List Entry) : Type 0 where
+  pub tables : pieces ≡ session_pieces front
+  pub depth : session_depth front ≤ 12
+
+-- .. and so this lease's leaf, which is not decided at sight
+pub record CanSearchLeaf (pieces : ℕ) (given : Lease) : Type 0 where
+  pub tables : pieces ≡ given.pieces
+  pub depth : given.depth ≤ 12
+  pub undecided : is_at_sight draughts pieces given.position ≡ false
+
+-- What the front of a worker's pass shows of its end: in the state of the front a worker is answered
+-- that every root is settled, or that the budget is spent; or the front ends with a fault of the
+-- disk. Of want of memory it shows nothing.
+abbrev pub ShowsEnd : Ended → List Entry → Type 0
+ShowsEnd Done front = (worker : ℕ) × AnswersWorker worker (Err lease.Done) front
+ShowsEnd Spent front =
+    (worker : ℕ) × (records : ℕ) × (budget : ℕ)
+    × AnswersWorker worker (Err (lease.Spent records budget)) front
+ShowsEnd Failed front = EndsBroken front
+ShowsEnd Memory front = Unit {0}

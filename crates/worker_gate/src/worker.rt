@@ -1,0 +1,179 @@
+//! The work of one worker.
+ghost use Rattle.std.specs.Prelude.{◌≡◌, IfErr};
+ghost use Rattle.turn_lock.specs.Seen.{IsOutside};
+ghost use Rattle.tree_manager.specs.Turns.{GrowsByTurns};
+ghost use Rattle.worker_gate.specs.Work.{CanSearch, CanSearchLeaf, ShowsEnd};
+
+use crate::gates::Gate;
+use crate::pauses::Pause;
+use bench_core::LeaseRefusal;
+use bench_disk::Disk;
+use leaf_search::{Memo, search};
+use lease_table::{Lease, LeaseId};
+use std::alloc::{AllocError, Global};
+use std::sync::Wait;
+use strategy_certificate::Oracle;
+use tree_manager::{BenchPass, CommitRefusal, SharedBench, StageRefusal};
+
+/// How many positions a worker remembers in which looking ahead shows no win.
+const REMEMBERED: usize = 65_536;
+
+/// How work on a session ended.
+#[derive(Clone, Copy, PartialEq, Eq, Debug)]
+pub enum Ended {
+    /// Every root is settled.
+    Done,
+    /// The session's work records reach its budget, and some root is unsettled.
+    Spent,
+    /// The disk refused a commit.
+    Failed,
+    /// Memory ran out.
+    Memory,
+}
+
+/// What came of asking for a leaf, where the work goes on.
+enum Step {
+    /// A leaf was searched. Its result is committed, or came too late.
+    Searched,
+    /// Every open leaf is leased.
+    NoLeaf,
+}
+
+/// Leases, searches, stages and commits, leaf after leaf, until every root is settled or the budget is spent.
+///
+/// While every open leaf is leased it waits, and takes next to no time of a processor. A result that comes too late is
+/// dropped. A lease for whose search or result there is no memory is released, and the work ends.
+#[tactic(auto, using(tree_manager::proofs::TurnLemmas::grows_then, crate::proofs::SearchingLemmas::can_search_on))]
+pub fn work<R: Wait, D: Disk, O: Oracle, G: Gate>(
+    rt: &R,
+    alloc: Global,
+    shared: &SharedBench<D>,
+    pass: &mut BenchPass<D>,
+    worker: u32,
+    oracle: &O,
+    gate: &G,
+) -> Ended
+    requires outside { IsOutside shared.now pass.old }
+    requires settings { CanSearch (O.piece_limit oracle.now) pass.old.front }
+    ensures outside { IsOutside shared.now pass.new }
+    ensures grows { GrowsByTurns pass.old.front pass.new.front }
+    ensures ended { ShowsEnd result pass.new.front }
+{
+    let mut memo = match Memo::new(alloc, oracle.pieces(), REMEMBERED) {
+        Ok(memo) => memo,
+        Err(AllocError) => return Ended::Memory,
+    };
+    let mut pause = Pause::new();
+    for _ in rt.forever() {
+        match take_leaf(rt, alloc, shared, pass, worker, oracle, gate, &mut memo) {
+            Ok(Step::Searched) => pause = Pause::new(),
+            Ok(Step::NoLeaf) => pause.rest(rt),
+            Err(ended) => return ended,
+        }
+    }
+    unreachable!()
+}
+
+/// Leases a leaf and searches it, if one is open.
+#[tactic(auto, using(tree_manager::proofs::TurnLemmas::grows_then, crate::proofs::SearchingLemmas::leaf_can_be))]
+fn take_leaf<R: Wait, D: Disk, O: Oracle, G: Gate>(
+    rt: &R,
+    alloc: Global,
+    shared: &SharedBench<D>,
+    pass: &mut BenchPass<D>,
+    worker: u32,
+    oracle: &O,
+    gate: &G,
+    memo: &mut Memo,
+) -> Result<Step, Ended>
+    requires outside { IsOutside shared.now pass.old }
+    requires settings { CanSearch (O.piece_limit oracle.now) pass.old.front }
+    requires memo { memo.old ≡ O.piece_limit oracle.now }
+    ensures outside { IsOutside shared.now pass.new }
+    ensures grows { GrowsByTurns pass.old.front pass.new.front }
+    ensures memo { memo.new ≡ memo.old }
+    ensures ended { IfErr result (λ ended. ShowsEnd ended pass.new.front) }
+{
+    let lease = match shared.lease(rt, pass, worker) {
+        Ok(lease) => lease,
+        Err(LeaseRefusal::NoLeaf { .. }) => return Ok(Step::NoLeaf),
+        Err(LeaseRefusal::Done) => return Err(Ended::Done),
+        Err(LeaseRefusal::Spent { .. }) => return Err(Ended::Spent),
+        Err(LeaseRefusal::Failed) => return Err(Ended::Failed),
+        Err(LeaseRefusal::Memory(_)) => return Err(Ended::Memory),
+    };
+    search_leaf(rt, alloc, shared, pass, &lease, oracle, gate, memo)
+}
+
+/// Searches a leaf that was leased, and commits its result.
+#[tactic(auto, using(tree_manager::proofs::TurnLemmas::grows_then, crate::proofs::SearchingLemmas::outcome_is))]
+fn search_leaf<R: Wait, D: Disk, O: Oracle, G: Gate>(
+    rt: &R,
+    alloc: Global,
+    shared: &SharedBench<D>,
+    pass: &mut BenchPass<D>,
+    lease: &Lease,
+    oracle: &O,
+    gate: &G,
+    memo: &mut Memo,
+) -> Result<Step, Ended>
+    requires outside { IsOutside shared.now pass.old }
+    requires settings { CanSearchLeaf (O.piece_limit oracle.now) lease.now }
+    requires memo { memo.old ≡ O.piece_limit oracle.now }
+    ensures outside { IsOutside shared.now pass.new }
+    ensures grows { GrowsByTurns pass.old.front pass.new.front }
+    ensures memo { memo.new ≡ memo.old }
+    ensures ended { IfErr result (λ ended. ShowsEnd ended pass.new.front) }
+{
+    gate.before_search(lease.worker);
+    let outcome = match search(
+        alloc,
+        &lease.position,
+        lease.goal,
+        lease.depth,
+        oracle,
+        memo,
+    ) {
+        Ok(outcome) => outcome,
+        Err(AllocError) => return give_back(rt, shared, pass, lease.id),
+    };
+    match shared.stage(rt, pass, lease, outcome) {
+        Ok(()) => commit_result(rt, shared, pass),
+        Err(StageRefusal::Stale(_)) => Ok(Step::Searched),
+        Err(StageRefusal::Failed) => Err(Ended::Failed),
+        Err(StageRefusal::Memory(_)) => give_back(rt, shared, pass, lease.id),
+    }
+}
+
+/// Commits what is staged.
+fn commit_result<R: Wait, D: Disk>(
+    rt: &R,
+    shared: &SharedBench<D>,
+    pass: &mut BenchPass<D>,
+) -> Result<Step, Ended>
+    requires outside { IsOutside shared.now pass.old }
+    ensures outside { IsOutside shared.now pass.new }
+    ensures grows { GrowsByTurns pass.old.front pass.new.front }
+    ensures ended { IfErr result (λ ended. ShowsEnd ended pass.new.front) }
+{
+    match shared.commit(rt, pass) {
+        Ok(_) => Ok(Step::Searched),
+        Err(CommitRefusal::Failed | CommitRefusal::Disk) => Err(Ended::Failed),
+    }
+}
+
+/// Releases a lease for whose work there is no memory. It may have ended by itself.
+fn give_back<R: Wait, D: Disk>(
+    rt: &R,
+    shared: &SharedBench<D>,
+    pass: &mut BenchPass<D>,
+    id: LeaseId,
+) -> Result<Step, Ended>
+    requires outside { IsOutside shared.now pass.old }
+    ensures outside { IsOutside shared.now pass.new }
+    ensures grows { GrowsByTurns pass.old.front pass.new.front }
+    ensures ended { IfErr result (λ ended. ShowsEnd ended pass.new.front) }
+{
+    let _ = shared.release(rt, pass, id);
+    Err(Ended::Memory)
+}
