@@ -11,7 +11,7 @@ user_time() {
         { time "$program" - solve --depth "$1" --budget "$2" <examples/openings.pdn >/dev/null || [ $? = 1 ]; } 2>&1
     done | sort -g | head -1
 }
-for depth in 0 2 4 6 8 10; do
+for depth in 0 2 4 6 8 10 12; do
     awk -v depth="$depth" -v without="$(user_time "$depth" 0)" -v with="$(user_time "$depth" 26)" 'BEGIN {
         printf "--depth %d: 26 records of work in %.2f s of processor time\n", depth, with - without
     }'

@@ -1,5 +1,5 @@
 -- Calls of a file within one moment, one behind another.
-use Rattle.std.specs.Prelude.{◌≡◌, refl, ℕ, ◌+◌, ◌≤◌, List, Bool, IsTrue}
+use Rattle.std.specs.Prelude.{◌≡◌, refl, ℕ, ◌+◌, ◌≤◌, List, Bool}
 use Rattle.std.proofs.Common.{sym, ◌∙◌, ap, subst, arith}
 use Rattle.bench_disk.specs.Disk.{GoesOn}
 use Rattle.bench_disk.specs.Handle.{Looks, StaysIn, Writes}

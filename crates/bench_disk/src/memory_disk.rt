@@ -4,7 +4,7 @@ ghost use Rattle.bench_disk.specs.Calls.{IsImage, IsImageSince, bytes_after};
 ghost use Rattle.bench_disk.specs.Disk.{written};
 
 use crate::call::Call;
-use crate::torn::{Picks, overwritten, torn};
+use crate::torn::{Picks, overwrite, torn};
 use crate::{Disk, DiskFault, MAX_LEN};
 use std::alloc::{AllocError, Global};
 
@@ -91,9 +91,7 @@ impl MemoryDisk {
             match call {
                 Call::Look => {}
                 Call::Sync => synced = bytes.to_vec(self.alloc)?,
-                Call::Write { at, bytes: from } => {
-                    bytes = overwritten(self.alloc, &bytes, *at as usize, from)?;
-                }
+                Call::Write { at, bytes: from } => overwrite(&mut bytes, *at as usize, from)?,
             }
         }
         MemoryDisk::of(self.alloc, synced)
@@ -112,7 +110,7 @@ impl MemoryDisk {
                 Call::Sync => image = bytes.to_vec(self.alloc)?,
                 Call::Write { at, bytes: from } => {
                     image = torn(self.alloc, &image, *at as usize, from, &mut picks)?;
-                    bytes = overwritten(self.alloc, &bytes, *at as usize, from)?;
+                    overwrite(&mut bytes, *at as usize, from)?;
                 }
             }
         }
@@ -135,13 +133,15 @@ impl MemoryDisk {
         if from.len() as u64 > MAX_LEN - at as u64 {
             return Err(AllocError);
         }
-        let next = overwritten(self.alloc, &self.bytes, at, from)?;
         let bytes = from.to_vec(self.alloc)?;
         self.calls.push(Call::Write {
             at: at as u64,
             bytes,
         })?;
-        self.bytes = next;
+        if overwrite(&mut self.bytes, at, from).is_err() {
+            self.calls.pop();
+            return Err(AllocError);
+        }
         Ok(())
     }
 }

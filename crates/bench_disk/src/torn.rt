@@ -1,5 +1,5 @@
 //! The bytes that a write leaves, whole or torn by a crash.
-ghost use Rattle.std.specs.Prelude.{◌≡◌, ◌+◌, ◌<◌, ◌≤◌, length, IfOk};
+ghost use Rattle.std.specs.Prelude.{◌≡◌, ◌+◌, ◌<◌, ◌≤◌, length, IfOk, OnOk, OnErr};
 ghost use Rattle.bench_disk.specs.Disk.{IsTorn, written};
 
 use std::alloc::{AllocError, Global};
@@ -90,22 +90,17 @@ impl Fate {
     }
 }
 
-/// The bytes with these in the place of what stood there.
-pub fn overwritten(
-    alloc: Global,
-    bytes: &[u8],
-    at: usize,
-    from: &[u8],
-) -> Result<Vec<u8>, AllocError>
-    ensures { IfOk result (λ v. v.items ≡ written bytes.now at from.now) }
+/// Puts these bytes in the place of what stands there, longer where these end later. It takes its
+/// memory first, and without it leaves the bytes as they were.
+pub fn overwrite(bytes: &mut Vec<u8>, at: usize, from: &[u8]) -> Result<(), AllocError>
+    ensures ok { OnOk result (bytes.new.items ≡ written bytes.old.items at from.now) }
+    ensures err { OnErr result (bytes.new.items ≡ bytes.old.items) }
 {
-    let mut next = bytes[..at.min(bytes.len())].to_vec(alloc)?;
-    next.extend_from_slice(from)?;
-    let end = at.saturating_add(from.len());
-    if end < bytes.len() {
-        next.extend_from_slice(&bytes[end..])?;
-    }
-    Ok(next)
+    let start = at.min(bytes.len());
+    let inside = from.len().min(bytes.len() - start);
+    bytes.extend_from_slice(&from[inside..])?;
+    bytes[start..start + inside].copy_from_slice(&from[..inside]);
+    Ok(())
 }
 
 /// The bytes after a write that a crash tore, as the picks decide.

@@ -8,12 +8,14 @@
 //! Before that it prints the answers in worked rows of events, and of how many of 100,000 leases, 64 of them alive at a
 //! time, the leaf was leased already.
 //!
-//! With the word `time` it prints how long a lease takes, at the first of a million leases and at the last, and how long a
-//! pick.
+//! With the word `time` it prints how long a lease takes, at the first of a million leases and behind the last, and how
+//! long a pick of the same tree among the same taken leaves; with one root, and with 4,096 and 65,536 of which only the
+//! last is unsettled.
 #![tactic(auto)]
 
 ghost use Rattle.std.specs.Prelude.{◌≤◌};
 
+mod followed;
 mod leasing;
 mod plain;
 mod playing;
@@ -21,6 +23,7 @@ mod rows;
 mod searching;
 mod tabled;
 mod tally;
+mod timing;
 
 use crate::leasing::tell_leases;
 use crate::playing::{Plan, play};
@@ -95,7 +98,7 @@ fn main(rt: HostRuntime) -> Result<()> {
         .is_some_and(|word| word.as_str() == "time");
     let table = fill(rt.alloc(), 2)?;
     if is_timed {
-        return leasing::time(&rt, &table);
+        return timing::time(&rt, &table);
     }
     tell_rows(&rt, &table)?;
     tell_leases(&rt, &table)?;

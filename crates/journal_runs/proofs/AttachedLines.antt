@@ -4,7 +4,10 @@ use Rattle.std.proofs.lemmas.List.{append-nil}
 use Rattle.std.proofs.lemmas.Bool.{true≢false}
 use Rattle.std.specs.Prelude.{Bool, true, false, cond, ◌||◌, Some}
 use Rattle.std.specs.List.{list_any, AllByRecursion as Each}
+use Rattle.draughts_board.specs.Board.{Board}
 use Rattle.bench_records.specs.declared.records.BenchRecord.{BenchRecord}
+use Rattle.bench_records.specs.declared.records.BenchRecord.TheVariants.{Begin, Solve, Expand}
+use Rattle.bench_core.specs.Records.{begun}
 use Rattle.tree_manager.specs.declared.entries.Attachment.{Attachment}
 use Rattle.tree_manager.specs.declared.entries.Entry.{Entry}
 use Rattle.tree_manager.specs.declared.entries.Entry.TheVariants.{Put, Attached, Leased, Released, Acked, Broken}
@@ -86,3 +89,17 @@ module _ (P : Acknowledgement → Type 0) where
   pub at_last : (line : List Entry) → Finds line
   at_last [] done any each = absurd (true≢false (sym any))
   at_last (e ∷ line) done any each = last done e line (list_any acknowledges line) refl (at_last line) any each
+
+-- ---- the roots of a list of records
+
+begun_cons : (r : BenchRecord) (rest : List BenchRecord) → begun (r ∷ rest) ≡ begun (r ∷ []) ++ begun rest
+begun_cons (Begin p) rest = refl
+begun_cons (Solve n p shown) rest = refl
+begun_cons (Expand n) rest = refl
+
+pub begun_append : (rs qs : List BenchRecord) → begun (rs ++ qs) ≡ begun rs ++ begun qs
+begun_append [] qs = refl
+begun_append (r ∷ rs) qs =
+    begun_cons r (rs ++ qs)
+    ∙ (ap (λ (ps : List Board). begun (r ∷ []) ++ ps) (begun_append rs qs)
+    ∙ (sym (append_assoc (begun (r ∷ [])) (begun rs) (begun qs)) ∙ ap (λ (ps : List Board). ps ++ begun qs) (sym (begun_cons r rs))))

@@ -1,4 +1,7 @@
 pub mod AttachedLines
+pub mod AmpleRoots
+pub mod AmpleStates
+pub mod AmpleLines
 pub mod TurnLemmas
 pub mod AloneLemmas
 pub mod WorkLemmas

@@ -26,7 +26,7 @@ use Rattle.tree_manager.specs.declared.entries.Entry.{Entry}
 use Rattle.tree_manager.specs.declared.entries.Entry.TheVariants.{Put, Attached}
 use Rattle.tree_manager.specs.Entries.{acknowledges}
 use Rattle.tree_manager.specs.Lines.{applied_in, attachment_of, behind_attached, is_failed, recorded, unapplied_in, work_applied}
-use Rattle.tree_manager.specs.Histories.{IsCoreOf, settings_of}
+use Rattle.tree_manager.specs.Histories.{IsCoreOf, IsNewCore, settings_of}
 use Rattle.tree_manager.specs.Receipts.{Acknowledgement, KeepsReceipts, ReadsBetween, ReadsRecords, acknowledgements, most_left}
 use Rattle.tree_manager.specs.Replaying.{ExplainsAttach}
 use Rattle.tree_manager.specs.Sessions.{IsAttachedTo, SessionState, session_budget, with_roots}
@@ -34,6 +34,7 @@ use Rattle.tree_manager.proofs.CoreLemmas.{new_core_stands}
 use Rattle.tree_manager.proofs.HistoryLaws.{replayed_whole}
 use Rattle.journal_runs.specs.declared.refusals.RunRefusal.{RunRefusal}
 use Rattle.journal_runs.specs.declared.refusals.RunRefusal.TheVariants as refusal
+use Rattle.journal_runs.specs.Ample.{IsAmple}
 use Rattle.journal_runs.specs.Ends.{GoesOnFrom, HasWorked, IsIdle, IsRefusalOf, IsWorkRefusal}
 use Rattle.journal_runs.specs.Journals.{IsCaused, KeepsJournal, MayLeave, Recovers, Resumes, SettlesOrSpends}
 use Rattle.journal_runs.proofs.AttachedLines.{line_from, all_applied, any_from, at_attached, at_last, attached_from, behind_from, recorded_from, unapplied_from}
@@ -117,11 +118,11 @@ module _ {D : Type 0} (reads : D → List ℕ) (images : D → List ℕ → Type
     ends_from budget added roots true is spent = sym is
     ends_from budget added roots false is spent = (sym is, spent refl)
 
-    pub resumes_from : (text_of : Forest → List ℕ) (budget : ℕ) (positions : List Board) (first last : SessionState D) (text : List ℕ) (settled : Bool)
-        → ReadsRecords pieces (reads old) before → a.opened ≡ moment old + 1 → a.budget ≡ session_budget budget before → a.pieces ≡ pieces
+    pub resumes_from : (text_of : Forest → List ℕ) (depth budget : ℕ) (positions : List Board) (first last : SessionState D) (text : List ℕ) (settled : Bool)
+        → ReadsRecords pieces (reads old) before → a.opened ≡ moment old + 1 → a.budget ≡ session_budget budget before → a.pieces ≡ pieces → a.depth ≡ depth → IsNewCore before a first.core
         → root_positions first.core.state.forest ≡ begun before → last.line ≡ line → HasWorked text_of first positions last text settled
-        → images new (reads new) → Resumes reads images images_since moment faults text_of pieces budget positions old new text settled
-    resumes_from text_of budget positions first last text settled read opened budget_is pieces_are first_roots is worked here =
+        → images new (reads new) → Resumes reads images images_since moment faults text_of pieces depth budget positions old new text settled
+    resumes_from text_of depth budget positions first last text settled read opened budget_is pieces_are depth_is new_core first_roots is worked here =
         let core = last.core in
         let whole : is_failed line ≡ false = sym (ap is_failed is) ∙ worked.idle.unfailed in
         let none : unapplied_in line ≡ [] = sym (ap unapplied_in is) ∙ (sym worked.stands.staged ∙ worked.idle.none_staged) in
@@ -148,6 +149,8 @@ module _ {D : Type 0} (reads : D → List ℕ) (images : D → List ℕ → Type
           crash = subst (λ (rs : List BenchRecord). Recovers reads images images_since moment faults pieces before rs old new) most (recovers_from opened);
           ends = ends_from budget (recorded rest) core.state.forest settled worked.settled_is
               (λ unsettled. subst (λ n. n ≤ count_by is_work (recorded rest)) budget_last (subst (λ n. core.state.settings.budget ≤ n) work_is (worked.spent unsettled)));
+          ample = λ ample. worked.ample before a budget new_core budget_is
+              (subst (λ k. IsAmple k a.depth budget positions before) (sym pieces_are) (subst (λ d. IsAmple pieces d budget positions before) (sym depth_is) ample));
         }
 
   -- ---- one that was refused
@@ -248,10 +251,10 @@ module _ {D : Type 0} (reads : D → List ℕ) (images : D → List ℕ → Type
 
     pub resumes_begun : (text_of : Forest → List ℕ) (positions : List Board) (last : SessionState D) (new : D) (text : List ℕ) (settled : Bool) (went : GoesOnFrom first.line last.line) → IsHonest tells
         → HasWorked text_of first positions last text settled → IfSome (attachment_of last.line) (λ a. Keeps a.pieces last.line new) → images new (reads new) → NowCounts new
-        → Resumes reads images images_since moment faults text_of s.pieces s.budget positions old new text settled
+        → Resumes reads images images_since moment faults text_of s.pieces s.depth s.budget positions old new text settled
     resumes_begun text_of positions last new text settled went honest worked keeps here now_counts =
-        resumes_from s.pieces begins.replayed begins.attachment went.0 old new (kept_is last.line went new keeps) now_counts text_of s.budget positions first last text settled
-        (begins.read honest) opened_is budget_is pieces_are first_roots (line_is last.line went) worked here
+        resumes_from s.pieces begins.replayed begins.attachment went.0 old new (kept_is last.line went new keeps) now_counts text_of s.depth s.budget positions first last text settled
+        (begins.read honest) opened_is budget_is pieces_are (ap (λ (a : Attachment). a.depth) begins.is) begins.core first_roots (line_is last.line went) worked here
 
     pub caused_begun : (positions : List Board) (r : RunRefusal) → IsHonest tells → IsWorkRefusal first positions r → IsCaused s.pieces positions (reads old) r
     caused_begun positions refusal.Disk honest h = tt

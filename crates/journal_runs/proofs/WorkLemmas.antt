@@ -27,28 +27,15 @@ use Rattle.tree_manager.specs.declared.refusals.BeginRefusal.{BeginRefusal}
 use Rattle.tree_manager.specs.declared.refusals.BeginRefusal.TheVariants as begin
 use Rattle.tree_manager.specs.Entries.{record_put, breaks}
 use Rattle.tree_manager.specs.Lines.{recorded, applied_in, unapplied_in, is_failed}
-use Rattle.tree_manager.specs.Histories.{IsCoreOf}
+use Rattle.tree_manager.specs.Histories.{IsCoreOf, IsHistory}
 use Rattle.tree_manager.specs.Sessions.{SessionState, with_roots, BeginsRoots, HasBegun, RefusesBegin, MayAddInTurn}
 use Rattle.tree_manager.proofs.LineLemmas.{any_push_yes}
 use Rattle.tree_manager.proofs.CoreLemmas.{run_grown, contains_nothing}
 use Rattle.worker_gate.specs.declared.worker.Ended.TheVariants.{Done, Spent}
 use Rattle.journal_runs.specs.Ends.{IsIdle, IsEndedBy, GoesOnFrom, HasRun, HasWorked}
 use Rattle.journal_runs.specs.Journals.{CountsRoots, ReportsTruth}
-use Rattle.journal_runs.proofs.AttachedLines.{all_applied}
-
--- ---- the roots of a list of records
-
-begun_cons : (r : BenchRecord) (rest : List BenchRecord) → begun (r ∷ rest) ≡ begun (r ∷ []) ++ begun rest
-begun_cons (Begin p) rest = refl
-begun_cons (Solve n p shown) rest = refl
-begun_cons (Expand n) rest = refl
-
-begun_append : (rs qs : List BenchRecord) → begun (rs ++ qs) ≡ begun rs ++ begun qs
-begun_append [] qs = refl
-begun_append (r ∷ rs) qs =
-    begun_cons r (rs ++ qs)
-    ∙ (ap (λ (ps : List Board). begun (r ∷ []) ++ ps) (begun_append rs qs)
-    ∙ (sym (append_assoc (begun (r ∷ [])) (begun rs) (begun qs)) ∙ ap (λ (ps : List Board). ps ++ begun qs) (sym (begun_cons r rs))))
+use Rattle.journal_runs.proofs.AmpleLines.{ample_settles}
+use Rattle.journal_runs.proofs.AttachedLines.{all_applied, begun_append}
 
 -- ---- no position is two of them
 
@@ -211,8 +198,16 @@ module _ {D : Type 0} (old mid : SessionState D) (positions : List Board) (m : �
         ∙ (ap (λ (ps : List Board). ps ++ begins.roots.added) (sym (idle_roots old was stood)) ∙ begins.roots.all))))))
 
     worked_from : (text_of : Forest → List ℕ) (text : List ℕ) (settled : Bool) → text ≡ text_of new.core.state.forest → settled ≡ are_settled new.core.state.forest
-        → (settled ≡ false → new.core.state.settings.budget ≤ new.core.state.work) → HasWorked text_of old positions new text settled
-    worked_from text_of text settled text_is settled_is spent = record { idle = idle; stands = stands; text_is = text_is; roots_are = roots_after; settled_is = settled_is; spent = spent }
+        → (settled ≡ false → new.core.state.settings.budget ≤ new.core.state.work) → IsCoreOf mid.line mid.core → IsHistory new.line new.core → HasWorked text_of old positions new text settled
+    worked_from text_of text settled text_is settled_is spent stood history = record {
+      idle = idle;
+      stands = stands;
+      text_is = text_is;
+      roots_are = roots_after;
+      settled_is = settled_is;
+      spent = spent;
+      ample = λ replayed a budget core budget_is ample. ample_settles replayed a old mid positions m core begins budget new settled budget_is ample stood grows history settled_is spent;
+    }
 
     truth_after : (text : List ℕ) → AreTrueRoots (forest_roots new.core.state.forest) → length (forest_roots new.core.state.forest) ≤ 65536 → text ≡ report_of (forest_roots new.core.state.forest) → ReportsTruth positions text
     truth_after text values few is =
@@ -222,12 +217,13 @@ module _ {D : Type 0} (old mid : SessionState D) (positions : List Board) (m : �
     count_after text line is = counts_roots new.core.state.settings.pieces (applied_in new.line) new.core.state.forest (root_positions old.core.state.forest) positions stands.state.forest roots_after text line is
 
 -- by how the work ended
-module _ {D : Type 0} (old mid new : SessionState D) (positions : List Board) (m : ℕ) (begins : HasBegun old positions m mid) (grows : GrowsTo MayAddInTurn mid.line new.line) where
+module _ {D : Type 0} (old mid new : SessionState D) (positions : List Board) (m : ℕ) (begins : HasBegun old positions m mid) (stood : IsCoreOf mid.line mid.core) (grows : GrowsTo MayAddInTurn mid.line new.line) where
   pub run_done : IsEndedBy Done new → HasRun old positions new true
   run_done done = record {
     begun = mid;
     moment = m;
     begins = begins;
+    stood = stood;
     grows = grows;
     idle = done.0;
     settled_is = sym done.1;
@@ -239,6 +235,7 @@ module _ {D : Type 0} (old mid new : SessionState D) (positions : List Board) (m
     begun = mid;
     moment = m;
     begins = begins;
+    stood = stood;
     grows = grows;
     idle = spent.0;
     settled_is = sym spent.1.0;
@@ -247,9 +244,9 @@ module _ {D : Type 0} (old mid new : SessionState D) (positions : List Board) (m
 
 -- and then written
 module _ {D : Type 0} (old new : SessionState D) (positions : List Board) (settled : Bool) (run : HasRun old positions new settled) (was : IsIdle old) (stood : IsCoreOf old.line old.core) (stands : IsCoreOf new.line new.core) where
-  pub worked_run : (text_of : Forest → List ℕ) (text : List ℕ) (told : Bool) → text ≡ text_of new.core.state.forest → told ≡ settled → HasWorked text_of old positions new text told
-  worked_run text_of text told text_is told_is =
-      worked_from old run.begun positions run.moment run.begins new was stood run.grows run.idle stands text_of text told text_is (told_is ∙ run.settled_is) (λ h. run.spent (sym told_is ∙ h))
+  pub worked_run : (text_of : Forest → List ℕ) (text : List ℕ) (told : Bool) → text ≡ text_of new.core.state.forest → told ≡ settled → IsHistory new.line new.core → HasWorked text_of old positions new text told
+  worked_run text_of text told text_is told_is history =
+      worked_from old run.begun positions run.moment run.begins new was stood run.grows run.idle stands text_of text told text_is (told_is ∙ run.settled_is) (λ h. run.spent (sym told_is ∙ h)) run.stood history
 
   pub truth_run : (text : List ℕ) → AreTrueRoots (forest_roots new.core.state.forest) → length (forest_roots new.core.state.forest) ≤ 65536 → text ≡ report_of (forest_roots new.core.state.forest) → ReportsTruth positions text
   truth_run text values few is = truth_after old run.begun positions run.moment run.begins new was stood run.grows run.idle stands text values few is

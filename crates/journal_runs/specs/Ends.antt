@@ -6,11 +6,13 @@ use Rattle.disk_journal.specs.declared.refusal.JournalRefusal.{JournalRefusal}
 use Rattle.disk_journal.specs.declared.refusal.JournalRefusal.TheVariants as journal
 use Rattle.proof_tree.specs.Forest.{Forest}
 use Rattle.proof_tree.specs.Sound.{root_positions}
+use Rattle.bench_records.specs.declared.records.BenchRecord.{BenchRecord}
 use Rattle.bench_core.specs.States.{are_settled}
+use Rattle.tree_manager.specs.declared.entries.Attachment.{Attachment}
 use Rattle.tree_manager.specs.declared.entries.Entry.{Entry}
 use Rattle.tree_manager.specs.Lines.{is_failed}
-use Rattle.tree_manager.specs.Histories.{IsCoreOf}
-use Rattle.tree_manager.specs.Sessions.{SessionState, HasBegun, with_roots}
+use Rattle.tree_manager.specs.Histories.{IsCoreOf, IsNewCore}
+use Rattle.tree_manager.specs.Sessions.{SessionState, HasBegun, session_budget, with_roots}
 use Rattle.tree_manager.specs.Turns.{GrowsByTurns}
 use Rattle.worker_gate.specs.declared.worker.Ended.{Ended}
 use Rattle.worker_gate.specs.declared.worker.Ended.TheVariants.{Done, Spent, Failed, Memory}
@@ -18,6 +20,7 @@ use Rattle.journal_runs.specs.declared.refusals.JournalFlaw.{JournalFlaw}
 use Rattle.journal_runs.specs.declared.refusals.JournalFlaw.TheVariants as flaw
 use Rattle.journal_runs.specs.declared.refusals.RunRefusal.{RunRefusal}
 use Rattle.journal_runs.specs.declared.refusals.RunRefusal.TheVariants as refusal
+use Rattle.journal_runs.specs.Ample.{IsAmple}
 
 -- ---- a session's work
 
@@ -41,7 +44,8 @@ abbrev pub GoesOnFrom : List Entry → List Entry → Type 0
 GoesOnFrom old new = (rest : List Entry) × (new ≡ old ++ rest)
 
 -- The roots were begun, all that was added is applied, and the text is that of the forest. A root
--- is unsettled only where the session's budget is spent. The line stands for the core.
+-- is unsettled only where the session's budget is spent, and none where the budget was ample. The
+-- line stands for the core.
 pub record HasWorked {D : Type 0} (text_of : Forest → List ℕ) (old : SessionState D)
     (positions : List Board) (new : SessionState D) (text : List ℕ)
     (is_settled : Bool) : Type 0 where
@@ -52,6 +56,9 @@ pub record HasWorked {D : Type 0} (text_of : Forest → List ℕ) (old : Session
       ≡ with_roots (root_positions old.core.state.forest) positions
   pub settled_is : is_settled ≡ are_settled new.core.state.forest
   pub spent : is_settled ≡ false → new.core.state.settings.budget ≤ new.core.state.work
+  pub ample : (replayed : List BenchRecord) (a : Attachment) (budget : ℕ)
+      → IsNewCore replayed a old.core → a.budget ≡ session_budget budget replayed
+      → IsAmple a.pieces a.depth budget positions replayed → is_settled ≡ true
 
 -- The roots were begun, the work went on from there, and nothing is left to do: the session is idle,
 -- and it is known whether each root is settled.
@@ -60,6 +67,7 @@ pub record HasRun {D : Type 0} (old : SessionState D) (positions : List Board) (
   pub begun : SessionState D
   pub moment : ℕ
   pub begins : HasBegun old positions moment begun
+  pub stood : IsCoreOf begun.line begun.core
   pub grows : GrowsByTurns begun.line new.line
   pub idle : IsIdle new
   pub settled_is : is_settled ≡ are_settled new.core.state.forest

@@ -19,6 +19,7 @@ use Rattle.tree_manager.specs.Sessions.{session_budget, with_roots}
 use Rattle.journal_runs.specs.declared.refusals.JournalFlaw.{JournalFlaw}
 use Rattle.journal_runs.specs.declared.refusals.RunRefusal.{RunRefusal}
 use Rattle.journal_runs.specs.declared.refusals.RunRefusal.TheVariants as refusal
+use Rattle.journal_runs.specs.Ample.{IsAmple}
 use Rattle.journal_runs.specs.Ends.{refusal_of_flaw}
 
 -- ---- what is left of the disk
@@ -54,9 +55,9 @@ module _ {D : Type 0} (reads : D → List ℕ) (images : D → List ℕ → Type
 
   -- The run went on from the records of before, and the journal reads as these and those that it
   -- added. The text is that of their forest, whose roots are the old ones and then the positions
-  -- that were none.
-  pub record Resumes (text_of : Forest → List ℕ) (pieces budget : ℕ) (positions : List Board)
-      (old new : D) (text : List ℕ) (is_settled : Bool) : Type 0 where
+  -- that were none. An ample budget settles every root.
+  pub record Resumes (text_of : Forest → List ℕ) (pieces depth budget : ℕ)
+      (positions : List Board) (old new : D) (text : List ℕ) (is_settled : Bool) : Type 0 where
     pub before : List BenchRecord
     pub added : List BenchRecord
     pub read_then : ReadsRecords pieces (reads old) before
@@ -67,6 +68,7 @@ module _ {D : Type 0} (reads : D → List ℕ) (images : D → List ℕ → Type
     pub roots_are : root_positions roots ≡ with_roots (begun before) positions
     pub crash : Recovers pieces before (before ++ added) old new
     pub ends : SettlesOrSpends budget before added roots is_settled
+    pub ample : IsAmple pieces depth budget positions before → is_settled ≡ true
 
 -- The text is the report of roots, each with no value but the true one. Each of the positions is
 -- one of them, and no position is two of them.

@@ -1,2 +1,3 @@
+pub mod Ample
 pub mod Ends
 pub mod Journals

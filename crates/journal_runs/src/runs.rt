@@ -4,7 +4,7 @@ ghost use Rattle.bench_disk.specs.Disk.{IsHonest, NothingPending};
 ghost use Rattle.shared_words.specs.Counts.{Rose};
 ghost use Rattle.opening_report.specs.Lines.{IsLine};
 ghost use Rattle.opening_report.specs.Report.{report_of, summary_line, forest_roots, AreTrueRoots};
-ghost use Rattle.tree_manager.specs.Histories.{IsCoreOf};
+ghost use Rattle.tree_manager.specs.Histories.{IsCoreOf, IsHistory};
 ghost use Rattle.tree_manager.specs.Lines.{is_failed};
 ghost use Rattle.worker_gate.specs.Work.{CanSearch};
 ghost use Rattle.journal_runs.specs.Ends.{GoesOnFrom, HasRun, HasWorked, IsIdle, IsWorkRefusal};
@@ -59,8 +59,8 @@ pub fn solve<R: Threads + Wait + Sync, D: Disk + Send, G: Gate + Sync>(
         settings.pieces disk result.0 }
     ensures does { IsHonest D.TELLS → IfOk result.1 (λ ran.
         Resumes D.reads D.images D.images_since D.moment D.faults
-        (λ roots. report_of (forest_roots roots)) settings.pieces settings.budget positions.now
-        disk result.0 ran.text.items ran.is_settled) }
+        (λ roots. report_of (forest_roots roots)) settings.pieces settings.depth settings.budget
+        positions.now disk result.0 ran.text.items ran.is_settled) }
     ensures values { IfOk result.1 (λ ran. ReportsTruth positions.now ran.text.items) }
     ensures fault { IfErr result.1
         (λ refusal. refusal ≡ RunRefusal.Disk → Rose (D.faults disk) (D.faults result.0)) }
@@ -99,8 +99,8 @@ pub fn solve_counted<R: Threads + Wait + Sync, D: Disk + Send, G: Gate + Sync>(
         settings.pieces disk result.0 }
     ensures does { IsHonest D.TELLS → IfOk result.1 (λ ran.
         Resumes D.reads D.images D.images_since D.moment D.faults
-        (λ roots. summary_line (forest_roots roots)) settings.pieces settings.budget positions.now
-        disk result.0 ran.text.items ran.is_settled) }
+        (λ roots. summary_line (forest_roots roots)) settings.pieces settings.depth settings.budget
+        positions.now disk result.0 ran.text.items ran.is_settled) }
     ensures counts { IfOk result.1 (λ ran. CountsRoots positions.now ran.text.items) }
     ensures fault { IfErr result.1
         (λ refusal. refusal ≡ RunRefusal.Disk → Rose (D.faults disk) (D.faults result.0)) }
@@ -192,6 +192,7 @@ fn report_on<D: Disk, O: Oracle>(
     oracle: &O,
 ) -> Result<Ran, RunRefusal>
     requires { CanSearch (O.piece_limit oracle.now) session.now.line }
+    ensures history { IsHistory session.now.line session.now.core }
     ensures stands { IsCoreOf session.now.line session.now.core }
     ensures text { IfOk result (λ ran.
         ran.text.items ≡ report_of (forest_roots session.now.core.state.forest)) }
@@ -212,6 +213,7 @@ fn count_on<D: Disk>(
     session: &Session<D>,
     is_settled: bool,
 ) -> Result<Ran, RunRefusal>
+    ensures history { IsHistory session.now.line session.now.core }
     ensures stands { IsCoreOf session.now.line session.now.core }
     ensures text { IfOk result (λ ran.
         ran.text.items ≡ summary_line (forest_roots session.now.core.state.forest)) }

@@ -37,7 +37,7 @@ use Rattle.opening_bench.specs.Bench.{IsCommandRefusal, IsCutShort, IsInput, Rea
 use Rattle.opening_bench.specs.Commands.{HasFault}
 use Rattle.opening_bench.specs.Disks.{HasDiskFault, IsRefusedRun, of_look, of_run}
 use Rattle.opening_bench.specs.Steps.{AcceptsBytes, AnswersBytes, RefusesBytes}
-use Rattle.opening_bench.specs.declared.commands.generate.TheConstants.{GENERATE_PIECES}
+use Rattle.opening_bench.specs.declared.commands.generate.TheConstants.{GENERATE_DEPTH, GENERATE_PIECES}
 
 -- ---- what a status shows
 
@@ -222,14 +222,14 @@ module _ {D : Type 0} (tells : Bool) (reads : D → List ℕ) (images : D → Li
 
   pub counts_answer : {X : Type 0} (seed count : ℕ) (positions seen : List Board) (old new : D) (answer : Result X Refusal) (text : X → List ℕ) (settled : X → Bool)
       → positions ≡ openings_from seed count → seen ≡ positions
-      → (IsHonest tells → IfOk answer (λ x. Resumes reads images images_since moment faults (λ roots. summary_line (forest_roots roots)) GENERATE_PIECES count seen old new (text x) (settled x)))
+      → (IsHonest tells → IfOk answer (λ x. Resumes reads images images_since moment faults (λ roots. summary_line (forest_roots roots)) GENERATE_PIECES GENERATE_DEPTH count seen old new (text x) (settled x)))
       → IfOk answer (λ x. CountsRoots seen (text x))
       → IfOk answer (λ x. AnswersBytes tells reads images images_since moment faults (Generate seed count) [] old new (text x) (settled x))
   counts_answer seed count positions seen old new (Ok x) text settled is same resumes counts =
       let all : seen ≡ openings_from seed count = same ∙ is in
       record {
         answers = subst (λ (ps : List Board). CountsRoots ps (text x)) all counts;
-        shows = λ honest. subst (λ (ps : List Board). Resumes reads images images_since moment faults (λ roots. summary_line (forest_roots roots)) GENERATE_PIECES count ps old new (text x) (settled x)) all (resumes honest);
+        shows = λ honest. subst (λ (ps : List Board). Resumes reads images images_since moment faults (λ roots. summary_line (forest_roots roots)) GENERATE_PIECES GENERATE_DEPTH count ps old new (text x) (settled x)) all (resumes honest);
       }
   counts_answer seed count positions seen old new (Err e) text settled is same resumes counts = tt
 

@@ -1,9 +1,11 @@
 -- What `solve` reads, writes and refuses.
 use Rattle.std.proofs.Common.{◌≡◌, ℕ, ◌+◌, ◌<◌, ◌≤◌, ◌^◌, Bool, List, Option, None, Some, refl, sym, ◌∙◌, subst, length, arith, lit<}
-use Rattle.std.specs.Prelude.{Contains, IfOk, IfSome, Result, Ok, Err}
+use Rattle.std.specs.Prelude.{◌≢◌, Contains, IfOk, IfSome, Result, Ok, Err, true, false}
+use Rattle.std.proofs.lemmas.Bool.{true≢false}
 use Rattle.bench_edges.specs.Words.{Says}
 use Rattle.std.specs.Bool.{OnFalse}
 use Rattle.bench_edges.specs.declared.status.Status.{Status}
+use Rattle.bench_edges.specs.declared.status.Status.TheVariants.{Unsolved}
 use Rattle.bench_edges.specs.declared.words.Command.{Command}
 use Rattle.bench_edges.specs.declared.words.Command.TheVariants.{Solve, Report, Certify, Verify, MakeTable, TableCheck, Generate}
 use Rattle.bench_edges.specs.declared.words.Options.{Options}
@@ -19,15 +21,17 @@ use Rattle.pdn_openings.specs.declared.opening.Opening.{Opening}
 use Rattle.pdn_openings.specs.declared.refusal.OpeningRefusal.{OpeningRefusal}
 use Rattle.pdn_openings.specs.declared.refusal.OpeningRefusal.TheVariants as opening
 use Rattle.pdn_openings.proofs.Determined.{one_list}
+use Rattle.journal_runs.specs.Ample.{IsAmple}
 use Rattle.journal_runs.specs.Journals.{ReportsTruth}
+use Rattle.journal_runs.proofs.UnreadLemmas.{reads_once}
 use Rattle.opening_report.specs.Conversions.{of_pdn, of_openings}
 use Rattle.opening_report.specs.declared.refusals.Refusal.TheVariants as refusal
 use Rattle.opening_report.specs.declared.roots.Root.{Root}
 use Rattle.opening_report.specs.Report.{report_of, StandsOnce}
 use Rattle.opening_report.proofs.ReportLemmas.{report-is_true, roots_stand_once}
-use Rattle.opening_bench.specs.Accepted.{Accepts, HasRoom, IsUnrefused}
+use Rattle.opening_bench.specs.Accepted.{Accepts, HasAmpleBudget, HasRoom, IsUnrefused}
 use Rattle.opening_bench.specs.declared.commands.solve.TheConstants.{GAMES_LIMIT}
-use Rattle.opening_bench.specs.Bench.{Finishes, TakesOutput, WritesOnly, HoldsOpenings}
+use Rattle.opening_bench.specs.Bench.{Does, Finishes, Reports, TakesOutput, WritesOnly, HoldsOpenings}
 use Rattle.opening_bench.specs.Solving.{OpeningsOf, IsReportOn, roots_of_openings}
 use Rattle.opening_bench.specs.Steps.{AnswersSource, SaysTrue}
 use Rattle.opening_bench.proofs.RootLemmas.{opening_root}
@@ -99,6 +103,24 @@ pub openings_accepted : {D : Type 0} (tells : Bool) (reads : D → List ℕ) (op
 openings_accepted tells reads options None old status h = tt
 openings_accepted tells reads options (Some told) old status h = λ fits all read room.
     h (all, read) fits (λ others are. subst (λ (os : List Opening). HasRoom tells reads options.pieces (roots_of_openings os) old) (one_list_of options.plies told all others read are) room)
+
+-- a run for which the budget is ample leaves no root unsettled
+pub ample_solves : {D : Type 0} (tells : Bool) (reads : D → List ℕ) (images : D → List ℕ → Type 0) (images_since : D → ℕ → List ℕ → Type 0) (moment faults : D → ℕ) (options : Options) (source before after : Option (List ℕ)) (old new : D) (status : Status)
+    → (Reports status → Does tells reads images images_since moment faults (Solve options) source before after old new status)
+    → IfSome source (λ told. (all : List Opening) → OpeningsOf options.plies told all → HasAmpleBudget tells reads options (roots_of_openings all) old → status ≢ Unsolved)
+ample_solves tells reads images images_since moment faults options None before after old new status does = tt
+ample_solves tells reads images images_since moment faults options (Some told) before after old new status does = λ all read ample is.
+    let done = does (subst Reports (sym is) tt) in
+    let same : done.input ≡ told = done.is_input.same refl in
+    let resumed = done.shows.resumed ample.honest in
+    let openings : done.shows.openings ≡ all = one_list_of options.plies told done.shows.openings all (subst (λ t. OpeningsOf options.plies t done.shows.openings) same done.shows.read) read in
+    let records : ample.records ≡ resumed.before = reads_once options.pieces (reads old) ample.records resumed.before ample.read resumed.read_then in
+    let settled : done.settled ≡ true =
+    resumed.ample
+    (subst (λ (os : List Opening). IsAmple options.pieces options.depth options.budget (roots_of_openings os) resumed.before) (sym openings)
+    (subst (IsAmple options.pieces options.depth options.budget (roots_of_openings all)) records ample.ample)) in
+    let taken = subst (λ (s : Status). TakesOutput s done.text done.settled before after) is done.taken in
+    true≢false (sym settled ∙ taken.0)
 
 of_source : (options : Options) (source : Option (List ℕ)) (input text : List ℕ) → IfSome source (λ told. input ≡ told) → IsReportOn options input text
     → IfSome source (λ told. (openings : List Opening) → OpeningsOf options.plies told openings → (opening : Opening) → Contains openings opening → StandsOnce text opening.position)

@@ -4,6 +4,7 @@ use Rattle.draughts_board.specs.Board.{Board}
 use Rattle.bench_edges.specs.declared.status.Status.{Status}
 use Rattle.bench_edges.specs.declared.status.Status.TheVariants.{Input, Disk, Journal, Memory}
 use Rattle.bench_edges.specs.declared.words.Command.{Command}
+use Rattle.bench_edges.specs.declared.words.Options.{Options}
 use Rattle.bench_edges.specs.declared.words.Command.TheVariants.{Solve, Report, Certify, Verify, MakeTable, TableCheck, Generate}
 use Rattle.bench_disk.specs.Disk.{IsHonest}
 use Rattle.bench_core.specs.Records.{begun}
@@ -13,6 +14,7 @@ use Rattle.endgame_table.specs.Bytes.{bytes_of}
 use Rattle.endgame_table.specs.Entries.{IsTable}
 use Rattle.journal_looks.specs.Looks.{HasNoCertificate, HasNoReport, HasSettledRoot}
 use Rattle.journal_looks.specs.declared.refusals.LookRefusal.{LookRefusal}
+use Rattle.journal_runs.specs.Ample.{IsAmple}
 use Rattle.opening_report.specs.declared.refusals.Refusal.{Refusal}
 use Rattle.pdn_openings.specs.declared.opening.Opening.{Opening}
 use Rattle.strategy_certificate.specs.Certificates.{IsGood}
@@ -48,7 +50,15 @@ pub record HasRoom {D : Type 0} (tells : Bool) (reads : D → List ℕ) (pieces 
   pub read : ReadsRecords pieces (reads disk) records
   pub room : length (with_roots (begun records) positions) ≤ 65536
 
--- .. for the roots of the source's openings
+-- The disk reads as a journal for the table, and the budget is ample for the roots that it has and those that these positions begin
+pub record HasAmpleBudget {D : Type 0} (tells : Bool) (reads : D → List ℕ) (options : Options)
+    (positions : List Board) (disk : D) : Type 0 where
+  pub honest : IsHonest tells
+  pub records : List BenchRecord
+  pub read : ReadsRecords options.pieces (reads disk) records
+  pub ample : IsAmple options.pieces options.depth options.budget positions records
+
+-- The journal has room for the roots of the source's openings.
 abbrev pub HasRoomFor : {D : Type 0} → Bool → (D → List ℕ) → Command → List ℕ → D → Type 0
 HasRoomFor tells reads (Solve options) bytes disk =
     (openings : List Opening) → OpeningsOf options.plies bytes openings

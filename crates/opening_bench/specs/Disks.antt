@@ -25,7 +25,7 @@ use Rattle.journal_runs.specs.declared.refusals.JournalFlaw.TheVariants as flaw
 use Rattle.journal_runs.specs.declared.refusals.RunRefusal.{RunRefusal}
 use Rattle.journal_runs.specs.declared.refusals.RunRefusal.TheVariants as run
 use Rattle.opening_bench.specs.Solving.{OpeningsOf, roots_of_openings}
-use Rattle.opening_bench.specs.declared.commands.generate.TheConstants.{GENERATE_PIECES}
+use Rattle.opening_bench.specs.declared.commands.generate.TheConstants.{GENERATE_DEPTH, GENERATE_PIECES}
 
 -- ---- refusals of a crate below, as the program's own
 
@@ -76,7 +76,8 @@ module _ {D : Type 0} (tells : Bool) (reads : D → List ℕ) (images : D → Li
     pub read : OpeningsOf options.plies source openings
     pub resumed : IsHonest tells →
         Resumes reads images images_since moment faults (λ roots. report_of (forest_roots roots))
-        options.pieces options.budget (roots_of_openings openings) old new text settled
+        options.pieces options.depth options.budget (roots_of_openings openings) old new text
+        settled
 
   -- the text is that of the certificate of a root that the disk reads as
   abbrev pub HasCertified : ℕ → D → List ℕ → Type 0
@@ -96,7 +97,7 @@ module _ {D : Type 0} (tells : Bool) (reads : D → List ℕ) (images : D → Li
   ShowsDisk (Generate seed count) source old new text settled =
       IsHonest tells →
       Resumes reads images images_since moment faults (λ roots. summary_line (forest_roots roots))
-      GENERATE_PIECES count (openings_from seed count) old new text settled
+      GENERATE_PIECES GENERATE_DEPTH count (openings_from seed count) old new text settled
 
   -- A run with these positions is refused: the faults of the disk rose, its bytes are no such
   -- journal, there would be too many roots, or memory ran out.

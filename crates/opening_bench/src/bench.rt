@@ -17,7 +17,7 @@ ghost use Rattle.strategy_certificate.specs.Certificates.{IsGood};
 ghost use Rattle.strategy_certificate.specs.declared.certificates.Certificate.{Certificate};
 ghost use Rattle.tree_manager.specs.Receipts.{ReadsRecords};
 ghost use Rattle.opening_report.specs.Report.{ValuesAreTrue};
-ghost use Rattle.opening_bench.specs.Accepted.{Accepts, HasAsked, HasLookCause, HasRoom, IsRefusedFor, IsUnrefused};
+ghost use Rattle.opening_bench.specs.Accepted.{Accepts, HasAmpleBudget, HasAsked, HasLookCause, HasRoom, IsRefusedFor, IsUnrefused};
 ghost use Rattle.opening_bench.specs.Bench.{ComesToDisk, Does, Finishes, HoldsOpenings, IsCommandRefusal, IsRefusalByWords, IsRefused, ReadsSource, Refuses, Reports, TakesAtMost, TakesLine, WritesOnly, status_of};
 ghost use Rattle.opening_bench.specs.Commands.{Searches, source_limit};
 ghost use Rattle.opening_bench.specs.Disks.{LeavesDisk, of_look};
@@ -192,6 +192,13 @@ pub fn bench<R: Threads + Wait + Sync, S: Source, K: Sink, D: Disk + Send, G: Ga
         → (all : List Opening) → OpeningsOf options.plies text all
         → HasRoom D.TELLS D.reads options.pieces (roots_of_openings all) disk
         → IsUnrefused result.0) }
+    // Where every root that has no value, old or new, is unexpanded and looking ahead shows one, a
+    // budget of at least their number leaves none unsettled.
+    ensures ample { (options : Options) → Says (texts words.now) (Command.Solve options)
+        → IfSome (S.left source.old) (λ text. (all : List Opening)
+        → OpeningsOf options.plies text all
+        → HasAmpleBudget D.TELLS D.reads options (roots_of_openings all) disk
+        → result.0 ≢ Status.Unsolved) }
     ensures accepted_certificates { Says (texts words.now) Command.Verify
         → IfSome (S.left source.old) (λ bytes. length bytes ≤ CERTIFICATE_LIMIT
         → (c : Certificate) → IsGood c → ReadsAs bytes c → IsUnrefused result.0) }

@@ -1,5 +1,5 @@
 //! A source and a sink that keep a front of what went through them, so that a person can be told
-//! more of a refusal than its line.
+//! more of a run than it writes.
 use bench_edges::{Sink, SinkFault, Source, SourceFault};
 use std::alloc::Global;
 
@@ -52,6 +52,11 @@ impl<S: Source> KeepingSource<S> {
     /// The front of what it gave.
     pub(crate) fn kept(&self) -> &[u8] {
         &self.front.bytes
+    }
+
+    /// All that it gave is kept.
+    pub(crate) fn is_whole(&self) -> bool {
+        self.front.is_open
     }
 }
 

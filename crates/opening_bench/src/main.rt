@@ -16,11 +16,15 @@ mod journal_tests;
 mod keeping;
 mod looking;
 mod output;
+mod progress;
+#[cfg(test)]
+mod progress_tests;
 mod quiet;
 mod reading;
 mod searching;
 #[cfg(test)]
 mod table_tests;
+mod telling;
 #[cfg(test)]
 mod tests;
 
@@ -28,15 +32,15 @@ pub use bench::bench as run;
 use bench_disk::{Disk, FileDisk, FuseDisk, MemoryDisk};
 use bench_edges::{Status, StdSink, StdSource, write_all};
 use keeping::{KeepingSink, KeepingSource};
+use progress::ProgressGate;
 pub use quiet::bench_quiet;
-use refusal_hints::hint_on_line;
 use std::fs::File;
 use std::os::fd::{AsRawFd, RawFd};
 use std::process::ExitCode;
 use std::sync::Wait;
 use std::thread::Threads;
 use std::{env, io};
-use worker_gate::OpenGate;
+use telling::{Traces, tell};
 
 /// The exit status where the words cannot be had for another cause than want of memory. No call
 /// answers it.
@@ -116,7 +120,8 @@ Exit status:
   8  standard output failed
   9  the words could not be had from the system
 With 2 to 7 one line says why, but with 6 nothing is written where memory ends while the words are
-read.
+read. Standard error says more of it. With 0 and 1 of `solve` standard error warns of what may be read
+otherwise than it was meant, as tags in other letters.
 ";
 
 /// What `--version` writes.
@@ -149,14 +154,6 @@ fn read_args(rt: &HostRuntime) -> Result<Vec<String>, u8> {
         .map_err(|_| Status::Memory.number())
 }
 
-/// Tells on standard error what a person may do about a refusal, where this line is one: it says
-/// nothing else, and nothing where memory is wanting or standard error fails.
-fn tell(rt: &HostRuntime, words: &[&str], line: &[u8], source: &[u8]) {
-    if let Ok(text) = hint_on_line(rt.alloc(), words, line, source) {
-        let _ = rt.stderr().write_all(&text);
-    }
-}
-
 /// Runs on the journal of a disk, from standard input to standard output, and gives the exit status.
 fn run_on<R: Threads + Wait + Sync, D: Disk + Drop + Send>(
     threads: &R,
@@ -173,9 +170,15 @@ fn run_on<R: Threads + Wait + Sync, D: Disk + Drop + Send>(
         &mut source,
         &mut sink,
         disk,
-        &OpenGate,
+        &ProgressGate::new(rt),
     );
-    tell(rt, words, sink.kept(), source.kept());
+    let traces = Traces {
+        status,
+        line: sink.kept(),
+        source: source.kept(),
+        is_whole: source.is_whole(),
+    };
+    tell(rt, words, &traces);
     status.number()
 }
 

@@ -120,6 +120,7 @@ fn values_at_sight_of_three_pieces(rt: HostRuntime) -> Result<(), Fail> {
 fn openings(rt: HostRuntime) -> Result<(), Fail> {
     let no_plies = ["-", "solve", "--plies", "0"];
     let few_records = ["-", "solve", "--budget", "20"];
+    let two_records = ["-", "solve", "--depth", "1", "--budget", "2"];
     let none = ["-", "solve", "--budget", "0"];
     for (words, text, status, written) in [
         // A capture that ends where it began.
@@ -162,6 +163,14 @@ fn openings(rt: HostRuntime) -> Result<(), Fail> {
         (
             ONE_PLY.as_slice(),
             "[FEN \"W:W16,23:B12\"] * [FEN \"B:W21:B10,17\"] * [FEN \"W:W16,23:B12\"] *",
+            Status::Done,
+            "root 1 W:W16,23:B12 white-wins\nroot 2 B:W21:B10,17 black-wins\n\
+            roots 2 settled 2 unsolved 0\n",
+        ),
+        // Looking ahead decides each of two openings: two records of work are enough.
+        (
+            two_records.as_slice(),
+            "[FEN \"W:W16,23:B12\"] * [FEN \"B:W21:B10,17\"] *",
             Status::Done,
             "root 1 W:W16,23:B12 white-wins\nroot 2 B:W21:B10,17 black-wins\n\
             roots 2 settled 2 unsolved 0\n",

@@ -1,10 +1,10 @@
 //! A position as a small board.
 ghost use Rattle.std.specs.Prelude.{◌≤◌};
 
-use crate::texts::{say, say_number};
 use draughts_board::{Cell, Position, Side, Square};
 use fen_text::print_fen;
 use std::alloc::AllocError;
+use terminal_text::{say, say_number};
 
 /// The sign of what stands on a square: small letters for men, capital ones for kings.
 fn cell_sign(cell: Cell) -> &'static str {

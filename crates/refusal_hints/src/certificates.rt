@@ -1,10 +1,9 @@
 //! Certificates: the line of an entry, and what is wrong with a text.
 ghost use Rattle.std.specs.Prelude.{◌≤◌, IfSome, length};
 
-use crate::excerpts::say_excerpt;
-use crate::texts::{say, say_number};
 use opening_report::Refusal;
 use std::alloc::AllocError;
+use terminal_text::{say, say_excerpt, say_number};
 
 /// The next number, up to the last.
 fn one_more(n: usize) -> usize {

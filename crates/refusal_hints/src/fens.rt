@@ -1,8 +1,8 @@
 //! FENs that are no position.
 use crate::boards::side_name;
-use crate::texts::{say, say_number};
 use fen_text::FenRefusal;
 use std::alloc::AllocError;
+use terminal_text::{say, say_number};
 
 /// What is wrong with a byte at which a letter or a sign is due.
 fn letter_advice(fen: &[u8], at: usize) -> &'static str {

@@ -2,18 +2,16 @@
 ghost use Rattle.std.specs.Prelude.{◌≤◌, ◌<◌, ◌+◌, length};
 
 use crate::boards::{say_position, side_name};
-use crate::excerpts::say_excerpt;
 use crate::fens::{place_in_fen, say_fen_fault};
 use crate::move_lists::{is_capture, legal_moves_text, push_moves};
 use crate::pdn::{QUOTE_WIDTH, word_from};
-use crate::places::place_of;
-use crate::texts::{quote, say, say_number};
 use draughts_board::{Move, Position, is_written};
 use draughts_rules::legal_moves;
 use fen_text::FenRefusal;
 use pdn_openings::{OpeningRefusal, openings};
 use pdn_text::{Game, MoveText, PdnRefusal, read_games};
 use std::alloc::{AllocError, Global};
+use terminal_text::{quote, say, say_excerpt, say_number, say_place};
 
 /// The games of a source; none where it has no games to be read.
 pub(crate) fn games_of(alloc: Global, source: &[u8]) -> Result<Vec<Game>, AllocError> {
@@ -104,12 +102,10 @@ fn find_quoted(source: &[u8], from: usize, bytes: &[u8]) -> Option<usize>
     None
 }
 
-/// Appends a line and a column, and the text as it stands there.
-pub(crate) fn say_place(text: &mut Vec<u8>, source: &[u8], at: usize) -> Result<(), AllocError> {
+/// Appends the line and the column of a byte, and the text as it stands there.
+fn say_byte(text: &mut Vec<u8>, source: &[u8], at: usize) -> Result<(), AllocError> {
     let at = at.min(source.len());
-    let place = place_of(source, at);
-    say_number(text, "line ", place.line as u64, "")?;
-    say_number(text, ", column ", place.column as u64, ":\n")?;
+    say_place(text, source, at)?;
     say_excerpt(text, source, at)
 }
 
@@ -127,7 +123,7 @@ pub(crate) fn say_fen(
     let fen = value_of(game, b"FEN").unwrap_or(b"");
     let within = place_in_fen(fault).unwrap_or(0);
     match find_quoted(source, end_of_earlier(games, number, source), fen) {
-        Some(place) => say_place(text, source, place.saturating_add(within)),
+        Some(place) => say_byte(text, source, place.saturating_add(within)),
         None => say_excerpt(text, fen, within.min(fen.len())),
     }?;
     say_game(text, number, game)?;

@@ -1,21 +1,20 @@
 //! The text on a refusal.
 ghost use Rattle.std.specs.Prelude.{◌≡◌, ◌≤◌, ◌++◌, ℕ, List, All, IfOk, IfSome, OnOk, length};
 ghost use Rattle.opening_report.specs.declared.refusals.Refusal.{Refusal as Cause};
-ghost use Rattle.refusal_hints.specs.Places.{column_at, line_at};
-ghost use Rattle.refusal_hints.specs.Refusals.{fault_place, place_text};
-ghost use Rattle.refusal_hints.specs.Shown.{IsShown, shown};
+ghost use Rattle.refusal_hints.specs.Refusals.{fault_place};
+ghost use Rattle.terminal_text.specs.Places.{place_text};
+ghost use Rattle.terminal_text.specs.Shown.{IsShown, shown};
 
 use crate::certificates::{say_check_fault, say_text_fault};
 use crate::games::{game_numbered, games_of, say_fen, say_move_fault, say_other_game};
 use crate::journals::{say_journal, say_limit};
 use crate::lines::refusal_of_line;
 use crate::pdn::say_pdn;
-use crate::places::place_of;
 use crate::tables::say_table;
-use crate::texts::{say_number, shown};
 use crate::words::say_words;
 use opening_report::Refusal;
 use std::alloc::{AllocError, Global};
+use terminal_text::{say_place, shown};
 
 /// The byte of the source that a refusal names, counted from 0, if it names one.
 fn fault_place(refusal: &Refusal) -> Option<usize>
@@ -38,10 +37,8 @@ fn place_line(alloc: Global, source: &[u8], at: usize) -> Result<Vec<u8>, AllocE
     requires { at ≤ length source.now }
     ensures { IfOk result (λ text. text.items ≡ place_text source.now at) }
 {
-    let place = place_of(source, at);
     let mut text = Vec::new(alloc);
-    say_number(&mut text, "line ", place.line as u64, "")?;
-    say_number(&mut text, ", column ", place.column as u64, ":\n")?;
+    say_place(&mut text, source, at)?;
     Ok(text)
 }
 

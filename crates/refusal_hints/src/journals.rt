@@ -1,7 +1,7 @@
 //! Journals, limits and streams: what can be done.
-use crate::texts::{say, say_number};
 use opening_report::Refusal;
 use std::alloc::AllocError;
+use terminal_text::{say, say_number};
 
 /// Appends what can be done where a journal, or its disk, refuses.
 pub(crate) fn say_journal(text: &mut Vec<u8>, refusal: &Refusal) -> Result<(), AllocError> {

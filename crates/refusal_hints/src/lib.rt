@@ -4,12 +4,11 @@
 //! [`hint`] makes it of the refusal, the words of the command line and the source's bytes, and reads
 //! nothing else. The text is printable ASCII and line ends, whatever the source holds. Where the
 //! refusal names a byte, it begins with the line and the column of that byte by the definitions of
-//! `specs/Places.antt`.
+//! `terminal_text/Places.antt`.
 #![tactic(auto)]
 
 mod boards;
 mod certificates;
-mod excerpts;
 mod fens;
 mod games;
 mod hints;
@@ -17,15 +16,11 @@ mod journals;
 mod lines;
 mod move_lists;
 mod pdn;
-mod places;
 mod tables;
 #[cfg(test)]
 mod tests;
-mod texts;
 mod words;
 
-pub use excerpts::{EXCERPT_WIDTH, Excerpt, excerpt_of};
 pub use hints::{hint, hint_on_line};
 pub use lines::refusal_of_line;
 pub use move_lists::legal_moves_text;
-pub use places::{Place, place_of};

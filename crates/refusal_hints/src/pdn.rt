@@ -1,10 +1,9 @@
 //! Texts that are no PDN.
 ghost use Rattle.std.specs.Prelude.{◌≤◌, length};
 
-use crate::excerpts::say_excerpt;
-use crate::texts::{quote, say};
 use opening_report::Refusal;
 use std::alloc::AllocError;
+use terminal_text::{quote, say, say_excerpt};
 
 /// How many bytes of a word or a tag are quoted at most.
 pub(crate) const QUOTE_WIDTH: usize = 40;

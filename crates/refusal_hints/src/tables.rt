@@ -1,11 +1,11 @@
 //! Endgame tables: the position of an index.
 use crate::boards::say_position;
-use crate::texts::{say, say_number};
 use endgame_table::answer_of;
 use opening_report::Refusal;
 use std::alloc::AllocError;
 use strategy_certificate::Answer;
 use table_index::{entry_count, position_at};
+use terminal_text::{say, say_number};
 
 /// How many bytes a table has before its first number.
 const HEAD_LENGTH: u64 = 8;

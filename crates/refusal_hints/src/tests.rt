@@ -1,5 +1,5 @@
 //! Texts on refusals, written by hand.
-use crate::{excerpt_of, hint, hint_on_line, legal_moves_text, place_of, refusal_of_line};
+use crate::{hint, hint_on_line, legal_moves_text, refusal_of_line};
 use draughts_board::{Position, Side, Square};
 use fen_text::{FenRefusal, read_fen};
 use opening_report::Refusal;
@@ -12,46 +12,10 @@ fn told(alloc: Global, refusal: Refusal, source: &[u8]) -> Result<String, Fail> 
     Ok(String::from_utf8(text)?)
 }
 
-/// The ends of the excerpt at a byte, or at the end of the source.
-fn ends(source: &[u8], at: usize) -> (usize, usize) {
-    let excerpt = excerpt_of(source, at.min(source.len()));
-    (excerpt.first, excerpt.behind)
-}
-
 /// The text on a refusal of the words.
 fn told_words(alloc: Global, words: &[&str], at: usize) -> Result<String, Fail> {
     let text = hint(alloc, words, &Refusal::Words(at), b"")?;
     Ok(String::from_utf8(text)?)
-}
-
-#[test]
-fn lines_end_in_three_ways(rt: HostRuntime) {
-    let source = b"ab\nc\r\n\rd\n\nef";
-    for (at, line, column) in [
-        (0, 1, 1),
-        (2, 1, 3),
-        (3, 2, 1),
-        (4, 2, 2),
-        (5, 2, 3),
-        (6, 3, 1),
-        (7, 4, 1),
-        (8, 4, 2),
-        (9, 5, 1),
-        (10, 6, 1),
-        (12, 6, 3),
-    ] {
-        let place = place_of(source, at.min(source.len()));
-        assert_eq!(rt; (place.line, place.column), (line, column), "{at}");
-    }
-}
-
-#[test]
-fn excerpts_are_cut(rt: HostRuntime) -> Result<(), Fail> {
-    assert_eq!(rt; ends(b"ab\r\ncde\nf", 5), (4, 7));
-    let long = vec![in rt.alloc(); b'.'; 200]?;
-    assert_eq!(rt; ends(&long, 100), (60, 124));
-    assert_eq!(rt; ends(&long, 3), (0, 64));
-    Ok(())
 }
 
 #[test]
@@ -288,6 +252,11 @@ fn journals_and_limits(rt: HostRuntime) -> Result<(), Fail> {
     assert_eq!(rt;
         text.as_str(),
         "Root 5 has no value yet. Go on with `solve`, with a larger `--budget` or `--depth`.\n"
+    );
+    let text = hint_on_line(rt.alloc(), &["-", "solve"], b"refused memory\n", b"")?;
+    assert_eq!(rt;
+        text.as_slice(),
+        b"Memory ran out. What was written to the journal before is kept.\n".as_slice()
     );
     Ok(())
 }

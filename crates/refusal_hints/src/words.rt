@@ -1,7 +1,7 @@
 //! Words that are no command: what is meant, and what may be written.
-use crate::texts::{quote, say, say_number};
 use std::alloc::{AllocError, Global};
 use strsim::levenshtein;
+use terminal_text::{quote, say, say_number};
 
 /// The commands, in the order of the manual.
 const COMMANDS: [&str; 7] = [

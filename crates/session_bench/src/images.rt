@@ -1,7 +1,8 @@
 //! What crashes leave of a session's disk.
-use crate::working::{Stop, run, settings};
+use crate::trees::SeenTree;
+use crate::working::{Committed, Stop, run, settings};
 use anyhow::{Result, bail};
-use bench_disk::MemoryDisk;
+use bench_disk::{Disk, MemoryDisk};
 use disk_journal::{Payload, read_journal};
 use endgame_table::Table;
 use std::alloc::Global;
@@ -10,11 +11,34 @@ use tree_manager::Session;
 /// So many images are looked at of each disk: the one without what is pending, the one with all of it, and torn ones.
 const IMAGES: u64 = 64;
 
-/// Of the images of a disk, whether there are some without the commit that failed, and some with it.
-#[derive(Clone, Copy, PartialEq, Eq, Default)]
+/// What was seen of the images of a disk.
+#[derive(Clone, Copy, Default)]
 pub(crate) struct Seen {
-    pub(crate) without: bool,
-    pub(crate) with: bool,
+    /// So many images are without the commit that failed.
+    pub(crate) without: u64,
+    /// So many have it.
+    pub(crate) with: u64,
+    /// So many nodes of theirs were compared.
+    pub(crate) nodes: u64,
+}
+
+/// A session that was never stopped: all that it committed, and its trees.
+#[derive(Clone, Copy)]
+pub(crate) struct Unstopped<'a> {
+    pub(crate) payloads: &'a [Payload],
+    pub(crate) commits: &'a [Committed],
+}
+
+impl<'a> Unstopped<'a> {
+    /// Its tree behind the commit with which it had so many records.
+    fn tree(&self, records: u64) -> Result<&'a SeenTree> {
+        for commit in self.commits {
+            if commit.records == records {
+                return Ok(&commit.tree);
+            }
+        }
+        bail!("an image has another number of records")
+    }
 }
 
 /// Whether the payloads are the first of these.
@@ -26,19 +50,23 @@ fn are_first(payloads: &[Payload], all: &[Payload]) -> bool {
 }
 
 /// What a session has that is attached to a disk.
-#[derive(Clone, Copy)]
+#[derive(Drop)]
 struct Attached {
     records: u64,
-    nodes: usize,
+    tree: SeenTree,
+}
+
+/// What the session has.
+fn what_stands<D: Disk>(alloc: Global, session: &mut Session<D>) -> Result<Attached> {
+    let records = session.commit()?.number;
+    let tree = SeenTree::of(alloc, session.bench().tree())?;
+    Ok(Attached { records, tree })
 }
 
 /// What a session has that is attached to the disk.
-fn attach(alloc: Global, disk: MemoryDisk, table: &Table) -> Result<Attached> {
+fn attach<D: Disk + Drop>(alloc: Global, disk: D, table: &Table) -> Result<Attached> {
     match Session::attach(alloc, disk, settings(table.pieces()), table) {
-        Ok(mut session) => Ok(Attached {
-            records: session.commit()?.number,
-            nodes: session.bench().tree().len(),
-        }),
+        Ok(mut session) => what_stands(alloc, &mut session),
         Err((_, refusal)) => Err(refusal.into()),
     }
 }
@@ -71,19 +99,27 @@ fn look(alloc: Global, image: &MemoryDisk, all: &[Payload], table: &Table) -> Re
 }
 
 impl Seen {
-    /// An image is seen: it has what was acknowledged, and the tree of then, or the commit that failed too.
-    fn count(&mut self, stop: &Stop, attached: Attached) -> Result<()> {
-        if attached.records == stop.acknowledged {
-            self.without = true;
-            if attached.nodes != stop.nodes {
-                bail!("an image has another tree");
-            }
+    /// An image is seen. It has what was acknowledged, and the tree of the session that stopped; or the commit that failed
+    /// too, and the tree of the one that was never stopped, of then.
+    fn count(&mut self, stop: &Stop, attached: &Attached, unstopped: Unstopped<'_>) -> Result<()> {
+        let compared = if attached.records == stop.acknowledged {
+            self.without = self.without.saturating_add(1);
+            stop.tree.compare(&attached.tree)?
         } else if attached.records == stop.acknowledged.saturating_add(stop.waiting) {
-            self.with = true;
+            self.with = self.with.saturating_add(1);
+            unstopped.tree(attached.records)?.compare(&attached.tree)?
         } else {
-            bail!("an image has another number of records");
-        }
+            bail!("an image has another number of records")
+        };
+        self.nodes = self.nodes.saturating_add(compared);
         Ok(())
+    }
+
+    /// What was seen of the images of several disks.
+    pub(crate) fn add(&mut self, other: Seen) {
+        self.without = self.without.saturating_add(other.without);
+        self.with = self.with.saturating_add(other.with);
+        self.nodes = self.nodes.saturating_add(other.nodes);
     }
 }
 
@@ -93,13 +129,14 @@ pub(crate) fn look_at_all(
     alloc: Global,
     disk: &MemoryDisk,
     stop: &Stop,
-    all: &[Payload],
+    unstopped: Unstopped<'_>,
     table: &Table,
 ) -> Result<Seen> {
     let mut seen = Seen::default();
     for choice in 0..IMAGES {
         let image = disk.crash(choice)?;
-        seen.count(stop, look(alloc, &image, all, table)?)?;
+        let attached = look(alloc, &image, unstopped.payloads, table)?;
+        seen.count(stop, &attached, unstopped)?;
     }
     Ok(seen)
 }

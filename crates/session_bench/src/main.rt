@@ -2,35 +2,43 @@
 //!
 //! A session begins three roots and works until all are settled, on a disk in memory that refuses every call from one on.
 //! Of the images that a crash may then leave, each attaches, has the records that were acknowledged and all or none of the
-//! commit that failed, and goes on to the end. A difference ends the program with an error. For each number of calls that
-//! the disk takes it prints with how many records there are images. Before, it plays a session worked out by hand.
+//! commit that failed, and goes on to the end. Its tree is compared node by node with that of the session that stopped or,
+//! where the image has the commit that failed, with that of a session that was never stopped, as it was behind that commit.
+//! A difference ends the program with an error. For each number of calls that the disk takes it prints how many images have
+//! how many records, and how many nodes were compared. Before, it plays a session worked out by hand.
 #![tactic(auto)]
 
 mod images;
 mod searching;
+mod trees;
 mod worked;
 mod working;
 
-use crate::images::{Seen, look_at_all};
+use crate::images::{Seen, Unstopped, look_at_all};
 use crate::worked::goes_as_worked;
 use crate::working::{Stop, run};
 use anyhow::{Result, bail};
 use bench_disk::{Disk, FuseDisk, MemoryDisk};
-use disk_journal::{Payload, read_journal};
+use disk_journal::read_journal;
 use endgame_table::{Table, fill};
 use std::alloc::Global;
 
 /// Prints which images were seen, where the session stopped there.
 fn print_seen(rt: &impl Print, calls: u64, stop: &Stop, seen: Seen) -> Result<()> {
+    let Seen {
+        without,
+        with,
+        nodes,
+    } = seen;
     let before = stop.acknowledged;
     let behind = before.saturating_add(stop.waiting);
-    match (seen.without, seen.with) {
-        (true, true) => println!(rt;
-            "{calls} calls: images with {before} records and with {behind}"
-        )?,
-        (true, false) => println!(rt; "{calls} calls: images with {before} records")?,
-        (false, _) => println!(rt; "{calls} calls: images with {behind} records")?,
+    print!(rt; "{calls} calls: ")?;
+    match (without, with) {
+        (_, 0) => print!(rt; "{without} images with {before} records")?,
+        (0, _) => print!(rt; "{with} images with {behind} records")?,
+        _ => print!(rt; "{without} images with {before} records, {with} with {behind}")?,
     }
+    println!(rt; ", {nodes} nodes compared")?;
     Ok(())
 }
 
@@ -38,13 +46,36 @@ fn print_seen(rt: &impl Print, calls: u64, stop: &Stop, seen: Seen) -> Result<()
 fn stop_behind(
     rt: &(impl Print + Alloc<A = Global>),
     calls: u64,
-    all: &[Payload],
+    unstopped: Unstopped<'_>,
     table: &Table,
-) -> Result<()> {
+) -> Result<Seen> {
     let disk = FuseDisk::new(MemoryDisk::new(rt.alloc()), calls);
     let (stop, disk) = run(rt.alloc(), disk, table)?;
-    let seen = look_at_all(rt.alloc(), &disk.into_inner(), &stop, all, table)?;
-    print_seen(rt, calls, &stop, seen)
+    let seen = look_at_all(rt.alloc(), &disk.into_inner(), &stop, unstopped, table)?;
+    print_seen(rt, calls, &stop, seen)?;
+    Ok(seen)
+}
+
+/// Stops a session at each of so many calls of its disk, and behind the last, and prints what was seen in all.
+fn stop_at_all(
+    rt: &(impl Print + Alloc<A = Global>),
+    calls: u64,
+    unstopped: Unstopped<'_>,
+    table: &Table,
+) -> Result<()> {
+    let mut total = Seen::default();
+    for passed in 0..=calls {
+        total.add(stop_behind(rt, passed, unstopped, table)?);
+    }
+    let Seen {
+        without,
+        with,
+        nodes,
+    } = total;
+    println!(rt;
+        "{without} images without the commit that failed, {with} with it, {nodes} nodes compared"
+    )?;
+    Ok(())
 }
 
 /// Plays the worked session with leases that last for one lease given, and for two.
@@ -70,15 +101,11 @@ fn main(rt: HostRuntime) -> Result<()> {
     }
     let calls = disk.moment();
     let (_, all) = read_journal(alloc, &mut disk)?;
-    let Stop {
-        acknowledged,
-        commits,
-        nodes,
-        ..
-    } = stop;
-    println!(rt; "{acknowledged} records in {commits} commits, {calls} calls, {nodes} nodes")?;
-    for passed in 0..=calls {
-        stop_behind(&rt, passed, &all, &table)?;
-    }
-    Ok(())
+    let (records, commits, nodes) = (stop.acknowledged, stop.commits.len(), stop.tree.len());
+    println!(rt; "{records} records in {commits} commits, {calls} calls, {nodes} nodes")?;
+    let unstopped = Unstopped {
+        payloads: &all,
+        commits: &stop.commits,
+    };
+    stop_at_all(&rt, calls, unstopped, &table)
 }

@@ -2,6 +2,7 @@
 ghost use Rattle.std.specs.Prelude.{◌≡◌};
 
 use crate::searching::outcome_of;
+use crate::trees::SeenTree;
 use anyhow::Result;
 use bench_core::{LeaseRefusal, Settings};
 use bench_disk::Disk;
@@ -9,7 +10,8 @@ use disk_journal::{JournalRefusal, Receipt};
 use draughts_board::Position;
 use endgame_table::Table;
 use fen_text::read_fen;
-use std::alloc::Global;
+use proof_tree::Tree;
+use std::alloc::{AllocError, Global};
 use tree_manager::{BeginRefusal, CommitRefusal, Session};
 
 /// So many roots a session begins.
@@ -32,27 +34,50 @@ pub(crate) fn settings(pieces: u8) -> Settings
     }
 }
 
+/// What a session's tree showed behind a commit.
+#[derive(Drop)]
+pub(crate) struct Committed {
+    /// So many records were acknowledged.
+    pub(crate) records: u64,
+    pub(crate) tree: SeenTree,
+}
+
 /// Where a session stopped.
-#[derive(Clone, Copy, PartialEq, Eq, Default)]
+#[derive(Drop)]
 pub(crate) struct Stop {
     /// So many records were acknowledged.
     pub(crate) acknowledged: u64,
     /// So many more were staged, in the commit that failed.
     pub(crate) waiting: u64,
-    /// So many commits were acknowledged, that of the roots among them.
-    pub(crate) commits: u32,
-    /// So many nodes its tree had.
-    pub(crate) nodes: usize,
+    /// What its tree showed there.
+    pub(crate) tree: SeenTree,
+    /// What it showed behind each commit that was acknowledged, that of the roots among them.
+    pub(crate) commits: Vec<Committed>,
     /// Every root is settled.
     pub(crate) done: bool,
 }
 
 impl Stop {
-    /// A commit is acknowledged, with so many records in all.
-    fn acknowledge(&mut self, number: u64) {
+    /// Where the disk failed before anything was acknowledged, and so many records were staged.
+    fn of(alloc: Global, waiting: u64) -> Stop {
+        Stop {
+            acknowledged: 0,
+            waiting,
+            tree: SeenTree::empty(alloc),
+            commits: Vec::new(alloc),
+            done: false,
+        }
+    }
+
+    /// A commit is acknowledged, with so many records in all. Behind it this is the tree.
+    fn acknowledge(&mut self, alloc: Global, number: u64, tree: &Tree) -> Result<(), AllocError> {
         self.acknowledged = number;
         self.waiting = 0;
-        self.commits = self.commits.saturating_add(1);
+        self.commits.push(Committed {
+            records: number,
+            tree: SeenTree::of(alloc, tree)?,
+        })?;
+        Ok(())
     }
 }
 
@@ -90,6 +115,18 @@ fn stage_round<D: Disk>(
     Ok((staged, false))
 }
 
+/// Commits what is staged: whether it is acknowledged, which it is unless the disk fails.
+fn commit<D: Disk>(alloc: Global, session: &mut Session<D>, stop: &mut Stop) -> Result<bool> {
+    match session.commit() {
+        Ok(receipt) => {
+            stop.acknowledge(alloc, receipt.number, session.bench().tree())?;
+            Ok(true)
+        }
+        Err(CommitRefusal::Disk) => Ok(false),
+        Err(refusal) => Err(refusal.into()),
+    }
+}
+
 /// Works in rounds until every root is settled or the disk fails.
 fn work<D: Disk>(
     alloc: Global,
@@ -101,16 +138,29 @@ fn work<D: Disk>(
         let (staged, done) = stage_round(alloc, session, table)?;
         stop.waiting = staged;
         stop.done = done;
-        if done {
+        if done || !commit(alloc, session, stop)? {
             return Ok(());
-        }
-        match session.commit() {
-            Ok(receipt) => stop.acknowledge(receipt.number),
-            Err(CommitRefusal::Disk) => return Ok(()),
-            Err(refusal) => return Err(refusal.into()),
         }
     }
     Ok(())
+}
+
+/// Works on in the session that began its roots with this answer, until all are settled or the disk fails.
+fn work_on<D: Disk>(
+    alloc: Global,
+    session: &mut Session<D>,
+    begun: Result<Receipt, BeginRefusal>,
+    table: &Table,
+    stop: &mut Stop,
+) -> Result<()> {
+    match begun {
+        Ok(receipt) => {
+            stop.acknowledge(alloc, receipt.number, session.bench().tree())?;
+            work(alloc, session, table, stop)
+        }
+        Err(BeginRefusal::Disk) => Ok(()),
+        Err(refusal) => Err(refusal.into()),
+    }
 }
 
 /// Where the session stops that began its roots with this answer. It works until all are settled or the disk fails.
@@ -120,26 +170,16 @@ fn go_on<D: Disk>(
     begun: Result<Receipt, BeginRefusal>,
     table: &Table,
 ) -> Result<Stop> {
-    let mut stop = Stop {
-        waiting: BEGUN,
-        ..Stop::default()
-    };
-    match begun {
-        Ok(receipt) => {
-            stop.acknowledge(receipt.number);
-            work(alloc, session, table, &mut stop)?;
-        }
-        Err(BeginRefusal::Disk) => {}
-        Err(refusal) => return Err(refusal.into()),
-    }
-    stop.nodes = session.bench().tree().len();
+    let mut stop = Stop::of(alloc, BEGUN);
+    work_on(alloc, session, begun, table, &mut stop)?;
+    stop.tree = SeenTree::of(alloc, session.bench().tree())?;
     Ok(stop)
 }
 
 /// What there is where no session attached to the disk, which is an error but where the disk failed.
-fn without_session<D: Drop>(disk: D, refusal: JournalRefusal) -> Result<(Stop, D)> {
+fn without_session<D: Drop>(alloc: Global, disk: D, refusal: JournalRefusal) -> Result<(Stop, D)> {
     match refusal {
-        JournalRefusal::DiskFault => Ok((Stop::default(), disk)),
+        JournalRefusal::DiskFault => Ok((Stop::of(alloc, 0), disk)),
         refusal => Err(refusal.into()),
     }
 }
@@ -154,6 +194,6 @@ pub(crate) fn run<D: Disk + Drop>(alloc: Global, disk: D, table: &Table) -> Resu
             let stop = go_on(alloc, &mut session, begun, table)?;
             Ok((stop, session.into_disk()))
         }
-        Err((disk, refusal)) => without_session(disk, refusal),
+        Err((disk, refusal)) => without_session(alloc, disk, refusal),
     }
 }

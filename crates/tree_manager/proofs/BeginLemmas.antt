@@ -17,7 +17,7 @@ use Rattle.tree_manager.specs.declared.marks.Mark.{Mark}
 use Rattle.tree_manager.specs.declared.marks.Mark.TheVariants.{Put}
 use Rattle.tree_manager.specs.Entries.{breaks, faults_told}
 use Rattle.tree_manager.specs.Lines.{recorded, is_failed}
-use Rattle.tree_manager.specs.Histories.{IsHistory, Follows}
+use Rattle.tree_manager.specs.Histories.{IsCoreOf, IsHistory, Follows}
 use Rattle.tree_manager.specs.Receipts.{SpellsRecords}
 use Rattle.tree_manager.specs.Synced.{IsSynced}
 use Rattle.tree_manager.specs.Weaving.{woven, puts_marked}
@@ -27,7 +27,7 @@ use Rattle.tree_manager.specs.declared.refusals.CommitRefusal.{CommitRefusal}
 use Rattle.tree_manager.specs.declared.refusals.CommitRefusal.TheVariants as commit
 use Rattle.proof_tree.specs.Sound.{root_positions}
 use Rattle.tree_manager.proofs.LineLemmas.{any_push_not, recorded_push}
-use Rattle.tree_manager.proofs.EachLemmas.{Each-append}
+use Rattle.bench_core.proofs.Lists.{Each-append}
 use Rattle.tree_manager.proofs.HistoryLaws.{history_stands}
 use Rattle.tree_manager.proofs.ForgetLemmas.{rows_live}
 use Rattle.tree_manager.proofs.ReceiptLemmas.{spell_length, synced_put}
@@ -211,6 +211,14 @@ has_begun old mid new positions added moment h idle appends none = ⊎_elim
       applied = inr (subst (λ (c : Core). IsCommitted c new.core) h.core (appends some).enters);
       none_staged = none;
     })
+    (some_or_none mid.core.staged)
+
+-- the line behind them stands for the core
+pub begun_stands : {D : Type 0} (mid new : SessionState D) (moment : ℕ) → IsHistory mid.line mid.core → is_failed mid.line ≡ false → (is_failed mid.line ≡ false → mid.core.staged ≡ [] → new ≡ mid)
+    → ((mid.core.staged ≡ [] → ⊥) → Appends mid (entry.Acked moment) new) → IsCoreOf new.line new.core
+begun_stands mid new moment history unfailed idle appends = ⊎_elim
+    (λ nothing. subst (λ (s : SessionState _). IsCoreOf s.line s.core) (sym (idle unfailed nothing)) (history_stands mid.line mid.core history).0)
+    (λ some. let more = appends some in (history_stands new.line new.core (Follows new.line new.core mid.line mid.core (entry.Acked moment) more.line history unfailed more.enters)).0)
     (some_or_none mid.core.staged)
 
 pub begin_refused : {D : Type 0} (faults : D → ℕ) (old mid new : SessionState D) (positions added : List Board) (refusal : CommitRefusal) → AreBeginning old mid positions added → RefusesCommit faults mid new refusal

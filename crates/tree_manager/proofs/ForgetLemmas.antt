@@ -21,7 +21,7 @@ use Rattle.tree_manager.specs.LiveLeases.{has_staged, row_left, rows_left}
 use Rattle.tree_manager.specs.Histories.{IsCoreOf, IsHistory}
 use Rattle.tree_manager.proofs.RowLemmas.{row_from, row_ends}
 use Rattle.tree_manager.proofs.CoreLemmas.{Contains-cases, contains_nothing, any_contains}
-use Rattle.tree_manager.proofs.EachLemmas.{Each-append}
+use Rattle.bench_core.proofs.Lists.{Each-append}
 use Rattle.tree_manager.proofs.HistoryLaws.{history_stands}
 
 -- ---- rows of a line live

@@ -29,7 +29,7 @@ lines_tell_cores line core history = (history_stands line core history).0
 
 -- ---- the entry at a place
 
-split_last : {X : Type 0} (ys : List X) → (ys ≡ []) ⊎ ((zs : List X) × (z : X) × (ys ≡ zs ++ z ∷ []))
+pub split_last : {X : Type 0} (ys : List X) → (ys ≡ []) ⊎ ((zs : List X) × (z : X) × (ys ≡ zs ++ z ∷ []))
 split_last [] = inl refl
 split_last (y ∷ ys) = ⊎_elim
     (λ none. inr ([], y, ap (λ l. y ∷ l) none))
@@ -37,7 +37,7 @@ split_last (y ∷ ys) = ⊎_elim
     (split_last ys)
 
 -- nothing stands behind the Attached that a session begins with
-begun_cut : (rs : List BenchRecord) (a b : Attachment) (before behind : List Entry) (x : Entry) → map Put rs ++ Attached a ∷ [] ≡ before ++ x ∷ behind → attachment_of before ≡ Some b → ⊥
+pub begun_cut : (rs : List BenchRecord) (a b : Attachment) (before behind : List Entry) (x : Entry) → map Put rs ++ Attached a ∷ [] ≡ before ++ x ∷ behind → attachment_of before ≡ Some b → ⊥
 begun_cut rs a b [] behind x h attached = cc attached
 begun_cut [] a b (y ∷ before) behind x h attached = omega (arith, ap length h, length-append before (x ∷ behind))
 begun_cut (r ∷ rs) a b (y ∷ before) behind x h attached =

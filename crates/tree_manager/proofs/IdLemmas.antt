@@ -22,7 +22,7 @@ use Rattle.tree_manager.specs.Keeping.{waiting_leases}
 use Rattle.tree_manager.proofs.LineLemmas.{any_push_not}
 use Rattle.tree_manager.proofs.CoreLemmas.{Contains-cases, contains_nothing}
 use Rattle.tree_manager.proofs.OwedLemmas.{waiting_without}
-use Rattle.tree_manager.proofs.EachLemmas.{Each-append, Each-weaker}
+use Rattle.bench_core.proofs.Lists.{Each-append, Each-weaker}
 use Rattle.tree_manager.proofs.PickLemmas.{lease_number}
 
 -- ---- rows in the order of their numbers

@@ -25,7 +25,7 @@ use Rattle.tree_manager.specs.Histories.{Enters, Follows}
 use Rattle.tree_manager.specs.Weaving.{woven, entry_marked, puts_marked}
 use Rattle.tree_manager.specs.Keeping.{waiting_leases, entries_owed, IsSession}
 use Rattle.tree_manager.proofs.LineLemmas.{recorded_split, any_push_not, any_push_yes}
-use Rattle.tree_manager.proofs.EachLemmas.{Each-append, Each-weaker}
+use Rattle.bench_core.proofs.Lists.{Each-append, Each-weaker}
 use Rattle.tree_manager.proofs.CoreLemmas.{attachment_push, run_grown}
 use Rattle.tree_manager.proofs.HistoryLaws.{history_stands}
 use Rattle.tree_manager.proofs.OwedLemmas.{waiting_filter}

@@ -1,4 +1,3 @@
-pub mod EachLemmas
 pub mod LineLemmas
 pub mod RowLemmas
 pub mod PickLemmas
@@ -20,4 +19,5 @@ pub mod ExactLemmas
 pub mod WorksLemmas
 pub mod TurnLemmas
 pub mod SharedLemmas
+pub mod CountingLemmas
 pub mod SearchLemmas

@@ -20,7 +20,7 @@ use Rattle.tree_manager.specs.Lines.{recorded, applied_in, unapplied_in, is_fail
 use Rattle.tree_manager.specs.Receipts.{SpellsRecords, AreLawfulInTurn, ReadsBetween, Acknowledgement, acknowledged_by, acknowledgements, most_left, KeepsReceipts}
 use Rattle.tree_manager.specs.Synced.{LeavesPayloads, IsSynced}
 use Rattle.tree_manager.proofs.LineLemmas.{applied_more, applied_all, staged_more, staged_none, recorded_split, any_push_not, any_push_yes}
-use Rattle.tree_manager.proofs.EachLemmas.{Each-append, Each-weaker, Each-both}
+use Rattle.bench_core.proofs.Lists.{Each-append, Each-weaker, Each-both}
 
 -- ---- prefixes
 

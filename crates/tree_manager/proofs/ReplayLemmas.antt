@@ -42,7 +42,7 @@ use Rattle.tree_manager.specs.Replaying.{IsReplayedCore, ReplayStopsAt, RefusesP
 use Rattle.tree_manager.specs.Weaving.{woven, puts_marked}
 use Rattle.tree_manager.specs.Keeping.{waiting_leases, IsSession}
 use Rattle.tree_manager.proofs.CoreLemmas.{grows_append}
-use Rattle.tree_manager.proofs.EachLemmas.{Each-append}
+use Rattle.bench_core.proofs.Lists.{Each-append}
 use Rattle.tree_manager.proofs.HistoryLaws.{replayed_whole}
 use Rattle.tree_manager.proofs.ReceiptLemmas.{spell_append, spell_length, synced_begun}
 use Rattle.tree_manager.proofs.WeavingLemmas.{woven_other, puts_push}

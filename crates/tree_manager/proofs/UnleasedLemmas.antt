@@ -14,7 +14,7 @@ use Rattle.tree_manager.specs.Entries.{record_put, acknowledges}
 use Rattle.tree_manager.specs.Lines.{unapplied_in}
 use Rattle.tree_manager.specs.LiveLeases.{lives_on, has_staged, row_left, rows_left}
 use Rattle.tree_manager.specs.Histories.{IsCoreOf}
-use Rattle.tree_manager.proofs.EachLemmas.{Each-append}
+use Rattle.bench_core.proofs.Lists.{Each-append}
 
 none_cond : (b : Bool) (rs qs : List BenchRecord) → cond b qs (rs ++ qs) ≡ [] → qs ≡ []
 none_cond true rs qs h = h

@@ -1,9 +1,10 @@
 -- What one turn of a shared session does, said of the line that it found and of the line that it
 -- left, which is the front of its pass.
-use Rattle.std.specs.Prelude.{◌≡◌, ◌≢◌, ◌⊎◌, ℕ, false, List, [], ◌∷◌, ◌++◌, Contains, length, Result, Ok, Err}
+use Rattle.std.specs.Prelude.{◌≡◌, ◌≢◌, ◌⊎◌, ℕ, false, List, [], ◌∷◌, ◌++◌, Contains, length, count_by, is_some, Result, Ok, Err}
 use Rattle.turn_lock.specs.Growth.{GrowsTo}
 use Rattle.draughts_board.specs.Draughts.{draughts}
 use Rattle.draughts_board.specs.Game.{is_at_sight}
+use Rattle.proof_tree.specs.Forest.{Forest, nodes, value_of}
 use Rattle.certificate_checker.specs.declared.outcomes.Outcome.{Outcome}
 use Rattle.disk_journal.specs.declared.journal.Receipt.{Receipt}
 use Rattle.lease_table.specs.declared.leases.Lease.{Lease}
@@ -13,6 +14,7 @@ use Rattle.bench_core.specs.declared.refusals.LeaseRefusal.TheVariants as lease
 use Rattle.bench_core.specs.States.{CoreState, HasRow, lease_answer}
 use Rattle.bench_core.specs.Cores.{Core, record_of}
 use Rattle.bench_core.specs.Answers.{unkept}
+use Rattle.tree_manager.specs.declared.counting.RootCounts.{RootCounts}
 use Rattle.tree_manager.specs.declared.entries.Entry.{Entry}
 use Rattle.tree_manager.specs.declared.entries.Entry.TheVariants.{Put, Leased, Released, Acked, Broken}
 use Rattle.tree_manager.specs.declared.refusals.StageRefusal.{StageRefusal}
@@ -70,6 +72,11 @@ MayRelease id line = InStateOf line (λ s. HasRow (λ row. row.kept ≡ false) s
 abbrev pub MayNotRelease : ℕ → List Entry → Type 0
 MayNotRelease id line = InStateOf line (λ s. ¬ HasRow (λ row. row.kept ≡ false) s id)
 
+-- so many roots, of which so many are settled
+pub record AreRootCounts (counts : RootCounts) (roots : Forest) : Type 0 where
+  pub all : counts.all ≡ length (nodes roots)
+  pub settled : counts.settled ≡ count_by (λ root. is_some (value_of root)) (nodes roots)
+
 -- ---- what each call does, by its answer
 
 module _ (found new : List Entry) where
@@ -114,3 +121,7 @@ module _ (found new : List Entry) where
   Commits (Ok receipt) = AllAcknowledged receipt
   Commits (Err commit.Failed) = (new ≡ found) × EndsBroken new
   Commits (Err commit.Disk) = ((faults : ℕ) × AddsEntry (Broken faults)) × EndsBroken new
+
+  -- `count_roots`
+  abbrev pub Counts : RootCounts → Type 0
+  Counts counts = (new ≡ found) × InStateOf new (λ s. AreRootCounts counts s.forest)

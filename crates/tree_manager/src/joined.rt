@@ -217,6 +217,7 @@ impl<D: Disk> JoinedBench<D> {
             (root_positions self.old.core.state.forest) positions.now) ≤ 65536) }
         ensures begun { IfOk result
             (λ receipt. HasBegun self.old positions.now receipt.moment self.new) }
+        ensures stands { OnOk result (IsCoreOf self.new.line self.new.core) }
         ensures number { IfOk result (λ receipt. receipt.number ≡ length (recorded self.new.line)) }
         ensures moment { IfOk result (λ receipt. receipt.moment ≡ D.moment self.new.disk) }
         ensures calls { D.moment self.new.disk ≤ D.moment self.old.disk + 4 }

@@ -6,6 +6,7 @@
 //! what its disk keeps of it, in `specs/Receipts.antt`.
 #![tactic(auto)]
 
+mod counting;
 mod entries;
 mod joined;
 pub mod laws;
@@ -20,6 +21,7 @@ mod shared_tests;
 #[cfg(test)]
 mod tests;
 
+pub use counting::RootCounts;
 pub use entries::{Attachment, Entry};
 pub use refusals::{BeginRefusal, CommitRefusal, StageRefusal};
 pub use replaying::replay_payloads;

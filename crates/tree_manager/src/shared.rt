@@ -8,8 +8,9 @@ ghost use Rattle.bench_disk.specs.Disk.{IsHonest};
 ghost use Rattle.turn_lock.specs.Seen.{IsOutside};
 ghost use Rattle.bench_core.specs.Cores.{IsOutcomeOf};
 ghost use Rattle.tree_manager.specs.Receipts.{acknowledgements};
-ghost use Rattle.tree_manager.specs.Turns.{GrowsByTurns, InOneTurn, AsksForSearch, Leases, Stages, Commits, Releases};
+ghost use Rattle.tree_manager.specs.Turns.{GrowsByTurns, InOneTurn, AsksForSearch, Leases, Stages, Commits, Releases, Counts};
 
+use crate::counting::RootCounts;
 use crate::refusals::{CommitRefusal, StageRefusal};
 use crate::session::Session;
 use bench_core::LeaseRefusal;
@@ -139,6 +140,21 @@ impl<D: Disk> SharedBench<D> {
         let answer = session.release(id);
         self.leave(pass, session, before);
         answer
+    }
+
+    /// How many roots there are, and how many of them are settled, in one turn. It changes nothing, and looks at each root once.
+    pub fn count_roots<R: Wait>(&self, rt: &R, pass: &mut BenchPass<D>) -> RootCounts
+        requires outside { IsOutside self.now pass.old }
+        ensures outside { IsOutside self.now pass.new }
+        ensures grows { GrowsByTurns pass.old.front pass.new.front }
+        ensures turn { InOneTurn pass.old.front pass.new.front
+            (λ found new. Counts found new result) }
+    {
+        let session = self.lock.enter(rt, pass);
+        let before = session.count();
+        let counts = RootCounts::of(session.bench().tree());
+        self.leave(pass, session, before);
+        counts
     }
 
     /// Notes what a turn added to a line that had so many entries before, and ends the turn.

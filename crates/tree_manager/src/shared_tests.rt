@@ -2,7 +2,7 @@
 ghost use Rattle.std.specs.Prelude.{◌≡◌, ◌≤◌, IfOk};
 ghost use Rattle.turn_lock.specs.Seen.{IsOutside};
 
-use crate::{BenchPass, Session, SharedBench};
+use crate::{BenchPass, RootCounts, Session, SharedBench};
 use bench_core::{LeaseRefusal, Settings};
 use bench_disk::{Disk, MemoryDisk};
 use disk_journal::JournalRefusal;
@@ -32,6 +32,14 @@ fn two_against_one(other_on_24: bool) -> Result<Position, PlaceRefusal> {
     } else {
         cells[23 - 1] = Cell::Man(Side::White);
     }
+    cells[12 - 1] = Cell::Man(Side::Black);
+    Position::place(cells, Side::White)
+}
+
+/// White's man on 16 to move against a man on 12, whose value a table of two pieces has.
+fn one_against_one() -> Result<Position, PlaceRefusal> {
+    let mut cells = [Cell::Empty; 32];
+    cells[16 - 1] = Cell::Man(Side::White);
     cells[12 - 1] = Cell::Man(Side::Black);
     Position::place(cells, Side::White)
 }
@@ -215,5 +223,23 @@ fn a_lease_of_one_pass_is_not_given_to_another(rt: HostRuntime) -> Result<(), Fa
     assert_eq!(rt; ask(&rt, &shared, &mut pass, 1), Ok((3, 0)));
     shared.join_pass(&mut pass, other);
     assert_eq!(rt; count_at_end(&rt, shared, pass), (8, 8));
+    Ok(())
+}
+
+#[test]
+fn roots_are_counted(rt: HostRuntime) -> Result<(), Fail> {
+    let table = fill(rt.alloc(), 2)?;
+    let mut session = session_of(rt.alloc(), &table, 5)?;
+    let roots = [
+        two_against_one(false)?,
+        one_against_one()?,
+        two_against_one(true)?,
+    ];
+    session.begin(&roots, &table)?;
+    let (shared, mut pass) = shared_of(rt.alloc(), session)?;
+    let counts = shared.count_roots(&rt, &mut pass);
+    assert_eq!(rt; counts, RootCounts { all: 3, settled: 1 });
+    // an Attached, three Puts and their Acked, and nothing by the count
+    assert_eq!(rt; count_at_end(&rt, shared, pass), (5, 5));
     Ok(())
 }

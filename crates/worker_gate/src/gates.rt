@@ -2,11 +2,21 @@
 use std::hint::spin_loop;
 use std::sync::atomic::{AtomicU64, Ordering};
 use std::thread;
+use tree_manager::RootCounts;
 
 /// What a worker passes before each search. It decides nothing: no answer of a worker rests on it.
 pub trait Gate {
     /// Is called once before each search of the worker with this number, when the worker has its lease.
     fn before_search(&self, worker: u32);
+
+    /// Whether it wants to see now how many roots are settled. Each worker asks before each of its searches, and takes a turn
+    /// to count them only where it does.
+    fn wants_counts(&self) -> bool {
+        false
+    }
+
+    /// Is shown the counts, where it wanted them.
+    fn show_counts(&self, _counts: RootCounts) {}
 }
 
 /// Holds nobody.

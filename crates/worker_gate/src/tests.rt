@@ -12,9 +12,10 @@ use fen_text::read_fen;
 use proof_tree::Tree;
 use std::alloc::Global;
 use std::sync::Wait;
+use std::sync::atomic::{AtomicU64, Ordering};
 use std::test::*;
 use std::thread::Threads;
-use tree_manager::{BenchPass, Session, SharedBench};
+use tree_manager::{BenchPass, RootCounts, Session, SharedBench};
 
 /// How the work ended, how many work records there are then, and what the two roots are worth, where that is settled.
 type End = (Ended, u64, Option<Value>, Option<Value>);
@@ -183,6 +184,70 @@ fn searches_run_at_the_same_time(rt: HostRuntime) -> Result<(), Fail> {
     ));
     assert_eq!(rt; end, both);
     assert!(rt; gate.met());
+    Ok(())
+}
+
+/// Wants to see the counts before each search, and adds up what it is shown.
+#[derive(Drop)]
+struct AddingGate {
+    /// How often it was shown counts.
+    shown: AtomicU64,
+    /// How many roots it was shown.
+    all: AtomicU64,
+    /// How many of them were settled.
+    settled: AtomicU64,
+}
+
+impl AddingGate {
+    /// It was shown nothing.
+    fn new() -> AddingGate {
+        AddingGate {
+            shown: AtomicU64::new(0),
+            all: AtomicU64::new(0),
+            settled: AtomicU64::new(0),
+        }
+    }
+
+    /// How often it was shown counts, and the sums.
+    fn sums(&self) -> (u64, u64, u64) {
+        (
+            self.shown.load(Ordering::SeqCst),
+            self.all.load(Ordering::SeqCst),
+            self.settled.load(Ordering::SeqCst),
+        )
+    }
+}
+
+impl Gate for AddingGate {
+    fn before_search(&self, _worker: u32) {}
+
+    fn wants_counts(&self) -> bool {
+        true
+    }
+
+    fn show_counts(&self, counts: RootCounts) {
+        self.shown.fetch_add(1, Ordering::SeqCst);
+        self.all.fetch_add(u64::from(counts.all), Ordering::SeqCst);
+        self.settled
+            .fetch_add(u64::from(counts.settled), Ordering::SeqCst);
+    }
+}
+
+#[test]
+fn a_gate_sees_how_many_roots_are_settled(rt: HostRuntime) -> Result<(), Fail> {
+    let table = fill(rt.alloc(), 2)?;
+    let disk = disk_with_roots(rt.alloc(), &table, true)?;
+    let gate = AddingGate::new();
+    let (_, end) = run_on(&rt, rt.alloc(), disk, &table, 5, 1, &gate);
+    let both: Option<End> = Some((
+        Ended::Done,
+        2,
+        Some(Value::WhiteWins),
+        Some(Value::BlackWins),
+    ));
+    assert_eq!(rt; end, both);
+    // before the first search 0 of 2, before the second 1 of 2
+    assert_eq!(rt; gate.sums(), (2, 4, 1));
     Ok(())
 }
 

@@ -1,6 +1,7 @@
 //! The work of one worker.
 ghost use Rattle.std.specs.Prelude.{◌≡◌, IfErr};
 ghost use Rattle.turn_lock.specs.Seen.{IsOutside};
+ghost use Rattle.bench_core.specs.Cores.{IsOutcomeOf};
 ghost use Rattle.tree_manager.specs.Turns.{GrowsByTurns};
 ghost use Rattle.worker_gate.specs.Work.{CanSearch, CanSearchLeaf, ShowsEnd};
 
@@ -8,6 +9,7 @@ use crate::gates::Gate;
 use crate::pauses::Pause;
 use bench_core::LeaseRefusal;
 use bench_disk::Disk;
+use certificate_checker::Outcome;
 use leaf_search::{Memo, search};
 use lease_table::{Lease, LeaseId};
 use std::alloc::{AllocError, Global};
@@ -125,8 +127,8 @@ fn search_leaf<R: Wait, D: Disk, O: Oracle, G: Gate>(
     ensures memo { memo.new ≡ memo.old }
     ensures ended { IfErr result (λ ended. ShowsEnd ended pass.new.front) }
 {
-    gate.before_search(lease.worker);
-    let outcome = match search(
+    pass_gate(rt, shared, pass, lease.worker, gate);
+    match search(
         alloc,
         &lease.position,
         lease.goal,
@@ -134,9 +136,44 @@ fn search_leaf<R: Wait, D: Disk, O: Oracle, G: Gate>(
         oracle,
         memo,
     ) {
-        Ok(outcome) => outcome,
-        Err(AllocError) => return give_back(rt, shared, pass, lease.id),
-    };
+        Ok(outcome) => put_result(rt, shared, pass, lease, outcome),
+        Err(AllocError) => give_back(rt, shared, pass, lease.id),
+    }
+}
+
+/// Passes the gate, and shows it how many roots are settled, where it wants to see that.
+fn pass_gate<R: Wait, D: Disk, G: Gate>(
+    rt: &R,
+    shared: &SharedBench<D>,
+    pass: &mut BenchPass<D>,
+    worker: u32,
+    gate: &G,
+)
+    requires outside { IsOutside shared.now pass.old }
+    ensures outside { IsOutside shared.now pass.new }
+    ensures grows { GrowsByTurns pass.old.front pass.new.front }
+{
+    gate.before_search(worker);
+    if gate.wants_counts() {
+        gate.show_counts(shared.count_roots(rt, pass));
+    }
+}
+
+/// Stages what a search found, and commits it.
+#[tactic(auto, using(tree_manager::proofs::TurnLemmas::grows_then))]
+fn put_result<R: Wait, D: Disk>(
+    rt: &R,
+    shared: &SharedBench<D>,
+    pass: &mut BenchPass<D>,
+    lease: &Lease,
+    outcome: Outcome,
+) -> Result<Step, Ended>
+    requires outside { IsOutside shared.now pass.old }
+    requires outcome { IsOutcomeOf lease.now outcome }
+    ensures outside { IsOutside shared.now pass.new }
+    ensures grows { GrowsByTurns pass.old.front pass.new.front }
+    ensures ended { IfErr result (λ ended. ShowsEnd ended pass.new.front) }
+{
     match shared.stage(rt, pass, lease, outcome) {
         Ok(()) => commit_result(rt, shared, pass),
         Err(StageRefusal::Stale(_)) => Ok(Step::Searched),

@@ -49,8 +49,8 @@ fn run_counted<R: Threads + Wait + Sync, D: Disk + Send, G: Gate + Sync>(
         (commands.Generate seed count) disk result.0 }
     ensures resumes { IsHonest D.TELLS → IfOk result.1 (λ output.
         Resumes D.reads D.images D.images_since D.moment D.faults
-        (λ roots. summary_line (forest_roots roots)) GENERATE_PIECES count
-        positions.now disk result.0 output.text.items output.is_settled) }
+        (λ roots. summary_line (forest_roots roots)) GENERATE_PIECES GENERATE_DEPTH
+        count positions.now disk result.0 output.text.items output.is_settled) }
     ensures counts { IfOk result.1 (λ output. CountsRoots positions.now output.text.items) }
     ensures refused { IfErr result.1
         (IsRefusedRun D.TELLS D.reads D.images D.images_since D.moment D.faults

@@ -89,8 +89,8 @@ fn run_with<R: Threads + Wait + Sync, D: Disk + Send, G: Gate + Sync>(
         (commands.Solve options.now) disk result.0 }
     ensures resumes { IsHonest D.TELLS → IfOk result.1 (λ output.
         Resumes D.reads D.images D.images_since D.moment D.faults
-        (λ roots. report_of (forest_roots roots)) options.now.pieces options.now.budget
-        positions.now disk result.0 output.text.items output.is_settled) }
+        (λ roots. report_of (forest_roots roots)) options.now.pieces options.now.depth
+        options.now.budget positions.now disk result.0 output.text.items output.is_settled) }
     ensures values { IfOk result.1 (λ output. ReportsTruth positions.now output.text.items) }
     ensures refused { IfErr result.1
         (IsRefusedRun D.TELLS D.reads D.images D.images_since D.moment D.faults

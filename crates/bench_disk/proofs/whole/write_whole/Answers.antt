@@ -1,8 +1,8 @@
 use Rattle.std.specs.Prelude.{◌+◌, ◌-◌, length, take, drop}
 use Rattle.std.proofs.Common.{rules, ◌≡◌, ◌≤◌, ◌∙◌, ap, subst, arith, length-drop}
-use Rattle.bench_disk.specs.Disk.{IsHonest, written}
+use Rattle.bench_disk.specs.Disk.{written}
 use Rattle.bench_disk.specs.Handle.{Writes}
-use Rattle.bench_disk.proofs.HandleLemmas.{writes_more, writes_none}
+use Rattle.bench_disk.proofs.HandleLemmas.{writes_more}
 use Rattle.bench_disk.proofs.WholeLemmas.{whole_rest, wrote_more}
 use Rattle.bench_disk.proofs.whole.write_whole.Goals as goal
 

@@ -14,7 +14,7 @@ returns-in-Ok-clause-worked g c =
     let last = c.work_on-session.result.0 in
     let run = at_ok (HasRun c.args.session c.args.positions.now last) c.work_on-session.result.1 c.in-Ok.is_settled c.in-Ok.is c.work_on-session.ensures.worked in
     if_ok_both (λ ran. ran.text.items ≡ report_of (forest_roots last.core.state.forest)) (λ ran. ran.is_settled ≡ c.in-Ok.is_settled) _ c.report_on-answer.result
-    (λ ran text told. worked_run _ _ _ _ run c.requires.idle c.requires.stands c.report_on-answer.ensures.stands (λ roots. report_of (forest_roots roots)) ran.text.items ran.is_settled text told)
+    (λ ran text told. worked_run _ _ _ _ run c.requires.idle c.requires.stands c.report_on-answer.ensures.stands (λ roots. report_of (forest_roots roots)) ran.text.items ran.is_settled text told c.report_on-answer.ensures.history)
     c.report_on-answer.ensures.text c.report_on-answer.ensures.settled
 
 pub returns-in-Ok-clause-values : goal.returns-in-Ok-clause-values

@@ -23,14 +23,14 @@ returns-in-Done-clause-goes_on g c = worked_goes_on _ _ _ _ c.in-Ok.ensures.begu
 
 pub returns-in-Done-clause-worked : goal.returns-in-Done-clause-worked
 returns-in-Done-clause-worked g c =
-    run_done _ _ _ _ _ c.in-Ok.ensures.begun c.work_together-session.ensures.grows (subst (λ how. IsEndedBy how c.work_together-session.result.0) c.in-Done.is c.work_together-session.ensures.ended)
+    run_done _ _ _ _ _ c.in-Ok.ensures.begun c.in-Ok.ensures.stands c.work_together-session.ensures.grows (subst (λ how. IsEndedBy how c.work_together-session.result.0) c.in-Done.is c.work_together-session.ensures.ended)
 
 pub returns-in-Spent-clause-goes_on : goal.returns-in-Spent-clause-goes_on
 returns-in-Spent-clause-goes_on g c = worked_goes_on _ _ _ _ c.in-Ok.ensures.begun _ c.work_together-session.ensures.grows
 
 pub returns-in-Spent-clause-worked : goal.returns-in-Spent-clause-worked
 returns-in-Spent-clause-worked g c =
-    run_spent _ _ _ _ _ c.in-Ok.ensures.begun c.work_together-session.ensures.grows (subst (λ how. IsEndedBy how c.work_together-session.result.0) c.in-Spent.is c.work_together-session.ensures.ended)
+    run_spent _ _ _ _ _ c.in-Ok.ensures.begun c.in-Ok.ensures.stands c.work_together-session.ensures.grows (subst (λ how. IsEndedBy how c.work_together-session.result.0) c.in-Spent.is c.work_together-session.ensures.ended)
 
 pub returns-in-Failed-clause-goes_on : goal.returns-in-Failed-clause-goes_on
 returns-in-Failed-clause-goes_on g c = worked_goes_on _ _ _ _ c.in-Ok.ensures.begun _ c.work_together-session.ensures.grows

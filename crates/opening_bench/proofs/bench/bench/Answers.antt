@@ -2,9 +2,9 @@ use Rattle.std.proofs.Common.{subst, sym}
 use Rattle.bench_edges.specs.Words.{texts}
 use Rattle.bench_edges.specs.declared.words.Command.TheVariants.{Solve, Report, Certify, Verify, MakeTable, TableCheck}
 use Rattle.opening_bench.specs.Accepted.{Accepts, HasAsked, HasLookCause}
-use Rattle.opening_bench.specs.Bench.{HoldsOpenings, WritesOnly}
+use Rattle.opening_bench.specs.Bench.{Does, HoldsOpenings, WritesOnly}
 use Rattle.opening_bench.proofs.RefusalLemmas.{certificates_accepted, tables_accepted}
-use Rattle.opening_bench.proofs.SolvingLemmas.{openings_accepted, said_once}
+use Rattle.opening_bench.proofs.SolvingLemmas.{ample_solves, openings_accepted, said_once}
 use Rattle.opening_bench.proofs.WritingLemmas.{line_values}
 use Rattle.opening_bench.proofs.bench.bench.Goals as goal
 
@@ -18,6 +18,13 @@ returns-in-Ok-clause-accepted g c options said =
     let same = said_once (texts c.args.words.now) c.in-Ok.command (Solve options) c.in-Ok.ensures.each_command said in
     openings_accepted g.D.Disk.TELLS g.D.Disk.reads options (g.S.Source.left c.args.source.now) c.args.disk c.run_command.result.0
     (subst (λ command. Accepts g.D.Disk.TELLS g.D.Disk.reads command (g.S.Source.left c.args.source.now) c.args.disk c.run_command.result.0) same c.run_command.ensures.accepted)
+
+pub returns-in-Ok-clause-ample : goal.returns-in-Ok-clause-ample
+returns-in-Ok-clause-ample g c options said =
+    let same = said_once (texts c.args.words.now) c.in-Ok.command (Solve options) c.in-Ok.ensures.each_command said in
+    ample_solves g.D.Disk.TELLS g.D.Disk.reads g.D.Disk.images g.D.Disk.images_since g.D.Disk.moment g.D.Disk.faults options (g.S.Source.left c.args.source.now) (g.K.Sink.taken c.args.sink.now) (g.K.Sink.taken c.run_command.new.sink) c.args.disk c.run_command.result.1 c.run_command.result.0
+    (λ reports. subst (λ command. Does g.D.Disk.TELLS g.D.Disk.reads g.D.Disk.images g.D.Disk.images_since g.D.Disk.moment g.D.Disk.faults command (g.S.Source.left c.args.source.now) (g.K.Sink.taken c.args.sink.now) (g.K.Sink.taken c.run_command.new.sink) c.args.disk c.run_command.result.1 c.run_command.result.0) same
+    (c.run_command.ensures.does reports))
 
 pub returns-in-Ok-clause-accepted_certificates : goal.returns-in-Ok-clause-accepted_certificates
 returns-in-Ok-clause-accepted_certificates g c said =

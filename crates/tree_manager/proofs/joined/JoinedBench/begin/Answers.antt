@@ -10,7 +10,7 @@ use Rattle.tree_manager.specs.declared.marks.Mark.{Mark}
 use Rattle.tree_manager.specs.declared.marks.Mark.TheVariants as mark
 use Rattle.tree_manager.specs.Lines.{is_failed}
 use Rattle.tree_manager.specs.Sessions.{SessionState, BeginsRoots, HasBegun, with_roots}
-use Rattle.tree_manager.proofs.BeginLemmas.{are_beginning, begin_refused, has_begun, kept_roots, rows_alive}
+use Rattle.tree_manager.proofs.BeginLemmas.{are_beginning, begin_refused, begun_stands, has_begun, kept_roots, rows_alive}
 use Rattle.tree_manager.proofs.joined.JoinedBench.begin.Goals as goal
 
 pub stage_roots-requires-clause-live : goal.stage_roots-requires-clause-live
@@ -44,6 +44,9 @@ returns-in-Ok-clause-begun g c =
     c.self.invariant.filled marks c.in_ok-stage_roots.ensures.bench (ap (λ (l : Log g.row.D.Denot). l.disk) c.in_ok-stage_roots.ensures.journal.2) (sym c.self.invariant.failed ∙ unfailed) all in
     subst (λ (s : SessionState g.row.D.Denot). HasBegun s c.args.positions.now c.in-Ok.receipt.moment c.commit.new.self) c.self.view_is
     (has_begun _ _ c.commit.new.self c.args.positions.now added c.in-Ok.receipt.moment mid c.in-Ok.ensures.idle c.in-Ok.ensures.appends c.in-Ok.ensures.none_staged)
+
+pub returns-in-Ok-clause-stands : goal.returns-in-Ok-clause-stands
+returns-in-Ok-clause-stands g c = begun_stands _ c.commit.new.self _ c.commit.ensures.history c.in-Ok.ensures.unfailed c.in-Ok.ensures.idle c.in-Ok.ensures.appends
 
 pub returns-clause-refused : goal.returns-clause-refused
 returns-clause-refused g c =

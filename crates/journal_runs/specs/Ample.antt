@@ -1,0 +1,44 @@
+-- A budget that is enough to settle every root: looking ahead decides each root that has no value yet,
+-- and there is a work record for each of them.
+use Rattle.std.specs.Prelude.{◌≡◌, ◌≤◌, ◌⊎◌, ℕ, not, List, [], ◌++◌, map, count_by, is_some, IsSome}
+use Rattle.std.specs.List.{AllByRecursion as Each}
+use Rattle.draughts_board.specs.Board.{Board}
+use Rattle.draughts_board.specs.Draughts.{draughts}
+use Rattle.draughts_board.specs.Game.{ShowsWin, ShowsHold}
+use Rattle.draughts_board.specs.declared.pieces.Side.TheVariants.{Black, White}
+use Rattle.proof_tree.specs.declared.rows.Mark.TheVariants.{Unexpanded}
+use Rattle.proof_tree.specs.Forest.{Forest, Node, nodes, value_of}
+use Rattle.bench_records.specs.declared.records.BenchRecord.{BenchRecord}
+use Rattle.bench_records.specs.declared.records.BenchRecord.TheVariants.{Begin}
+use Rattle.bench_core.specs.Records.{begun}
+use Rattle.bench_core.specs.Growing.{IsForestOf}
+use Rattle.tree_manager.specs.Sessions.{session_budget, with_roots}
+
+-- with tables of k pieces, looking so far ahead shows a win of one side, or that both hold
+abbrev pub ShowsValue : ℕ → ℕ → Board → Type 0
+ShowsValue k depth p =
+    ShowsWin draughts k Black depth p
+    ⊎ (ShowsWin draughts k White depth p
+    ⊎ (ShowsHold draughts k Black depth [] p × ShowsHold draughts k White depth [] p))
+
+-- the root has its value, or it is unexpanded and looking ahead shows one
+abbrev pub IsWithinReach : ℕ → ℕ → Node → Type 0
+IsWithinReach k depth root =
+    IsSome (value_of root)
+    ⊎ ((root.own.mark ≡ Unexpanded) × ShowsValue k depth root.own.position)
+
+-- how many roots have no value
+abbrev pub unsettled_roots : Forest → ℕ
+unsettled_roots roots = count_by (λ root. not (is_some (value_of root))) (nodes roots)
+
+-- Of the records as which a journal reads, and of the positions at which roots are begun: each root of
+-- their forest is within reach, and the session's budget is no lower than the number of those that
+-- have no value.
+pub record IsAmple (k depth budget : ℕ) (positions : List Board) (before : List BenchRecord)
+    : Type 0 where
+  pub added : List Board
+  pub all : begun before ++ added ≡ with_roots (begun before) positions
+  pub roots : Forest
+  pub begins : IsForestOf k (before ++ map Begin added) roots
+  pub within : Each (IsWithinReach k depth) (nodes roots)
+  pub enough : unsettled_roots roots ≤ session_budget budget before

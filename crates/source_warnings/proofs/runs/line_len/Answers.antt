@@ -1,0 +1,14 @@
+use Rattle.std.proofs.Common.{◌≡◌, eqb, rules}
+use Rattle.std.specs.List.{position}
+use Rattle.std.proofs.lemmas.Iterator.{YieldsList-from_slice}
+use Rattle.std.proofs.lemmas.Iterator.Search.{position_from_yields_List}
+use borrow.Author.Tests.{tests}
+use Rattle.pdn_text.proofs.FirstPlaces.{place_or_end}
+use Rattle.source_warnings.proofs.runs.line_len.Goals as goal
+
+pub returns-clause-value : goal.returns-clause-value
+returns-clause-value c =
+    let found : c.position.result ≡ position (λ b. eqb b 10) c.args.rest.now =
+    position_from_yields_List (λ b. eqb b 10) _ _ c.position.result c.position.ensures.ran (YieldsList-from_slice c.args.rest.now cc) (λ x b q k. search (rules, tests)) in
+    let place = place_or_end (λ b. eqb b 10) c.args.rest.now in
+    cc

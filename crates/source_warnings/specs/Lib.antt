@@ -1,0 +1,4 @@
+pub mod Items
+pub mod Games
+pub mod Warnings
+pub mod Told

@@ -1,0 +1,30 @@
+//! What a warning says.
+
+/// Why something may be read otherwise than it was meant.
+#[derive(Clone, Copy, PartialEq, Eq, Debug)]
+pub enum Cause {
+    /// The tag here is named like `FEN`, in other letters.
+    LikeFen,
+    /// The tag here is named like `GameType`, in other letters.
+    LikeGameType,
+    /// The tag `FEN` here is not the first one of its game.
+    SecondFen,
+    /// The result here stands behind another, and no tag or move between.
+    SecondResult,
+    /// The comment here, up to the end of the line, goes on behind a carriage return alone.
+    RunsOn,
+    /// The game that begins here has fewer moves than the plies that were asked.
+    FewPlies {
+        /// Its number, from 1.
+        game: usize,
+        /// How many moves it has.
+        plies: usize,
+    },
+}
+
+/// A warning, and the byte of the source, from 0, at which its cause begins.
+#[derive(Clone, Copy, PartialEq, Eq, Debug)]
+pub struct Warning {
+    pub at: usize,
+    pub cause: Cause,
+}

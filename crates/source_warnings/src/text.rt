@@ -1,0 +1,144 @@
+//! The text on warnings.
+ghost use Rattle.std.specs.Prelude.{◌≡◌, ◌≤◌, ◌++◌, ℕ, List, All, IfOk, OnOk, codes, length};
+ghost use Rattle.source_warnings.specs.Told.{IsToldOf};
+ghost use Rattle.source_warnings.specs.Warnings.{IsInside, warnings};
+ghost use Rattle.terminal_text.specs.Places.{place_text};
+ghost use Rattle.terminal_text.specs.Shown.{IsShown};
+
+use crate::causes::{Cause, Warning};
+use crate::scan::warnings_of;
+use std::alloc::{AllocError, Global};
+use terminal_text::{say, say_excerpt, say_number, say_place, shown};
+
+/// How many warnings are told in words at most.
+pub const MOST_TOLD: usize = 10;
+
+/// Appends that a game has fewer moves than the plies that were asked.
+fn say_few(text: &mut Vec<u8>, asked: usize, game: usize, plies: usize) -> Result<(), AllocError> {
+    say_number(
+        text,
+        "Game ",
+        game as u64,
+        " begins here and has fewer moves than the ",
+    )?;
+    say_number(text, "", asked as u64, " plies of `--plies`: ")?;
+    say_number(
+        text,
+        "",
+        plies as u64,
+        ". Its opening is the position after all of them.\n",
+    )
+}
+
+/// Appends how the source is read, and what may be written instead.
+fn say_cause(text: &mut Vec<u8>, asked: usize, cause: Cause) -> Result<(), AllocError> {
+    match cause {
+        Cause::LikeFen => say(
+            text,
+            "This tag is not looked at: names of tags are compared letter for letter. The game begins \
+                from its tag `FEN`, or else from the start. Write [FEN \"..\"].\n",
+        ),
+        Cause::LikeGameType => say(
+            text,
+            "This tag is not looked at: names of tags are compared letter for letter. The game is taken \
+                as English draughts. Write [GameType \"21\"], or take games of another kind out.\n",
+        ),
+        Cause::SecondFen => say(
+            text,
+            "This position is not looked at: its game has one already, and the first counts. Write a \
+                result, as `*`, behind each position that is to be a game of its own.\n",
+        ),
+        Cause::SecondResult => say(
+            text,
+            "This result stands straight behind another and is read as a game of its own, without moves, \
+                from the start. Leave one of the two out.\n",
+        ),
+        Cause::RunsOn => say(
+            text,
+            "This comment goes on behind its line, which ends with a carriage return (byte 13) alone: what \
+                stands up to the next line feed (byte 10) is not read. End lines with a line feed, or \
+                write the comment in braces: {so}.\n",
+        ),
+        Cause::FewPlies { game, plies } => say_few(text, asked, game, plies),
+    }
+}
+
+/// Appends a warning: its place, how the source reads there, how that is read, and what may be written.
+fn say_warning(
+    text: &mut Vec<u8>,
+    source: &[u8],
+    asked: usize,
+    warning: Warning,
+) -> Result<(), AllocError>
+    requires { IsInside source.now warning }
+{
+    say(text, "warning: ")?;
+    say_place(text, source, warning.at)?;
+    say_excerpt(text, source, warning.at)?;
+    say_cause(text, asked, warning.cause)
+}
+
+/// Appends warnings, at most so many in words, and how many more there are.
+fn say_further(
+    text: &mut Vec<u8>,
+    source: &[u8],
+    asked: usize,
+    found: &[Warning],
+    most: usize,
+) -> Result<(), AllocError>
+    requires { All (IsInside source.now) found.now }
+{
+    let told = found.len().min(most);
+    for warning in &found[..told] {
+        say_warning(text, source, asked, *warning)?;
+    }
+    let more = found.len() - told;
+    if more > 0 {
+        say_number(text, "warning: and ", more as u64, " more.\n")?;
+    }
+    Ok(())
+}
+
+/// The first warning before it is made safe for a terminal, and the further ones.
+fn raw_text(
+    alloc: Global,
+    source: &[u8],
+    asked: usize,
+    first: Warning,
+    further: &[Warning],
+) -> Result<Vec<u8>, AllocError>
+    requires here { IsInside source.now first }
+    requires behind { All (IsInside source.now) further.now }
+    ensures { IfOk result (λ text. (rest : List ℕ)
+        × (text.items ≡ codes "warning: " ++ (place_text source.now first.at ++ rest))) }
+{
+    let mut text = Vec::new(alloc);
+    say(&mut text, "warning: ")?;
+    say_place(&mut text, source, first.at)?;
+    let mut rest = Vec::new(alloc);
+    say_excerpt(&mut rest, source, first.at)?;
+    say_cause(&mut rest, asked, first.cause)?;
+    say_further(&mut rest, source, asked, further, MOST_TOLD - 1)?;
+    text.extend_from_slice(&rest)?;
+    Ok(text)
+}
+
+/// What a person is told of a source of games that was read, for whose openings so many plies were
+/// asked; 0 where none were. Of each of the first ten warnings: its line and its column, how the source
+/// reads there, how that is read, and what may be written instead; then how many more there are.
+///
+/// It reads nothing but its arguments. Whatever they hold, the text is printable ASCII and line ends. It
+/// is empty where there is nothing to warn of, and else begins with the place of the first warning. It
+/// fails only for want of memory.
+pub fn warnings_text(alloc: Global, source: &[u8], asked: usize) -> Result<Vec<u8>, AllocError>
+    ensures safe { IfOk result (λ text. All IsShown text.items) }
+    ensures told { IfOk result (λ text.
+        IsToldOf source.now (warnings source.now asked) text.items) }
+{
+    let found = warnings_of(alloc, source, asked)?;
+    let [first, further @ ..] = found.as_slice() else {
+        return Ok(Vec::new(alloc));
+    };
+    let text = raw_text(alloc, source, asked, *first, further)?;
+    shown(alloc, &text)
+}

@@ -1,0 +1,117 @@
+//! How many work records a second, and for how much of its time a worker has the turn.
+ghost use Rattle.std.specs.Prelude.{◌≡◌};
+
+use crate::by_hand::Spent;
+use crate::places::{Place, run_by_hand, run_together};
+use crate::roots::PIECES;
+use crate::together::Together;
+use anyhow::{Result, bail};
+use draughts_board::Position;
+use endgame_table::Table;
+use std::sync::Wait;
+use std::thread::Threads;
+
+/// So many runs there are of each kind, of which the fastest counts.
+const RUNS: u32 = 3;
+
+/// The faster of two runs.
+fn faster(best: Together, other: Together) -> Together {
+    if best.spent <= other.spent {
+        best
+    } else {
+        other
+    }
+}
+
+/// How many work records there were a second.
+fn per_second(run: &Together) -> u128 {
+    u128::from(run.end.work).saturating_mul(1_000_000_000) / run.spent.max(1)
+}
+
+/// Prints the work records a second of one worker and of four, how many times as many those are, and the time that the
+/// processors took for one.
+fn print_rates(rt: &impl Print, place: Place, one: &Together, four: &Together) -> Result<()> {
+    let (name, roots) = (place.name(), one.end.roots);
+    let (slow, fast) = (per_second(one), per_second(four));
+    let hundredths = fast.saturating_mul(100) / slow.max(1);
+    let (whole, rest) = (hundredths / 100, hundredths % 100);
+    let work = u128::from(one.end.work.max(1));
+    let (alone, each) = (one.processors / work, four.processors / work);
+    print!(rt; "{name}, {roots} roots: 1 worker {slow} records/s, 4 workers {fast} records/s, ")?;
+    println!(rt; "ratio {whole}.{rest:02}; of the processors {alone} and {each} ns a record")?;
+    Ok(())
+}
+
+/// Prints for how much of its time a worker has the turn.
+fn print_turns(rt: &impl Print, place: Place, work: u64, spent: &Spent) -> Result<()> {
+    let name = place.name();
+    let percent = spent.in_turns().saturating_mul(100) / spent.in_all().max(1);
+    let work = u128::from(work.max(1));
+    let (lease, search) = (spent.lease / work, spent.search / work);
+    let (stage, commit) = (spent.stage / work, spent.commit / work);
+    print!(rt; "{name}: under the lock {percent} % of a worker's time, for a record ")?;
+    println!(rt; "lease {lease} ns, search {search} ns, stage {stage} ns, commit {commit} ns")?;
+    Ok(())
+}
+
+/// Times workers at a place, one and four in turn, and prints the best of their runs.
+fn time_workers<R: Threads + Wait + Sync>(
+    threads: &R,
+    rt: &HostRuntime,
+    place: Place,
+    positions: &[Position],
+    table: &Table,
+) -> Result<()>
+    requires { table.now.pieces ≡ PIECES }
+{
+    let mut best = None;
+    for _ in 0..RUNS {
+        let one = run_together(threads, rt, place, 1, positions, table)?;
+        let four = run_together(threads, rt, place, 4, positions, table)?;
+        if one.end != four.end {
+            bail!("one worker and four came to different ends");
+        }
+        best = Some(match best {
+            Some((slow, fast)) => (faster(slow, one), faster(fast, four)),
+            None => (one, four),
+        });
+    }
+    match best {
+        Some((one, four)) => print_rates(rt, place, &one, &four),
+        None => bail!("no runs"),
+    }
+}
+
+/// Times the calls of one worker at a place, and prints the best of its runs.
+fn time_turns<R: Wait>(
+    waiting: &R,
+    rt: &HostRuntime,
+    place: Place,
+    positions: &[Position],
+    table: &Table,
+) -> Result<()>
+    requires { table.now.pieces ≡ PIECES }
+{
+    let mut best = run_by_hand(waiting, rt, place, positions, table)?;
+    for _ in 1..RUNS {
+        let other = run_by_hand(waiting, rt, place, positions, table)?;
+        if other.spent.in_all() < best.spent.in_all() {
+            best = other;
+        }
+    }
+    print_turns(rt, place, best.end.work, &best.spent)
+}
+
+/// Takes the time of workers at a place: of one and of four, and of one by hand.
+pub(crate) fn time<R: Threads + Wait + Sync>(
+    threads: &R,
+    rt: &HostRuntime,
+    place: Place,
+    positions: &[Position],
+    table: &Table,
+) -> Result<()>
+    requires { table.now.pieces ≡ PIECES }
+{
+    time_workers(threads, rt, place, positions, table)?;
+    time_turns(threads, rt, place, positions, table)
+}

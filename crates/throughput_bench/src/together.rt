@@ -1,0 +1,79 @@
+//! Workers in threads.
+ghost use Rattle.std.specs.Prelude.{◌≡◌, IfOk};
+ghost use Rattle.turn_lock.specs.Seen.{IsOutside};
+ghost use Rattle.worker_gate.specs.Work.{CanSearch};
+
+use crate::roots::{End, PIECES, settings};
+use anyhow::Result;
+use bench_disk::Disk;
+use endgame_table::Table;
+use std::alloc::Global;
+use std::rt::CpuClock;
+use std::sync::Wait;
+use std::thread::Threads;
+use std::time::Instant;
+use tree_manager::{BenchPass, Session, SharedBench};
+use worker_gate::{OpenGate, run_workers};
+
+/// What workers came to, and in how many nanoseconds: by the clock, and of the processors.
+#[derive(Clone, Copy)]
+pub(crate) struct Together {
+    pub(crate) end: End,
+    pub(crate) spent: u128,
+    pub(crate) processors: u128,
+}
+
+/// A shared bench on the disk, and its first pass.
+pub(crate) fn share<D: Disk + Drop>(
+    alloc: Global,
+    disk: D,
+    table: &Table,
+) -> Result<(SharedBench<D>, BenchPass<D>)>
+    requires { table.now.pieces ≡ PIECES }
+    ensures outside { IfOk result (λ made. IsOutside made.0 made.1) }
+    ensures settings { IfOk result (λ made. CanSearch PIECES made.1.front) }
+{
+    let session = match Session::attach(alloc, disk, settings(), table) {
+        Ok(session) => session,
+        Err((_, refusal)) => return Err(refusal.into()),
+    };
+    match SharedBench::new(alloc, session) {
+        Ok(made) => Ok(made),
+        Err((_, error)) => Err(error.into()),
+    }
+}
+
+/// Lets so many workers work on the disk's journal until all roots are settled.
+pub(crate) fn work_together<R: Threads + Wait + Sync, D: Disk + Drop + Send>(
+    threads: &R,
+    rt: &HostRuntime,
+    disk: D,
+    workers: u8,
+    table: &Table,
+) -> Result<Together>
+    requires { table.now.pieces ≡ PIECES }
+{
+    let (shared, mut pass) = share(rt.alloc(), disk, table)?;
+    let used = rt.process_cpu_time()?;
+    let start = Instant::now(rt)?;
+    run_workers(
+        threads,
+        rt.alloc(),
+        &shared,
+        &mut pass,
+        workers,
+        table,
+        &OpenGate,
+    );
+    let spent = start.elapsed(rt)?.as_nanos();
+    let processors = rt
+        .process_cpu_time()?
+        .as_nanos()
+        .saturating_sub(used.as_nanos());
+    let session = shared.finish(threads, pass);
+    Ok(Together {
+        end: End::of(&session),
+        spent,
+        processors,
+    })
+}
