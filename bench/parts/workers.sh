@@ -3,9 +3,39 @@
 # 1, searched 8 plies deep, with the journal in memory, and 400 of them with a journal in the folder for temporary files.
 # The runs of one and of four take turns, and the fastest of three counts; the beginning of the roots is not timed. Then the
 # time of one worker's calls, and how much of it all is under the lock.
+#
+# Then `solve` on the named openings, whose searches take far longer than a turn: 2,000 records at depth 8 with one worker, with
+# four, and by four programs of one worker each that run beside each other, which share nothing. What those four make of the
+# processors is the most that four workers can.
 set -euo pipefail
 program=crates/throughput_bench/out/throughput_bench
 [ -x "$program" ] || (cd crates/throughput_bench && rt run >/dev/null 2>&1)
 folder=$(mktemp -d)
 trap 'rm -r "$folder"' EXIT
 "$program" time "$folder/bench.journal"
+
+bin/opening_bench --version >/dev/null
+solver=crates/opening_bench/out/opening_bench
+# solve WORKERS: status 1 says that some roots are unsolved
+solve() {
+    "$solver" - solve --workers "$1" --depth 8 --budget 2000 <examples/openings.pdn >/dev/null || [ $? = 1 ]
+}
+solve_beside() {
+    for _ in 1 2 3 4; do
+        solve 1 &
+    done
+    wait
+}
+# seconds COMMAND..: the least of three runs
+seconds() {
+    local start
+    for _ in 1 2 3; do
+        start=$(date +%s.%N)
+        "$@"
+        awk -v start="$start" -v end="$(date +%s.%N)" 'BEGIN { printf "%.3f\n", end - start }'
+    done | sort -g | head -1
+}
+awk -v one="$(seconds solve 1)" -v four="$(seconds solve 4)" -v beside="$(seconds solve_beside)" 'BEGIN {
+    printf "solve of 26 openings: 1 worker %.2f s, 4 workers %.2f s, ratio %.2f; ", one, four, one / four
+    printf "four programs beside each other %.2f s each, so at most %.2f\n", beside, 4 * one / beside
+}'

@@ -33,6 +33,13 @@ pub trait Source {
         ensures end { IfOk result (λ count. count ≡ 0 → IsAtEnd (left self.new)) }
         ensures kept { OnErr result (Keeps (left self.old) (left self.new)) }
         ensures faults { CountsFaults (faults self.old) (faults self.new) result };
+
+    /// Is handed bytes that were read from it, by one who has done with them, and drops them. They
+    /// do not come again.
+    fn take_back(&mut self, _bytes: Vec<u8>)
+        ensures left { left self.new ≡ left self.old }
+        ensures faults { faults self.new ≡ faults self.old }
+    {}
 }
 
 /// Why a source was not read to its end.
@@ -147,6 +154,18 @@ mod tests {
             assert!(rt; matches!(&read, Err(ReadRefusal::TooLong)), "{limit}");
             assert_eq!(rt; source.left(), &bytes[limit + 1..]);
         }
+        Ok(())
+    }
+
+    #[test]
+    fn bytes_that_are_handed_back_do_not_come_again(rt: HostRuntime) -> Result<(), Fail> {
+        let mut source = MemorySource::new(b"abc".to_vec(rt.alloc())?, Vec::new(rt.alloc()));
+        let mut chunk = [0; 2];
+        assert_eq!(rt; source.read(&mut chunk), Ok(2));
+        source.take_back(b"ab".to_vec(rt.alloc())?);
+        let rest = read_to_limit(rt.alloc(), &mut source, 100)?;
+        assert_eq!(rt; rest.as_slice(), b"c".as_slice());
+        assert_eq!(rt; source.faults(), 0);
         Ok(())
     }
 

@@ -12,13 +12,14 @@ use Rattle.bench_core.specs.Growing.{IsForestOf}
 use Rattle.bench_core.specs.States.{are_settled}
 use Rattle.opening_report.specs.declared.roots.Root.{Root}
 use Rattle.opening_report.specs.Lines.{IsLine}
-use Rattle.opening_report.specs.Report.{report_of, summary_line, AreTrueRoots, AreApart}
+use Rattle.opening_report.specs.Report.{report_of, summary_line, forest_roots, AreTrueRoots, AreApart}
 use Rattle.tree_manager.specs.Receipts.{ReadsRecords, ReadsBetween}
 use Rattle.tree_manager.specs.Replaying.{ExplainsAttach}
 use Rattle.tree_manager.specs.Sessions.{session_budget, with_roots}
-use Rattle.journal_runs.specs.declared.refusals.JournalFlaw.{JournalFlaw}
 use Rattle.journal_runs.specs.declared.refusals.RunRefusal.{RunRefusal}
 use Rattle.journal_runs.specs.declared.refusals.RunRefusal.TheVariants as refusal
+use Rattle.journal_runs.specs.declared.runs.Account.{Account}
+use Rattle.journal_runs.specs.declared.runs.Account.TheVariants.{Report, Summary}
 use Rattle.journal_runs.specs.Ample.{IsAmple}
 use Rattle.journal_runs.specs.Ends.{refusal_of_flaw}
 
@@ -90,6 +91,16 @@ pub record CountsRoots (positions : List Board) (text : List ℕ) : Type 0 where
   pub each : (p : Board) → Contains positions p
       → (r : Root) × (Contains roots r × (r.position ≡ p))
   pub apart : AreApart roots
+
+-- the text of a forest's roots, by the account that is asked for
+abbrev pub account_of : Account → Forest → List ℕ
+account_of Report roots = report_of (forest_roots roots)
+account_of Summary roots = summary_line (forest_roots roots)
+
+-- what such a text shows of the positions, whatever the disk tells
+abbrev pub IsTrueAccount : Account → List Board → List ℕ → Type 0
+IsTrueAccount Report positions text = ReportsTruth positions text
+IsTrueAccount Summary positions text = CountsRoots positions text
 
 -- ---- why a run is refused
 

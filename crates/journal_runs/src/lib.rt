@@ -13,5 +13,5 @@ mod together;
 
 pub use alone::work_alone;
 pub use refusals::{JournalFlaw, RunRefusal};
-pub use runs::{Ran, solve, solve_counted};
+pub use runs::{Account, Ran, solve};
 pub use together::work_together;

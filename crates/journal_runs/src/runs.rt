@@ -8,7 +8,7 @@ ghost use Rattle.tree_manager.specs.Histories.{IsCoreOf, IsHistory};
 ghost use Rattle.tree_manager.specs.Lines.{is_failed};
 ghost use Rattle.worker_gate.specs.Work.{CanSearch};
 ghost use Rattle.journal_runs.specs.Ends.{GoesOnFrom, HasRun, HasWorked, IsIdle, IsWorkRefusal};
-ghost use Rattle.journal_runs.specs.Journals.{CountsRoots, IsCaused, KeepsJournal, ReportsTruth, Resumes};
+ghost use Rattle.journal_runs.specs.Journals.{IsCaused, IsTrueAccount, KeepsJournal, Resumes, account_of};
 ghost use Rattle.journal_runs.specs.declared.refusals.RunRefusal.TheVariants as refusal;
 
 use crate::refusals::{RunRefusal, refusal_of};
@@ -26,6 +26,15 @@ use strategy_certificate::Oracle;
 use tree_manager::{BeginRefusal, Session};
 use worker_gate::{Ended, Gate};
 
+/// What a run is to write of its roots.
+#[derive(Clone, Copy, PartialEq, Eq, Debug)]
+pub enum Account {
+    /// The report: a line for each root, and the line that counts them.
+    Report,
+    /// The line that counts the roots, alone.
+    Summary,
+}
+
 /// What a run has to write, and whether each root is settled.
 #[derive(Drop)]
 pub struct Ran {
@@ -34,7 +43,7 @@ pub struct Ran {
 }
 
 /// Goes on with the journal on a disk: begins a root at each of these positions that has none yet, lets so many workers
-/// search until every root is settled or the budget is spent, and reports.
+/// search until every root is settled or the budget is spent, and gives the account that is asked for.
 ///
 /// A fresh disk is a journal without records. However the run ends, what the disk read as is recovered from it after a
 /// crash at any moment. The disk comes back, with nothing pending unless its faults rose. All of this holds for every
@@ -48,6 +57,7 @@ pub fn solve<R: Threads + Wait + Sync, D: Disk + Send, G: Gate + Sync>(
     positions: &[Position],
     table: &Table,
     gate: &G,
+    account: Account,
 ) -> (D, Result<Ran, RunRefusal>)
     requires tables { table.now.pieces ≡ settings.pieces }
     requires depth { settings.depth ≤ MOST_DEPTH }
@@ -59,9 +69,10 @@ pub fn solve<R: Threads + Wait + Sync, D: Disk + Send, G: Gate + Sync>(
         settings.pieces disk result.0 }
     ensures does { IsHonest D.TELLS → IfOk result.1 (λ ran.
         Resumes D.reads D.images D.images_since D.moment D.faults
-        (λ roots. report_of (forest_roots roots)) settings.pieces settings.depth settings.budget
+        (account_of account) settings.pieces settings.depth settings.budget
         positions.now disk result.0 ran.text.items ran.is_settled) }
-    ensures values { IfOk result.1 (λ ran. ReportsTruth positions.now ran.text.items) }
+    ensures shows { IfOk result.1
+        (λ ran. IsTrueAccount account positions.now ran.text.items) }
     ensures fault { IfErr result.1
         (λ refusal. refusal ≡ RunRefusal.Disk → Rose (D.faults disk) (D.faults result.0)) }
     ensures refused { IsHonest D.TELLS →
@@ -69,8 +80,8 @@ pub fn solve<R: Threads + Wait + Sync, D: Disk + Send, G: Gate + Sync>(
 {
     match Session::attach(alloc, disk, settings, table) {
         Ok(session) => {
-            let (session, answer) = run_reported(
-                rt, alloc, session, workers, positions, table, gate,
+            let (session, answer) = run_session(
+                rt, alloc, session, workers, positions, table, gate, account,
             );
             (session.into_disk(), answer)
         }
@@ -78,48 +89,8 @@ pub fn solve<R: Threads + Wait + Sync, D: Disk + Send, G: Gate + Sync>(
     }
 }
 
-/// The same, with the line that counts the roots in place of the report.
-pub fn solve_counted<R: Threads + Wait + Sync, D: Disk + Send, G: Gate + Sync>(
-    rt: &R,
-    alloc: Global,
-    disk: D,
-    settings: Settings,
-    workers: u8,
-    positions: &[Position],
-    table: &Table,
-    gate: &G,
-) -> (D, Result<Ran, RunRefusal>)
-    requires tables { table.now.pieces ≡ settings.pieces }
-    requires depth { settings.depth ≤ MOST_DEPTH }
-    requires budget { settings.budget ≤ 1000000 }
-    requires lasts { 1 ≤ settings.lease }
-    requires lease { settings.lease ≤ 1000000000 }
-    ensures leaves { IsHonest D.TELLS → NothingPending (D.reads disk) (D.images disk) →
-        KeepsJournal D.reads D.images D.images_since D.moment D.faults
-        settings.pieces disk result.0 }
-    ensures does { IsHonest D.TELLS → IfOk result.1 (λ ran.
-        Resumes D.reads D.images D.images_since D.moment D.faults
-        (λ roots. summary_line (forest_roots roots)) settings.pieces settings.depth settings.budget
-        positions.now disk result.0 ran.text.items ran.is_settled) }
-    ensures counts { IfOk result.1 (λ ran. CountsRoots positions.now ran.text.items) }
-    ensures fault { IfErr result.1
-        (λ refusal. refusal ≡ RunRefusal.Disk → Rose (D.faults disk) (D.faults result.0)) }
-    ensures refused { IsHonest D.TELLS →
-        IfErr result.1 (IsCaused settings.pieces positions.now (D.reads disk)) }
-{
-    match Session::attach(alloc, disk, settings, table) {
-        Ok(session) => {
-            let (session, answer) = run_counted(
-                rt, alloc, session, workers, positions, table, gate,
-            );
-            (session.into_disk(), answer)
-        }
-        Err((disk, error)) => (disk, Err(refusal_of(error))),
-    }
-}
-
-/// Begins the roots, works, and reports. The session comes back as it then is.
-fn run_reported<R: Threads + Wait + Sync, D: Disk + Send, O: Oracle + Sync, G: Gate + Sync>(
+/// Begins the roots, works, and gives the account. The session comes back as it then is.
+fn run_session<R: Threads + Wait + Sync, D: Disk + Send, O: Oracle + Sync, G: Gate + Sync>(
     rt: &R,
     alloc: Global,
     session: Session<D>,
@@ -127,6 +98,7 @@ fn run_reported<R: Threads + Wait + Sync, D: Disk + Send, O: Oracle + Sync, G: G
     positions: &[Position],
     oracle: &O,
     gate: &G,
+    account: Account,
 ) -> (Session<D>, Result<Ran, RunRefusal>)
     requires tables { O.piece_limit oracle.now ≡ session.core.state.settings.pieces }
     requires depth { session.core.state.settings.depth ≤ MOST_DEPTH }
@@ -134,9 +106,10 @@ fn run_reported<R: Threads + Wait + Sync, D: Disk + Send, O: Oracle + Sync, G: G
     requires stands { IsCoreOf session.line session.core }
     ensures goes_on { GoesOnFrom session.line result.0.line }
     ensures worked { IfOk result.1 (λ ran. HasWorked
-        (λ roots. report_of (forest_roots roots)) session positions.now result.0
+        (account_of account) session positions.now result.0
         ran.text.items ran.is_settled) }
-    ensures values { IfOk result.1 (λ ran. ReportsTruth positions.now ran.text.items) }
+    ensures shows { IfOk result.1
+        (λ ran. IsTrueAccount account positions.now ran.text.items) }
     ensures fault { IfErr result.1
         (λ refusal. refusal ≡ RunRefusal.Disk → is_failed result.0.line ≡ true) }
     ensures refused { IfErr result.1 (IsWorkRefusal session positions.now) }
@@ -144,40 +117,10 @@ fn run_reported<R: Threads + Wait + Sync, D: Disk + Send, O: Oracle + Sync, G: G
     let (session, worked) = work_on(rt, alloc, session, workers, positions, oracle, gate);
     match worked {
         Ok(is_settled) => {
-            let answer = report_on(alloc, &session, is_settled, oracle);
-            (session, answer)
-        }
-        Err(refusal) => (session, Err(refusal)),
-    }
-}
-
-/// Begins the roots, works, and counts them. The session comes back as it then is.
-fn run_counted<R: Threads + Wait + Sync, D: Disk + Send, O: Oracle + Sync, G: Gate + Sync>(
-    rt: &R,
-    alloc: Global,
-    session: Session<D>,
-    workers: u8,
-    positions: &[Position],
-    oracle: &O,
-    gate: &G,
-) -> (Session<D>, Result<Ran, RunRefusal>)
-    requires tables { O.piece_limit oracle.now ≡ session.core.state.settings.pieces }
-    requires depth { session.core.state.settings.depth ≤ MOST_DEPTH }
-    requires idle { IsIdle session }
-    requires stands { IsCoreOf session.line session.core }
-    ensures goes_on { GoesOnFrom session.line result.0.line }
-    ensures worked { IfOk result.1 (λ ran. HasWorked
-        (λ roots. summary_line (forest_roots roots)) session positions.now result.0
-        ran.text.items ran.is_settled) }
-    ensures counts { IfOk result.1 (λ ran. CountsRoots positions.now ran.text.items) }
-    ensures fault { IfErr result.1
-        (λ refusal. refusal ≡ RunRefusal.Disk → is_failed result.0.line ≡ true) }
-    ensures refused { IfErr result.1 (IsWorkRefusal session positions.now) }
-{
-    let (session, worked) = work_on(rt, alloc, session, workers, positions, oracle, gate);
-    match worked {
-        Ok(is_settled) => {
-            let answer = count_on(alloc, &session, is_settled);
+            let answer = match account {
+                Account::Report => report_on(alloc, &session, is_settled, oracle),
+                Account::Summary => count_on(alloc, &session, is_settled),
+            };
             (session, answer)
         }
         Err(refusal) => (session, Err(refusal)),

@@ -1,7 +1,7 @@
 //! Runs whose texts and disks are worked out from the rules and the format by hand.
 ghost use Rattle.std.specs.Prelude.{◌≡◌, ◌≤◌};
 
-use crate::{JournalFlaw, Ran, RunRefusal, solve};
+use crate::{Account, JournalFlaw, Ran, RunRefusal, solve};
 use bench_core::Settings;
 use bench_disk::{Disk, MemoryDisk};
 use draughts_board::Position;
@@ -40,7 +40,17 @@ fn run_on<R: Abort + Threads + Wait + Sync, D: Disk + Send>(
         budget,
         lease: 1,
     };
-    let (disk, answer) = solve(rt, alloc, disk, settings, 3, positions, table, &OpenGate);
+    let (disk, answer) = solve(
+        rt,
+        alloc,
+        disk,
+        settings,
+        3,
+        positions,
+        table,
+        &OpenGate,
+        Account::Report,
+    );
     match answer {
         Ok(ran) => (disk, ran),
         Err(refusal) => panic!(rt; "refused: {refusal}"),
@@ -105,7 +115,17 @@ fn refuses_what_is_no_journal(rt: HostRuntime) -> Result<(), Fail> {
         budget: 5,
         lease: 1,
     };
-    let (disk, answer) = solve(&rt, rt.alloc(), disk, settings, 1, &[], &table, &OpenGate);
+    let (disk, answer) = solve(
+        &rt,
+        rt.alloc(),
+        disk,
+        settings,
+        1,
+        &[],
+        &table,
+        &OpenGate,
+        Account::Report,
+    );
     match answer {
         Ok(_) => panic!(rt; "taken as a journal"),
         Err(refusal) => {

@@ -34,7 +34,7 @@ module _ {D : Type 0} (tells : Bool) (reads : D → List ℕ) (images : D → Li
   moved pieces seen positions old new r same h = subst (λ ps. IsRefusedRun tells reads images images_since moment faults pieces ps old new r) same h
 
   -- a journal that has room is not refused
-  unrefused : (pieces : ℕ) (positions : List Board) (old new : D) (r : Refusal) (fault : RunRefusal) → r ≡ of_run fault → HasRoom tells reads pieces positions old
+  pub unrefused : (pieces : ℕ) (positions : List Board) (old new : D) (r : Refusal) (fault : RunRefusal) → r ≡ of_run fault → HasRoom tells reads pieces positions old
       → IsCaused pieces positions (reads old) fault → IsUnrefused (status_of r)
   unrefused pieces positions old new r run.Disk is room caused = subst (λ q. IsUnrefused (status_of q)) (sym is) ((λ e. absurd cc), (λ e. absurd cc))
   unrefused pieces positions old new r (run.Journal flaw) is room caused = absurd (caused.1 room.records room.read)

@@ -9,3 +9,5 @@ pub mod VerifyingLemmas
 pub mod CountingLemmas
 pub mod LookingLemmas
 pub mod CauseLemmas
+pub mod OnePlyLemmas
+pub mod NewJournalLemmas

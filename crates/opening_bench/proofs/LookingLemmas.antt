@@ -8,7 +8,8 @@ use Rattle.shared_words.proofs.Exactness.{on_false}
 use Rattle.bench_edges.specs.declared.status.Status.{Status}
 use Rattle.bench_edges.specs.declared.status.Status.TheVariants.{Done, Unsolved, Disk, Memory, Write}
 use Rattle.bench_edges.specs.declared.words.Command.{Command}
-use Rattle.bench_edges.specs.declared.words.Command.TheVariants.{Report, Certify, MakeTable}
+use Rattle.bench_edges.specs.declared.words.Command.TheVariants.{Report, Certify, MakeTable, Generate}
+use Rattle.capture_positions.specs.Walk.{openings_from}
 use Rattle.disk_journal.specs.declared.refusal.JournalRefusal.TheVariants as journal
 use Rattle.journal_looks.specs.Looks.{says_nothing}
 use Rattle.journal_looks.specs.declared.refusals.LookRefusal.{LookRefusal}
@@ -16,10 +17,12 @@ use Rattle.journal_looks.specs.declared.refusals.LookRefusal.TheVariants as look
 use Rattle.opening_report.specs.declared.refusals.Refusal.{Refusal}
 use Rattle.opening_report.specs.declared.refusals.Refusal.TheVariants as refusal
 use Rattle.opening_bench.specs.Accepted.{HasAsked, HasLookCause, IsRefusedFor, IsUnrefused}
-use Rattle.opening_bench.specs.Bench.{IsCutShort, TakesLine, TakesOutput, status_of}
+use Rattle.opening_bench.specs.Bench.{IsCommandRefusal, IsCutShort, IsRefused, Refuses, TakesLine, TakesOutput, status_of}
 use Rattle.opening_bench.specs.Commands.{Searches, source_limit}
 use Rattle.opening_bench.specs.Disks.{of_look}
 use Rattle.opening_bench.specs.Steps.{says_nothing_of_bytes}
+use Rattle.opening_bench.specs.declared.commands.generate.TheConstants.{GENERATE_PIECES}
+use Rattle.opening_bench.proofs.JournalLemmas.{unrefused}
 
 -- ---- a look, and the program's own refusal
 
@@ -70,6 +73,7 @@ module _ {D : Type 0} (tells : Bool) (reads : D → List ℕ) where
   asked_reads_none Report disk asked = refl
   asked_reads_none (Certify root) disk asked = refl
   asked_reads_none (MakeTable pieces) disk asked = refl
+  asked_reads_none (Generate seed count) disk asked = refl
   asked_reads_none command disk asked = absurd asked
 
   pub cut_accepts : (command : Command) (source rest : Option (List ℕ)) (before after : ℕ) (disk : D) (r : Refusal) → IsCutShort command source rest before after r
@@ -132,13 +136,40 @@ module _ (before after : Option (List ℕ)) (faults_before faults_after : ℕ) w
       (on_false (says_nothing_of_bytes r) (◌≡◌ {A = Result X Refusal} (Err r) (Err q)) (r ≡ q) (λ e. error_of r q e)
       (subst (λ (a : Result X Refusal). Unless says_nothing_of_bytes a (a ≡ Err q)) is h))
 
--- ---- commands that search look at no disk
+-- ---- a command that searches, on a disk that has what it asks
 
-pub asked_quiet : {D : Type 0} (tells : Bool) (reads : D → List ℕ) (command : Command) (disk : D) → HasAsked tells reads command disk → Searches command → ⊥
-asked_quiet tells reads Report disk asked searches = searches
-asked_quiet tells reads (Certify root) disk asked searches = searches
-asked_quiet tells reads (MakeTable pieces) disk asked searches = searches
-asked_quiet tells reads command disk asked searches = asked
+by_refusals : (status : Status) → (Refuses status → IsUnrefused status) → IsUnrefused status
+by_refusals status h = ((λ e. (h (subst Refuses (sym e) tt)).0 e), (λ e. (h (subst Refuses (sym e) tt)).1 e))
+
+module _ {D : Type 0} (tells : Bool) (reads : D → List ℕ) (images : D → List ℕ → Type 0) (images_since : D → ℕ → List ℕ → Type 0) (moment faults : D → ℕ) where
+  generated_unrefused : (seed count : ℕ) (source rest : Option (List ℕ)) (before after : ℕ) (old new : D) (r : Refusal) → HasAsked tells reads (Generate seed count) old
+      → IsCommandRefusal tells reads images images_since moment faults (Generate seed count) source rest before after old new r → IsUnrefused (status_of r)
+  generated_unrefused seed count source rest before after old new r room (inl cut) =
+      silent_unrefused r (cut_accepts tells reads (Generate seed count) source rest before after old r cut room)
+  generated_unrefused seed count source rest before after old new r room (inr (inl wrong)) = absurd wrong.fault
+  generated_unrefused seed count source rest before after old new r room (inr (inr refused)) =
+      let run = refused.fault in
+      unrefused tells reads images images_since moment faults GENERATE_PIECES (openings_from seed count) old new r run.fault run.is room (run.caused room.honest)
+
+  asked_unrefused : (command : Command) (source rest : Option (List ℕ)) (before after : ℕ) (old new : D) (r : Refusal) → Searches command → HasAsked tells reads command old
+      → IsCommandRefusal tells reads images images_since moment faults command source rest before after old new r → IsUnrefused (status_of r)
+  asked_unrefused Report source rest before after old new r searches asked cause = absurd searches
+  asked_unrefused (Certify root) source rest before after old new r searches asked cause = absurd searches
+  asked_unrefused (MakeTable pieces) source rest before after old new r searches asked cause = absurd searches
+  asked_unrefused (Generate seed count) source rest before after old new r searches asked cause = generated_unrefused seed count source rest before after old new r asked cause
+  asked_unrefused command source rest before after old new r searches asked cause = absurd asked
+
+  -- the same of the status of its run
+  pub search_unrefused : (command : Command) (source rest : Option (List ℕ)) (before after : ℕ) (taken_before taken_after : Option (List ℕ)) (written_before written_after : ℕ) (old new : D) (status : Status)
+      → Searches command → HasAsked tells reads command old
+      → (Refuses status → IsRefused (IsCommandRefusal tells reads images images_since moment faults command source rest before after old new) old new taken_before taken_after written_before written_after status)
+      → IsUnrefused status
+  search_unrefused command source rest before after taken_before taken_after written_before written_after old new status searches asked refused =
+      by_refusals status (λ refuses.
+      let h = refused refuses in
+      subst IsUnrefused h.status_is (asked_unrefused command source rest before after old new h.refusal searches asked h.cause))
+
+-- ---- commands that search look at no disk
 
 pub look_quiet : (command : Command) (file : List ℕ) (cause : LookRefusal) → HasLookCause command file cause → Searches command → ⊥
 look_quiet Report file cause stands searches = searches

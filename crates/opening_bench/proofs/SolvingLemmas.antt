@@ -1,6 +1,6 @@
--- What `solve` reads, writes and refuses.
+-- What `solve` reads, writes and refuses, and what it settles, and `generate`, with an ample budget.
 use Rattle.std.proofs.Common.{◌≡◌, ℕ, ◌+◌, ◌<◌, ◌≤◌, ◌^◌, Bool, List, Option, None, Some, refl, sym, ◌∙◌, subst, length, arith, lit<}
-use Rattle.std.specs.Prelude.{◌≢◌, Contains, IfOk, IfSome, Result, Ok, Err, true, false}
+use Rattle.std.specs.Prelude.{◌≢◌, Contains, IfOk, IfSome, Result, Ok, Err, true}
 use Rattle.std.proofs.lemmas.Bool.{true≢false}
 use Rattle.bench_edges.specs.Words.{Says}
 use Rattle.std.specs.Bool.{OnFalse}
@@ -10,6 +10,7 @@ use Rattle.bench_edges.specs.declared.words.Command.{Command}
 use Rattle.bench_edges.specs.declared.words.Command.TheVariants.{Solve, Report, Certify, Verify, MakeTable, TableCheck, Generate}
 use Rattle.bench_edges.specs.declared.words.Options.{Options}
 use Rattle.draughts_board.specs.Board.{Board}
+use Rattle.capture_positions.specs.Walk.{openings_from}
 use Rattle.pdn_text.specs.Signs.{pdn_wants_memory as is_pdn_memory}
 use Rattle.pdn_text.specs.declared.game.Game.{Game}
 use Rattle.pdn_text.specs.declared.refusal.PdnRefusal.{PdnRefusal}
@@ -21,8 +22,9 @@ use Rattle.pdn_openings.specs.declared.opening.Opening.{Opening}
 use Rattle.pdn_openings.specs.declared.refusal.OpeningRefusal.{OpeningRefusal}
 use Rattle.pdn_openings.specs.declared.refusal.OpeningRefusal.TheVariants as opening
 use Rattle.pdn_openings.proofs.Determined.{one_list}
+use Rattle.proof_tree.specs.Forest.{Forest}
 use Rattle.journal_runs.specs.Ample.{IsAmple}
-use Rattle.journal_runs.specs.Journals.{ReportsTruth}
+use Rattle.journal_runs.specs.Journals.{ReportsTruth, Resumes}
 use Rattle.journal_runs.proofs.UnreadLemmas.{reads_once}
 use Rattle.opening_report.specs.Conversions.{of_pdn, of_openings}
 use Rattle.opening_report.specs.declared.refusals.Refusal.TheVariants as refusal
@@ -30,6 +32,7 @@ use Rattle.opening_report.specs.declared.roots.Root.{Root}
 use Rattle.opening_report.specs.Report.{report_of, StandsOnce}
 use Rattle.opening_report.proofs.ReportLemmas.{report-is_true, roots_stand_once}
 use Rattle.opening_bench.specs.Accepted.{Accepts, HasAmpleBudget, HasRoom, IsUnrefused}
+use Rattle.opening_bench.specs.declared.commands.generate.TheConstants.{GENERATE_DEPTH, GENERATE_PIECES}
 use Rattle.opening_bench.specs.declared.commands.solve.TheConstants.{GAMES_LIMIT}
 use Rattle.opening_bench.specs.Bench.{Does, Finishes, Reports, TakesOutput, WritesOnly, HoldsOpenings}
 use Rattle.opening_bench.specs.Solving.{OpeningsOf, IsReportOn, roots_of_openings}
@@ -104,23 +107,46 @@ openings_accepted tells reads options None old status h = tt
 openings_accepted tells reads options (Some told) old status h = λ fits all read room.
     h (all, read) fits (λ others are. subst (λ (os : List Opening). HasRoom tells reads options.pieces (roots_of_openings os) old) (one_list_of options.plies told all others read are) room)
 
--- a run for which the budget is ample leaves no root unsettled
-pub ample_solves : {D : Type 0} (tells : Bool) (reads : D → List ℕ) (images : D → List ℕ → Type 0) (images_since : D → ℕ → List ℕ → Type 0) (moment faults : D → ℕ) (options : Options) (source before after : Option (List ℕ)) (old new : D) (status : Status)
-    → (Reports status → Does tells reads images images_since moment faults (Solve options) source before after old new status)
-    → IfSome source (λ told. (all : List Opening) → OpeningsOf options.plies told all → HasAmpleBudget tells reads options (roots_of_openings all) old → status ≢ Unsolved)
-ample_solves tells reads images images_since moment faults options None before after old new status does = tt
-ample_solves tells reads images images_since moment faults options (Some told) before after old new status does = λ all read ample is.
-    let done = does (subst Reports (sym is) tt) in
-    let same : done.input ≡ told = done.is_input.same refl in
-    let resumed = done.shows.resumed ample.honest in
-    let openings : done.shows.openings ≡ all = one_list_of options.plies told done.shows.openings all (subst (λ t. OpeningsOf options.plies t done.shows.openings) same done.shows.read) read in
-    let records : ample.records ≡ resumed.before = reads_once options.pieces (reads old) ample.records resumed.before ample.read resumed.read_then in
-    let settled : done.settled ≡ true =
-    resumed.ample
-    (subst (λ (os : List Opening). IsAmple options.pieces options.depth options.budget (roots_of_openings os) resumed.before) (sym openings)
-    (subst (IsAmple options.pieces options.depth options.budget (roots_of_openings all)) records ample.ample)) in
-    let taken = subst (λ (s : Status). TakesOutput s done.text done.settled before after) is done.taken in
-    true≢false (sym settled ∙ taken.0)
+-- ---- an ample budget
+
+-- a run that settles all does not end with roots unsettled
+settled_solves : (text : List ℕ) (settled : Bool) (before after : Option (List ℕ)) (status : Status) → settled ≡ true → TakesOutput status text settled before after → status ≢ Unsolved
+settled_solves text settled before after status all taken is =
+    let output = subst (λ (s : Status). TakesOutput s text settled before after) is taken in
+    true≢false (sym all ∙ output.0)
+
+module _ {D : Type 0} (tells : Bool) (reads : D → List ℕ) (images : D → List ℕ → Type 0) (images_since : D → ℕ → List ℕ → Type 0) (moment faults : D → ℕ) where
+  ample_settles : (text_of : Forest → List ℕ) (pieces depth budget : ℕ) (positions : List Board) (old new : D) (text : List ℕ) (settled : Bool) → HasAmpleBudget tells reads pieces depth budget positions old
+      → Resumes reads images images_since moment faults text_of pieces depth budget positions old new text settled → settled ≡ true
+  ample_settles text_of pieces depth budget positions old new text settled ample resumed =
+      resumed.ample (subst (IsAmple pieces depth budget positions) (reads_once pieces (reads old) ample.records resumed.before ample.read resumed.read_then) ample.ample)
+
+  -- a run for which the budget is ample leaves no root unsettled
+  pub ample_solves : (options : Options) (source before after : Option (List ℕ)) (old new : D) (status : Status)
+      → (Reports status → Does tells reads images images_since moment faults (Solve options) source before after old new status)
+      → IfSome source (λ told. (all : List Opening) → OpeningsOf options.plies told all
+      → HasAmpleBudget tells reads options.pieces options.depth options.budget (roots_of_openings all) old → status ≢ Unsolved)
+  ample_solves options None before after old new status does = tt
+  ample_solves options (Some told) before after old new status does = λ all read ample is.
+      let done = does (subst Reports (sym is) tt) in
+      let same : done.input ≡ told = done.is_input.same refl in
+      let openings : done.shows.openings ≡ all = one_list_of options.plies told done.shows.openings all (subst (λ t. OpeningsOf options.plies t done.shows.openings) same done.shows.read) read in
+      let enough = subst (λ (os : List Opening). HasAmpleBudget tells reads options.pieces options.depth options.budget (roots_of_openings os) old) (sym openings) ample in
+      settled_solves done.text done.settled before after status
+      (ample_settles _ options.pieces options.depth options.budget (roots_of_openings done.shows.openings) old new done.text done.settled enough (done.shows.resumed ample.honest))
+      done.taken is
+
+  -- .. of `generate`
+  pub ample_generates : (seed count : ℕ) (source before after : Option (List ℕ)) (old new : D) (status : Status)
+      → (Reports status → Does tells reads images images_since moment faults (Generate seed count) source before after old new status)
+      → HasAmpleBudget tells reads GENERATE_PIECES GENERATE_DEPTH count (openings_from seed count) old → status ≢ Unsolved
+  ample_generates seed count source before after old new status does ample is =
+      let done = does (subst Reports (sym is) tt) in
+      settled_solves done.text done.settled before after status
+      (ample_settles _ GENERATE_PIECES GENERATE_DEPTH count (openings_from seed count) old new done.text done.settled ample (done.shows ample.honest))
+      done.taken is
+
+-- ---- each opening's position once
 
 of_source : (options : Options) (source : Option (List ℕ)) (input text : List ℕ) → IfSome source (λ told. input ≡ told) → IsReportOn options input text
     → IfSome source (λ told. (openings : List Opening) → OpeningsOf options.plies told openings → (opening : Opening) → Contains openings opening → StandsOnce text opening.position)

@@ -4,11 +4,11 @@ use Rattle.draughts_board.specs.Board.{Board}
 use Rattle.bench_edges.specs.declared.status.Status.{Status}
 use Rattle.bench_edges.specs.declared.status.Status.TheVariants.{Input, Disk, Journal, Memory}
 use Rattle.bench_edges.specs.declared.words.Command.{Command}
-use Rattle.bench_edges.specs.declared.words.Options.{Options}
 use Rattle.bench_edges.specs.declared.words.Command.TheVariants.{Solve, Report, Certify, Verify, MakeTable, TableCheck, Generate}
 use Rattle.bench_disk.specs.Disk.{IsHonest}
 use Rattle.bench_core.specs.Records.{begun}
 use Rattle.bench_records.specs.declared.records.BenchRecord.{BenchRecord}
+use Rattle.capture_positions.specs.Walk.{openings_from}
 use Rattle.certificate_text.specs.Text.{ReadsAs}
 use Rattle.endgame_table.specs.Bytes.{bytes_of}
 use Rattle.endgame_table.specs.Entries.{IsTable}
@@ -24,6 +24,7 @@ use Rattle.tree_manager.specs.Sessions.{with_roots}
 use Rattle.opening_bench.specs.Bench.{TakesLine, status_of}
 use Rattle.opening_bench.specs.Commands.{source_limit}
 use Rattle.opening_bench.specs.Solving.{OpeningsOf, roots_of_openings}
+use Rattle.opening_bench.specs.declared.commands.generate.TheConstants.{GENERATE_PIECES}
 
 -- the bytes are good for the command: openings can be read of them, or a good certificate, or a
 -- sound table; none are for a command that reads none
@@ -50,13 +51,14 @@ pub record HasRoom {D : Type 0} (tells : Bool) (reads : D → List ℕ) (pieces 
   pub read : ReadsRecords pieces (reads disk) records
   pub room : length (with_roots (begun records) positions) ≤ 65536
 
--- The disk reads as a journal for the table, and the budget is ample for the roots that it has and those that these positions begin
-pub record HasAmpleBudget {D : Type 0} (tells : Bool) (reads : D → List ℕ) (options : Options)
-    (positions : List Board) (disk : D) : Type 0 where
+-- The disk reads as a journal for the table, and the budget is ample for the roots that it has and
+-- those that these positions begin.
+pub record HasAmpleBudget {D : Type 0} (tells : Bool) (reads : D → List ℕ)
+    (pieces depth budget : ℕ) (positions : List Board) (disk : D) : Type 0 where
   pub honest : IsHonest tells
   pub records : List BenchRecord
-  pub read : ReadsRecords options.pieces (reads disk) records
-  pub ample : IsAmple options.pieces options.depth options.budget positions records
+  pub read : ReadsRecords pieces (reads disk) records
+  pub ample : IsAmple pieces depth budget positions records
 
 -- The journal has room for the roots of the source's openings.
 abbrev pub HasRoomFor : {D : Type 0} → Bool → (D → List ℕ) → Command → List ℕ → D → Type 0
@@ -74,16 +76,18 @@ Accepts tells reads command source disk status =
     → IfSome (source_limit command) (λ limit. length told ≤ limit)
     → HasRoomFor tells reads command told disk → IsUnrefused status)
 
--- ---- a look at the disk
+-- ---- what is asked of the disk
 
--- For a command that reads no source the disk has what it asks of it: a journal to report, or a
--- root with a value to certify. A table asks nothing.
+-- For a command that reads no source the disk has what it asks of it: a journal to report, a root
+-- with a value to certify, or room for the openings that a seed gives. A table asks nothing.
 abbrev pub HasAsked : {D : Type 0} → Bool → (D → List ℕ) → Command → D → Type 0
 HasAsked tells reads Report disk =
     IsHonest tells × ((pieces : ℕ) × ((records : List BenchRecord)
     × ReadsRecords pieces (reads disk) records))
 HasAsked tells reads (Certify root) disk = IsHonest tells × HasSettledRoot (reads disk) root
 HasAsked tells reads (MakeTable pieces) disk = Unit {0}
+HasAsked tells reads (Generate seed count) disk =
+    HasRoom tells reads GENERATE_PIECES (openings_from seed count) disk
 HasAsked tells reads command disk = ⊥
 
 -- a cause for which a look at a disk that reads as this file is refused

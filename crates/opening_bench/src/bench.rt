@@ -1,5 +1,5 @@
 //! The top call: from the words and the source's bytes to the sink's bytes, a status, and the disk.
-ghost use Rattle.std.specs.Prelude.{◌≡◌, true, false, ◌≢◌, ◌↔◌, ◌≤◌, ℕ, List, None, IfSome, length};
+ghost use Rattle.std.specs.Prelude.{◌≡◌, true, false, ◌≢◌, ◌↔◌, ◌≤◌, ℕ, List, [], None, IfSome, length};
 ghost use Rattle.std.specs.Io.KnownBytes.{IsAtEnd};
 ghost use Rattle.shared_words.specs.Counts.{Rose};
 ghost use Rattle.bench_disk.specs.Disk.{IsHonest};
@@ -7,6 +7,7 @@ ghost use Rattle.bench_edges.specs.Words.{IsWithinLimits, Says, texts};
 ghost use Rattle.bench_edges.specs.declared.words.Command.{Command};
 ghost use Rattle.bench_edges.specs.declared.words.Options.{Options};
 ghost use Rattle.bench_records.specs.declared.records.BenchRecord.{BenchRecord};
+ghost use Rattle.capture_positions.specs.Walk.{openings_from};
 ghost use Rattle.certificate_text.specs.Text.{ReadsAs};
 ghost use Rattle.endgame_table.specs.Bytes.{bytes_of};
 ghost use Rattle.endgame_table.specs.Entries.{IsTable};
@@ -24,6 +25,7 @@ ghost use Rattle.opening_bench.specs.Disks.{LeavesDisk, of_look};
 ghost use Rattle.opening_bench.specs.Solving.{OpeningsOf, roots_of_openings};
 ghost use Rattle.opening_bench.specs.Steps.{IsLineOf};
 
+use crate::commands::generate::{GENERATE_DEPTH, GENERATE_PIECES};
 use crate::commands::solve::GAMES_LIMIT;
 use crate::commands::verify::CERTIFICATE_LIMIT;
 use crate::quiet::bench_quiet;
@@ -197,8 +199,22 @@ pub fn bench<R: Threads + Wait + Sync, S: Source, K: Sink, D: Disk + Send, G: Ga
     ensures ample { (options : Options) → Says (texts words.now) (Command.Solve options)
         → IfSome (S.left source.old) (λ text. (all : List Opening)
         → OpeningsOf options.plies text all
-        → HasAmpleBudget D.TELLS D.reads options (roots_of_openings all) disk
-        → result.0 ≢ Status.Unsolved) }
+        → HasAmpleBudget D.TELLS D.reads options.pieces options.depth options.budget
+        (roots_of_openings all) disk → result.0 ≢ Status.Unsolved) }
+    // The same of `generate`, with the openings that the seed gives and a budget of COUNT.
+    ensures accepted_generated { (seed count : ℕ)
+        → Says (texts words.now) (Command.Generate seed count)
+        → HasRoom D.TELLS D.reads GENERATE_PIECES (openings_from seed count) disk
+        → IsUnrefused result.0 }
+    ensures ample_generated { (seed count : ℕ)
+        → Says (texts words.now) (Command.Generate seed count)
+        → HasAmpleBudget D.TELLS D.reads GENERATE_PIECES GENERATE_DEPTH count
+        (openings_from seed count) disk → result.0 ≢ Status.Unsolved }
+    // On a journal that has no root yet this is so of each seed and COUNT.
+    ensures settled_generated { (seed count : ℕ)
+        → Says (texts words.now) (Command.Generate seed count) → IsHonest D.TELLS
+        → ReadsRecords GENERATE_PIECES (D.reads disk) []
+        → IsUnrefused result.0 × (result.0 ≢ Status.Unsolved) }
     ensures accepted_certificates { Says (texts words.now) Command.Verify
         → IfSome (S.left source.old) (λ bytes. length bytes ≤ CERTIFICATE_LIMIT
         → (c : Certificate) → IsGood c → ReadsAs bytes c → IsUnrefused result.0) }

@@ -4,7 +4,7 @@
 ghost use Rattle.std.specs.Prelude.{IfOk};
 ghost use Rattle.certificate_text.specs.Text.{IsPrinted};
 
-use crate::bench::bench;
+use crate::tests::run;
 use bench_disk::MemoryDisk;
 use bench_edges::{MemorySink, MemorySource, Status};
 use certificate_checker::{CheckRefusal, check};
@@ -50,7 +50,7 @@ fn expect<R: Abort + Threads + Wait + Sync>(
     let mut source = MemorySource::new(Vec::from_slice(alloc, text)?, Vec::new(alloc));
     let mut sink = MemorySink::new(alloc, Vec::new(alloc));
     let disk = MemoryDisk::new(alloc);
-    let (ended, _disk) = bench(
+    let (ended, _disk) = run(
         rt,
         alloc,
         &["-", "verify"],
@@ -183,7 +183,7 @@ fn a_certificate_that_cannot_be_read(rt: HostRuntime) -> Result<(), Fail> {
     let mut source = MemorySource::new(bytes, vec![in rt.alloc(); 0]?);
     let mut sink = MemorySink::new(rt.alloc(), Vec::new(rt.alloc()));
     let disk = MemoryDisk::new(rt.alloc());
-    let (ended, _disk) = bench(
+    let (ended, _disk) = run(
         &rt,
         rt.alloc(),
         &["-", "verify"],

@@ -1,6 +1,6 @@
 //! Runs on journals in memory, one after the other. What is due was worked out by hand from the
 //! rules of play and from the format of journals.
-use crate::bench::bench;
+use crate::tests::run;
 use bench_disk::{FaultDisk, MemoryDisk};
 use bench_edges::{MemorySink, MemorySource, Status};
 use std::alloc::Global;
@@ -60,7 +60,7 @@ fn on<R: Abort + Threads + Wait + Sync>(
 ) -> Result<MemoryDisk, Fail> {
     let mut source = MemorySource::new(text.as_bytes().to_vec(alloc)?, Vec::new(alloc));
     let mut sink = MemorySink::new(alloc, Vec::new(alloc));
-    let (ended, disk) = bench(rt, alloc, words, &mut source, &mut sink, disk, &OpenGate);
+    let (ended, disk) = run(rt, alloc, words, &mut source, &mut sink, disk, &OpenGate);
     assert_eq!(rt; ended, status, "{words:?}");
     assert_eq!(rt; sink.bytes(), written.as_bytes(), "{words:?}");
     Ok(disk)
@@ -113,11 +113,11 @@ fn expect_certified<R: Abort + Threads + Wait + Sync>(
     let mut source = MemorySource::new(Vec::new(alloc), Vec::new(alloc));
     let mut sink = MemorySink::new(alloc, Vec::new(alloc));
     let words = ["-", "certify", "1"];
-    let (ended, disk) = bench(rt, alloc, &words, &mut source, &mut sink, disk, &OpenGate);
+    let (ended, disk) = run(rt, alloc, &words, &mut source, &mut sink, disk, &OpenGate);
     assert_eq!(rt; ended, Status::Done);
     let mut text = MemorySource::new(sink.bytes().to_vec(alloc)?, Vec::new(alloc));
     let mut written = MemorySink::new(alloc, Vec::new(alloc));
-    let (verified, disk) = bench(
+    let (verified, disk) = run(
         rt,
         alloc,
         &["-", "verify"],
@@ -254,7 +254,7 @@ fn a_disk_that_fails(rt: HostRuntime) -> Result<(), Fail> {
     let disk = FaultDisk::new(MemoryDisk::new(alloc), vec![in alloc; 0]?);
     let mut source = MemorySource::new(BLOCKING.as_bytes().to_vec(alloc)?, Vec::new(alloc));
     let mut sink = MemorySink::new(alloc, Vec::new(alloc));
-    let (ended, disk) = bench(
+    let (ended, disk) = run(
         &rt,
         alloc,
         &["-", "solve"],
@@ -277,7 +277,7 @@ fn two_searches_run_at_once(rt: HostRuntime) -> Result<(), Fail> {
     let mut source = MemorySource::new(TWO.as_bytes().to_vec(alloc)?, Vec::new(alloc));
     let mut sink = MemorySink::new(alloc, Vec::new(alloc));
     let disk = MemoryDisk::new(alloc);
-    let (ended, disk) = bench(&rt, alloc, &words, &mut source, &mut sink, disk, &gate);
+    let (ended, disk) = run(&rt, alloc, &words, &mut source, &mut sink, disk, &gate);
     assert_eq!(rt; ended, Status::Done);
     assert_eq!(rt; sink.bytes(), WHOLE.as_bytes());
     assert!(rt; gate.met());

@@ -1,5 +1,5 @@
-//! A source and a sink that keep a front of what went through them, so that a person can be told
-//! more of a run than it writes.
+//! A source that keeps what it is handed back, and a sink that keeps a front of what it takes, so
+//! that a person can be told more of a run than it writes.
 use bench_edges::{Sink, SinkFault, Source, SourceFault};
 use std::alloc::Global;
 
@@ -33,30 +33,22 @@ impl Front {
     }
 }
 
-/// A source that keeps a front of what it gives.
+/// A source that keeps the bytes that it is handed back.
 #[derive(Drop)]
 pub(crate) struct KeepingSource<S: Source> {
     source: S,
-    front: Front,
+    kept: Option<Vec<u8>>,
 }
 
 impl<S: Source> KeepingSource<S> {
-    /// The source, of which at most so many bytes are kept.
-    pub(crate) fn new(alloc: Global, source: S, most: usize) -> KeepingSource<S> {
-        KeepingSource {
-            source,
-            front: Front::new(alloc, most),
-        }
+    /// The source, which keeps nothing so far.
+    pub(crate) fn new(source: S) -> KeepingSource<S> {
+        KeepingSource { source, kept: None }
     }
 
-    /// The front of what it gave.
+    /// The bytes that it was handed back last; none where it was handed none.
     pub(crate) fn kept(&self) -> &[u8] {
-        &self.front.bytes
-    }
-
-    /// All that it gave is kept.
-    pub(crate) fn is_whole(&self) -> bool {
-        self.front.is_open
+        self.kept.as_deref().unwrap_or(&[])
     }
 }
 
@@ -66,9 +58,11 @@ impl<S: Source> Source for KeepingSource<S> {
     ghost faults = { λ s. S.faults s.source };
 
     fn read(&mut self, into: &mut [u8]) -> Result<usize, SourceFault> {
-        let count = self.source.read(into)?;
-        self.front.keep(&into[..count]);
-        Ok(count)
+        self.source.read(into)
+    }
+
+    fn take_back(&mut self, bytes: Vec<u8>) {
+        self.kept = Some(bytes);
     }
 }
 

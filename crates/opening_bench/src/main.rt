@@ -14,6 +14,8 @@ mod commands;
 #[cfg(test)]
 mod journal_tests;
 mod keeping;
+#[cfg(test)]
+mod keeping_tests;
 mod looking;
 mod output;
 mod progress;
@@ -52,9 +54,8 @@ const LAST_STANDARD: RawFd = 2;
 /// A folder that is there on every system. Opened to be read it can be neither read nor written as a
 /// file.
 const ROOT_FOLDER: &str = "/";
-/// How many bytes of standard input are kept for a text on a refusal: those of the longest games.
-const KEPT_SOURCE: usize = 16_777_216;
-/// How many bytes of standard output are kept for it: those of the longest line of a refusal.
+
+/// How many bytes of standard output are kept for a text on a refusal: those of its longest line.
 const KEPT_LINE: usize = 128;
 
 /// What `--help` writes.
@@ -161,7 +162,7 @@ fn run_on<R: Threads + Wait + Sync, D: Disk + Drop + Send>(
     words: &[&str],
     disk: D,
 ) -> u8 {
-    let mut source = KeepingSource::new(rt.alloc(), StdSource::new(rt.reader()), KEPT_SOURCE);
+    let mut source = KeepingSource::new(StdSource::new(rt.reader()));
     let mut sink = KeepingSink::new(rt.alloc(), StdSink::new(io::writer(rt)), KEPT_LINE);
     let (status, _disk) = run(
         threads,
@@ -176,7 +177,6 @@ fn run_on<R: Threads + Wait + Sync, D: Disk + Drop + Send>(
         status,
         line: sink.kept(),
         source: source.kept(),
-        is_whole: source.is_whole(),
     };
     tell(rt, words, &traces);
     status.number()

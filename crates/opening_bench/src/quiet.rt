@@ -19,7 +19,7 @@ use crate::commands::table::table;
 use crate::commands::table_check::table_check;
 use crate::commands::verify::verify;
 use crate::output::{Output, write_output};
-use crate::reading::read_source;
+use crate::reading::{hand_back, read_source};
 use bench_disk::Disk;
 use bench_edges::{Command, Sink, Source, Status};
 use opening_report::Refusal;
@@ -87,7 +87,11 @@ fn answer_quietly<S: Source, D: Disk>(
     ensures unread { source_limit command ≡ None → source.new ≡ source.old }
 {
     match read_source(alloc, command, source) {
-        Ok(bytes) => quiet_bytes(alloc, command, &bytes, disk),
+        Ok(bytes) => {
+            let answer = quiet_bytes(alloc, command, &bytes, disk);
+            hand_back(command, bytes, source);
+            answer
+        }
         Err(refusal) => (disk, Err(refusal)),
     }
 }

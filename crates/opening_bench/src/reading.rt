@@ -43,3 +43,15 @@ pub(crate) fn read_source<S: Source>(
         None => Ok(Vec::new(alloc)),
     }
 }
+
+/// Hands the bytes that a command read back to its source. A command that reads none hands none
+/// back.
+pub(crate) fn hand_back<S: Source>(command: Command, bytes: Vec<u8>, source: &mut S)
+    ensures left { S.left source.new ≡ S.left source.old }
+    ensures counted { S.faults source.new ≡ S.faults source.old }
+    ensures unread { source_limit command ≡ None → source.new ≡ source.old }
+{
+    if source_limit(command).is_some() {
+        source.take_back(bytes);
+    }
+}

@@ -14,7 +14,7 @@ use crate::bench::refuse;
 use crate::commands::generate::generate;
 use crate::commands::solve::solve;
 use crate::output::{Output, write_output};
-use crate::reading::read_source;
+use crate::reading::{hand_back, read_source};
 use bench_disk::Disk;
 use bench_edges::{Command, Sink, Source, Status};
 use opening_report::Refusal;
@@ -86,7 +86,11 @@ fn answer_by_search<R: Threads + Wait + Sync, S: Source, D: Disk + Send, G: Gate
     ensures unread { source_limit command ≡ None → source.new ≡ source.old }
 {
     match read_source(alloc, command, source) {
-        Ok(bytes) => search_bytes(rt, alloc, command, &bytes, disk, gate),
+        Ok(bytes) => {
+            let answer = search_bytes(rt, alloc, command, &bytes, disk, gate);
+            hand_back(command, bytes, source);
+            answer
+        }
         Err(refusal) => (disk, Err(refusal)),
     }
 }

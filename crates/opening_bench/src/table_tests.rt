@@ -1,6 +1,6 @@
 //! Runs of `table` and `table-check` with the objects in memory. What is due comes from the format
 //! of tables: 8 bytes of head and 4 for each of 16,130 or 651,010 indices.
-use crate::bench::bench;
+use crate::tests::run;
 use bench_disk::MemoryDisk;
 use bench_edges::{MemorySink, MemorySource, Status};
 use std::alloc::Global;
@@ -22,7 +22,7 @@ fn table<R: Abort + Threads + Wait + Sync>(
     let mut source = MemorySource::new(Vec::from_slice(alloc, b"left")?, Vec::new(alloc));
     let mut sink = MemorySink::new(alloc, Vec::new(alloc));
     let disk = MemoryDisk::new(alloc);
-    let (ended, _disk) = bench(
+    let (ended, _disk) = run(
         rt,
         alloc,
         &["-", "table", pieces],
@@ -47,7 +47,7 @@ fn expect_checked<R: Abort + Threads + Wait + Sync>(
     let mut source = MemorySource::new(Vec::from_slice(alloc, bytes)?, Vec::new(alloc));
     let mut sink = MemorySink::new(alloc, Vec::new(alloc));
     let disk = MemoryDisk::new(alloc);
-    let (ended, _disk) = bench(
+    let (ended, _disk) = run(
         rt,
         alloc,
         &["-", "table-check"],
@@ -146,7 +146,7 @@ fn words_on_tables(rt: HostRuntime) -> Result<(), Fail> {
         let mut source = MemorySource::new(Vec::new(rt.alloc()), Vec::new(rt.alloc()));
         let mut sink = MemorySink::new(rt.alloc(), Vec::new(rt.alloc()));
         let disk = MemoryDisk::new(rt.alloc());
-        let (ended, _disk) = bench(
+        let (ended, _disk) = run(
             &rt,
             rt.alloc(),
             words,
@@ -166,7 +166,7 @@ fn a_sink_that_fails_at_a_table(rt: HostRuntime) -> Result<(), Fail> {
     let mut source = MemorySource::new(Vec::new(rt.alloc()), Vec::new(rt.alloc()));
     let mut sink = MemorySink::new(rt.alloc(), vec![in rt.alloc(); 1]?).at_most(100);
     let disk = MemoryDisk::new(rt.alloc());
-    let (ended, _disk) = bench(
+    let (ended, _disk) = run(
         &rt,
         rt.alloc(),
         &["-", "table", "2"],

@@ -18,12 +18,10 @@ const MOST_PLIES: u64 = 200;
 pub(crate) struct Traces<'a> {
     /// How it ended.
     pub(crate) status: Status,
-    /// What it wrote, so far as it was kept.
+    /// The front of what it wrote.
     pub(crate) line: &'a [u8],
-    /// What it read, so far as it was kept.
+    /// What it read, where that came to its end, and else nothing.
     pub(crate) source: &'a [u8],
-    /// All that it read was kept.
-    pub(crate) is_whole: bool,
 }
 
 /// The plies that `--plies` asks among the words of `solve`; 0 where it is not given.
@@ -36,6 +34,15 @@ fn plies_asked(words: &[&str]) -> usize {
     0
 }
 
+/// How the bytes of a table that went to a terminal come into a file.
+fn table_text(alloc: Global, pieces: &str) -> Result<Vec<u8>, AllocError> {
+    let mut text = Vec::new(alloc);
+    text.extend_from_slice(TABLE_ON_TERMINAL.as_bytes())?;
+    text.extend_from_slice(pieces.as_bytes())?;
+    text.extend_from_slice(b" > FILE\n")?;
+    Ok(text)
+}
+
 /// The text for a person on a run with these words: what can be done about a refusal; warnings, where
 /// games were read; how to keep a table that went to a terminal.
 fn text_for(
@@ -44,22 +51,19 @@ fn text_for(
     traces: &Traces<'_>,
     is_terminal: bool,
 ) -> Result<Vec<u8>, AllocError> {
-    if let Some(refusal) = refusal_of_line(traces.line) {
-        return hint(alloc, words, &refusal, traces.source);
+    match (traces.status, words) {
+        (Status::Done | Status::Unsolved, [_, "solve", options @ ..]) => warnings_text(
+            alloc,
+            traces.source,
+            plies_asked(options),
+        ),
+        (Status::Done, [_, "table", pieces]) if is_terminal => table_text(alloc, pieces),
+        (Status::Done | Status::Unsolved | Status::Write, _) => Ok(Vec::new(alloc)),
+        _ => match refusal_of_line(traces.line) {
+            Some(refusal) => hint(alloc, words, &refusal, traces.source),
+            None => Ok(Vec::new(alloc)),
+        },
     }
-    let mut text = Vec::new(alloc);
-    match (words, traces.status.number()) {
-        ([_, "solve", options @ ..], 0 | 1) if traces.is_whole => {
-            return warnings_text(alloc, traces.source, plies_asked(options));
-        }
-        ([_, "table", pieces], 0) if is_terminal => {
-            text.extend_from_slice(TABLE_ON_TERMINAL.as_bytes())?;
-            text.extend_from_slice(pieces.as_bytes())?;
-            text.extend_from_slice(b" > FILE\n")?;
-        }
-        _ => {}
-    }
-    Ok(text)
 }
 
 /// Tells it on standard error: nothing else, and nothing where memory is wanting or standard error

@@ -1,14 +1,14 @@
 //! Runs of `bench` with the objects in memory. What is due was worked out by hand from the rules of
 //! play.
 use crate::bench::bench;
-use bench_disk::MemoryDisk;
+use bench_disk::{Disk, MemoryDisk};
 use bench_edges::{MemorySink, MemorySource, Status};
 use std::alloc::Global;
 use std::process::Abort;
 use std::sync::Wait;
 use std::test::Fail;
 use std::thread::Threads;
-use worker_gate::OpenGate;
+use worker_gate::{Gate, OpenGate};
 
 const BLOCKING: &[u8] = b"[FEN \"W:W16,23:B12\"] *";
 
@@ -17,6 +17,20 @@ const BLOCKING_WON: &[u8] = b"root 1 W:W16,23:B12 white-wins\nroots 1 settled 1 
 const ONE_PLY: [&str; 4] = ["-", "solve", "--depth", "1"];
 
 const SOLVE: [&str; 2] = ["-", "solve"];
+
+/// Runs `bench`. The one call of it in the tests: a function that calls it is dear to prove, since
+/// its clauses are many, and the tests need none of them.
+pub(crate) fn run<R: Threads + Wait + Sync, D: Disk + Send, G: Gate + Sync>(
+    rt: &R,
+    alloc: Global,
+    words: &[&str],
+    source: &mut MemorySource,
+    sink: &mut MemorySink,
+    disk: D,
+    gate: &G,
+) -> (Status, D) {
+    bench(rt, alloc, words, source, sink, disk, gate)
+}
 
 /// Runs over a source that gives all its bytes and a sink that takes all, on an empty disk, and
 /// compares the status and what was written.
@@ -30,7 +44,7 @@ fn expect<R: Abort + Threads + Wait + Sync>(
 ) -> Result<(), Fail> {
     let mut source = MemorySource::new(text.as_bytes().to_vec(alloc)?, Vec::new(alloc));
     let mut sink = MemorySink::new(alloc, Vec::new(alloc));
-    let (ended, _disk) = bench(
+    let (ended, _disk) = run(
         rt,
         alloc,
         words,
@@ -240,7 +254,7 @@ fn expect_over<R: Abort + Threads + Wait + Sync>(
     status: Status,
     written: &[u8],
 ) {
-    let (ended, disk) = bench(
+    let (ended, disk) = run(
         rt,
         alloc,
         &ONE_PLY,
@@ -310,7 +324,7 @@ fn as_many_roots_as_may_be(rt: HostRuntime) -> Result<(), Fail> {
     let mut sink = MemorySink::new(rt.alloc(), Vec::new(rt.alloc()));
     let words = ["-", "solve", "--budget", "0"];
     let disk = MemoryDisk::new(rt.alloc());
-    let (ended, _disk) = bench(
+    let (ended, _disk) = run(
         &rt,
         rt.alloc(),
         &words,

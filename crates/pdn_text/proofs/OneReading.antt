@@ -1,13 +1,17 @@
 -- A text is read in one way, or refused in one way, and never both.
-use Rattle.std.proofs.Common.{◌≡◌, ◌∙◌, ◌⊎◌, inl, inr, ℕ, suc, ◌≤◌, Bool, true, false, List, [], ◌∷◌, ◌++◌, length, drop, Err, refl, sym, ap, subst, arith, append-nil}
-use Rattle.std.specs.Prelude.{option_to_list}
+use Rattle.std.proofs.Common.{◌≡◌, ◌∙◌, ◌⊎◌, inl, inr, ℕ, suc, ◌≤◌, Bool, true, false, List, [], ◌∷◌, ◌++◌, length, drop, Result, Ok, Err, refl, sym, ap, subst, arith, append-nil}
+use Rattle.std.specs.Prelude.{IfErr, IfOk, option_to_list}
+use Rattle.std.specs.Bool.{OnFalse}
 use Rattle.std.proofs.lemmas.List.{drop_all}
 use Rattle.std.proofs.lemmas.List.Concat.{flat_map-append}
 use Rattle.pdn_text.specs.Forms.{form_of}
 use Rattle.pdn_text.specs.Gathering.{no_game, all_taken, games_of}
-use Rattle.pdn_text.specs.Grammar.{IsItemOfText, IsPdnFault, form_at, begins_line}
+use Rattle.pdn_text.specs.Grammar.{IsItemOfText, IsPdnFault, IsStop, form_at, begins_line}
 use Rattle.pdn_text.specs.Pdn.{beginning, AreItemsOfText, signs, ReadsTo, Reads, StandsFirst, BeginsOneMore, Refused}
 use Rattle.pdn_text.specs.Scans.{item_of}
+use Rattle.pdn_text.specs.Signs.{pdn_wants_memory}
+use Rattle.shared_words.specs.Answers.{IsExact, Unless}
+use Rattle.shared_words.proofs.Exactness.{exact_from_one, on_false}
 use Rattle.pdn_text.specs.declared.form.Form.TheVariants as form
 use Rattle.pdn_text.specs.declared.TheConstants.{MOST_GAMES}
 use Rattle.pdn_text.specs.declared.game.Game.{Game}
@@ -15,7 +19,7 @@ use Rattle.pdn_text.specs.declared.items.Item.{Item}
 use Rattle.pdn_text.specs.declared.refusal.PdnRefusal.{PdnRefusal}
 use Rattle.pdn_text.specs.declared.refusal.PdnRefusal.TheVariants as refusal
 use Rattle.pdn_text.proofs.GameFold.{made_is, games_more, all_taken-append}
-use Rattle.pdn_text.proofs.ItemAnswers.{item_again, fault_again}
+use Rattle.pdn_text.proofs.ItemAnswers.{item_again, fault_again, item_sound, fault_sound}
 use Rattle.pdn_text.proofs.Reached.{push_item}
 
 -- one item at a place
@@ -42,22 +46,19 @@ one_begins text at p q (x ∷ xs) (y ∷ ys) a b =
       | inr h ↦ inr (begins_push text y x ys xs q p (sym same) h)
     ]
 
--- no item stands at a place
-abbrev IsStop : List ℕ → ℕ → Type 0
-IsStop text at = (item : Item) → ¬ IsItemOfText (form_at text at) at (drop at text) item
-
+-- no item stands behind the end, and none at a fault
 end_form : (start : Bool) → form_of start [] ≡ form.Nothing
 unfolding form_of
 end_form true = refl
 end_form false = refl
 
-stop_at_end : (text : List ℕ) → IsStop text (length text)
+pub stop_at_end : (text : List ℕ) → IsStop text (length text)
 stop_at_end text item is =
     let none : drop (length text) text ≡ [] = drop_all (length text) text (omega arith) in
     let wrong = rw none at is in
     rw (end_form (begins_line text (length text))) at wrong
 
-stop_at_fault : (text : List ℕ) (at : ℕ) (e : PdnRefusal) → IsPdnFault (form_at text at) at (drop at text) e → IsStop text at
+pub stop_at_fault : (text : List ℕ) (at : ℕ) (e : PdnRefusal) → IsPdnFault (form_at text at) at (drop at text) e → IsStop text at
 stop_at_fault text at e h item is =
     let both = sym (item_again (begins_line text at) at (drop at text) item is) ∙ fault_again (begins_line text at) at (drop at text) e h in
     cc
@@ -70,7 +71,7 @@ stops : (text : List ℕ) (xs ys : List Item) (p q : ℕ) → IsStop text p → 
 stops text xs ys p q stop b = stops_at text xs ys b.0 p q stop b.1 b.2
 
 -- two stops are one
-one_stop : (text : List ℕ) (at p q : ℕ) (xs ys : List Item) → AreItemsOfText text at xs p → AreItemsOfText text at ys q → IsStop text p → IsStop text q → (xs ≡ ys) × (p ≡ q)
+pub one_stop : (text : List ℕ) (at p q : ℕ) (xs ys : List Item) → AreItemsOfText text at xs p → AreItemsOfText text at ys q → IsStop text p → IsStop text q → (xs ≡ ys) × (p ≡ q)
 one_stop text at p q xs ys a b sp sq = elim (one_begins text at p q xs ys a b) [
   | inl h ↦ stops text xs ys p q sp h
   | inr h ↦ (let s = stops text ys xs q p sq h in (sym s.0, sym s.1))
@@ -144,3 +145,26 @@ one_refusal text e f h k = elim (refused_cases text e h) [
     | inr b ↦ a.0 ∙ sym b.0
   ]
 ]
+
+-- ---- the answer at one place
+
+-- one fault at a place
+fault_same_at : (text : List ℕ) (at : ℕ) (e f : PdnRefusal) → IsPdnFault (form_at text at) at (drop at text) e → IsPdnFault (form_at text at) at (drop at text) f → e ≡ f
+fault_same_at text at e f h k =
+    let both = sym (fault_again (begins_line text at) at (drop at text) e h) ∙ fault_again (begins_line text at) at (drop at text) f k in
+    cc
+
+exact_here : (text : List ℕ) (at : ℕ) (answer : Result Item PdnRefusal) → IfOk answer (IsItemOfText (form_at text at) at (drop at text))
+    → IfErr answer (λ e. OnFalse (pdn_wants_memory e) (IsPdnFault (form_at text at) at (drop at text) e))
+    → IsExact pdn_wants_memory (IsItemOfText (form_at text at) at (drop at text)) (IsPdnFault (form_at text at) at (drop at text)) answer
+exact_here text at answer good fault =
+    exact_from_one pdn_wants_memory (IsItemOfText (form_at text at) at (drop at text)) (IsPdnFault (form_at text at) at (drop at text)) answer good fault
+    (item_same text at) (λ item e is stands. stop_at_fault text at e stands item is) (fault_same_at text at)
+
+-- what the bytes there answer is exact
+pub exact_item : (text : List ℕ) (at : ℕ) (answer : Result Item PdnRefusal) → Unless pdn_wants_memory answer (answer ≡ item_of (form_at text at) at (drop at text))
+    → IsExact pdn_wants_memory (IsItemOfText (form_at text at) at (drop at text)) (IsPdnFault (form_at text at) at (drop at text)) answer
+exact_item text at (Ok item) e = exact_here text at (Ok item) (item_sound (begins_line text at) at (drop at text) item (sym e)) tt
+exact_item text at (Err fault) e =
+    exact_here text at (Err fault) tt
+    (on_false (pdn_wants_memory fault) _ (IsPdnFault (form_at text at) at (drop at text) fault) (λ h. fault_sound (begins_line text at) at (drop at text) fault (sym h)) e)

@@ -1,14 +1,12 @@
 -- How far a text has been read.
-use Rattle.std.proofs.Common.{◌≡◌, ◌∙◌, Bool, ℕ, suc, ◌<◌, ◌≤◌, List, [], ◌∷◌, ◌++◌, length, drop, Some, None, Ok, Err, refl, sym, ap, subst, arith, append-nil}
+use Rattle.std.proofs.Common.{◌≡◌, ◌∙◌, ℕ, suc, ◌<◌, ◌≤◌, List, [], ◌∷◌, ◌++◌, length, drop, Some, None, refl, sym, ap, subst, arith, append-nil}
 use Rattle.std.specs.Prelude.{option_to_list}
 use Rattle.std.proofs.lemmas.List.Concat.{flat_map-append}
 use Rattle.std.specs.Bool.{OnFalse}
 use Rattle.pdn_text.specs.Gathering.{Progress, no_game, taken, all_taken, games_of, IsRefusedAs}
-use Rattle.pdn_text.specs.Grammar.{IsItemOfText, IsPdnFault, form_at, begins_line}
-use Rattle.pdn_text.specs.Forms.{form_of}
+use Rattle.pdn_text.specs.Grammar.{IsItemOfText, IsPdnFault, form_at}
 use Rattle.pdn_text.specs.Signs.{pdn_wants_memory}
 use Rattle.pdn_text.specs.Pdn.{Refused, beginning, AreItemsOfText, signs, ReadsTo, Reads, StandsFirst, BeginsOneMore}
-use Rattle.pdn_text.specs.Scans.{item_of}
 use Rattle.pdn_text.specs.declared.TheConstants.{MOST_GAMES}
 use Rattle.pdn_text.specs.declared.game.Game.{Game}
 use Rattle.pdn_text.specs.declared.items.Item.{Item}
@@ -16,7 +14,7 @@ use Rattle.pdn_text.specs.declared.items.Sign.{Sign}
 use Rattle.pdn_text.specs.declared.refusal.PdnRefusal.{PdnRefusal}
 use Rattle.pdn_text.specs.declared.refusal.PdnRefusal.TheVariants as refusal
 use Rattle.pdn_text.proofs.GameFold.{gathered_make, all_taken-append}
-use Rattle.pdn_text.proofs.ItemAnswers.{item_sound, fault_sound, never_too_many}
+use Rattle.pdn_text.proofs.ItemAnswers.{never_too_many}
 
 -- the text is items up to this place, and this is what they say of games
 pub record Reached (text : List ℕ) (at : ℕ) (p : Progress) : Type 0 where
@@ -43,15 +41,10 @@ push_item text from to (x ∷ items) item a is = (a.0, push_item text x.end to i
 pub signs_push : (items : List Item) (item : Item) → signs (items ++ item ∷ []) ≡ signs items ++ option_to_list item.sign
 signs_push items item = flat_map-append (λ i. option_to_list i.sign) items (item ∷ []) ∙ ap (λ x. signs items ++ x) (append-nil (option_to_list item.sign))
 
--- what was answered here is an item
-here : (text : List ℕ) (at : ℕ) (start : Bool) (item : Item) → start ≡ begins_line text at → Ok item ≡ item_of (form_of start (drop at text)) at (drop at text)
-    → IsItemOfText (form_at text at) at (drop at text) item
-here text at start item e h = item_sound (begins_line text at) at (drop at text) item (rw (← e) (sym h))
-
 -- an item that says nothing
-pub reached_skip : (text : List ℕ) (at : ℕ) (p : Progress) (start : Bool) (item : Item) → Reached text at p → start ≡ begins_line text at → Ok item ≡ item_of (form_of start (drop at text)) at (drop at text) → item.sign ≡ None
+pub reached_skip : (text : List ℕ) (at : ℕ) (p : Progress) (item : Item) → Reached text at p → IsItemOfText (form_at text at) at (drop at text) item → item.sign ≡ None
     → item.end ≤ length text → Reached text item.end p
-reached_skip text at p start item r e h none inside = let is = here text at start item e h in record {
+reached_skip text at p item r is none inside = record {
   items = r.items ++ item ∷ [];
   are_items = push_item text (beginning text) at r.items item r.are_items is;
   so_far = r.so_far ∙ ap (all_taken no_game) (sym (signs_push r.items item ∙ ap (λ x. signs r.items ++ option_to_list x) none ∙ append-nil (signs r.items)));
@@ -60,9 +53,9 @@ reached_skip text at p start item r e h none inside = let is = here text at star
 }
 
 -- an item that says something
-pub reached_sign : (text : List ℕ) (at : ℕ) (p q : Progress) (start : Bool) (item : Item) (sign : Sign) → Reached text at p → start ≡ begins_line text at → Ok item ≡ item_of (form_of start (drop at text)) at (drop at text) → item.sign ≡ Some sign
+pub reached_sign : (text : List ℕ) (at : ℕ) (p q : Progress) (item : Item) (sign : Sign) → Reached text at p → IsItemOfText (form_at text at) at (drop at text) item → item.sign ≡ Some sign
     → q ≡ taken p sign → length (games_of q) ≤ MOST_GAMES → item.end ≤ length text → Reached text item.end q
-reached_sign text at p q start item sign r line h some e few inside = let is = here text at start item line h in record {
+reached_sign text at p q item sign r is some e few inside = record {
   items = r.items ++ item ∷ [];
   are_items = push_item text (beginning text) at r.items item r.are_items is;
   so_far = e ∙ ap (λ x. taken x sign) r.so_far ∙ sym (ap (all_taken no_game) (signs_push r.items item ∙ ap (λ x. signs r.items ++ option_to_list x) some) ∙ all_taken-append no_game (signs r.items) (sign ∷ []));
@@ -111,28 +104,22 @@ one_more text at p item sign r is some many =
       too_many = many;
     }
 
-pub refused_here : (text : List ℕ) (at : ℕ) (p : Progress) (start : Bool) (e : PdnRefusal) → Reached text at p → at < length text → start ≡ begins_line text at
-    → OnFalse (pdn_wants_memory e) (Err e ≡ item_of (form_of start (drop at text)) at (drop at text)) → OnFalse (pdn_wants_memory e) (Refused text e)
-refused_here text at p start e r inside line h = by_fault e h
-  where
-    stands : (e : PdnRefusal) → Err e ≡ item_of (form_of start (drop at text)) at (drop at text) → IsPdnFault (form_at text at) at (drop at text) e
-    stands e h = fault_sound (begins_line text at) at (drop at text) e (rw (← line) (sym h))
+pub refused_here : (text : List ℕ) (at : ℕ) (p : Progress) (e : PdnRefusal) → Reached text at p → at < length text
+    → OnFalse (pdn_wants_memory e) (IsPdnFault (form_at text at) at (drop at text) e) → OnFalse (pdn_wants_memory e) (Refused text e)
+refused_here text at p (refusal.Memory m) r inside h = tt
+refused_here text at p refusal.TooManyGames r inside h = absurd (never_too_many (form_at text at) at (drop at text) h)
+refused_here text at p (refusal.BadByte n) r inside h = fault_here text at p (refusal.BadByte n) r inside h
+refused_here text at p (refusal.OpenTag n) r inside h = fault_here text at p (refusal.OpenTag n) r inside h
+refused_here text at p (refusal.OpenComment n) r inside h = fault_here text at p (refusal.OpenComment n) r inside h
+refused_here text at p (refusal.OpenVariation n) r inside h = fault_here text at p (refusal.OpenVariation n) r inside h
+refused_here text at p (refusal.BadMove n) r inside h = fault_here text at p (refusal.BadMove n) r inside h
 
-    by_fault : (e : PdnRefusal) → OnFalse (pdn_wants_memory e) (Err e ≡ item_of (form_of start (drop at text)) at (drop at text)) → OnFalse (pdn_wants_memory e) (Refused text e)
-    by_fault (refusal.Memory m) h = tt
-    by_fault refusal.TooManyGames h = absurd (never_too_many (form_at text at) at (drop at text) (stands refusal.TooManyGames h))
-    by_fault (refusal.BadByte n) h = fault_here text at p (refusal.BadByte n) r inside (stands (refusal.BadByte n) h)
-    by_fault (refusal.OpenTag n) h = fault_here text at p (refusal.OpenTag n) r inside (stands (refusal.OpenTag n) h)
-    by_fault (refusal.OpenComment n) h = fault_here text at p (refusal.OpenComment n) r inside (stands (refusal.OpenComment n) h)
-    by_fault (refusal.OpenVariation n) h = fault_here text at p (refusal.OpenVariation n) r inside (stands (refusal.OpenVariation n) h)
-    by_fault (refusal.BadMove n) h = fault_here text at p (refusal.BadMove n) r inside (stands (refusal.BadMove n) h)
-
-pub refused_many : (text : List ℕ) (at : ℕ) (p : Progress) (start : Bool) (item : Item) (sign : Sign) (e : PdnRefusal) → Reached text at p → start ≡ begins_line text at
-    → Ok item ≡ item_of (form_of start (drop at text)) at (drop at text) → item.sign ≡ Some sign → IsRefusedAs p sign e → OnFalse (pdn_wants_memory e) (Refused text e)
-refused_many text at p start item sign refusal.TooManyGames r line h some many = one_more text at p item sign r (here text at start item line h) some many
-refused_many text at p start item sign (refusal.Memory m) r line h some many = tt
-refused_many text at p start item sign (refusal.BadByte n) r line h some many = absurd many
-refused_many text at p start item sign (refusal.OpenTag n) r line h some many = absurd many
-refused_many text at p start item sign (refusal.OpenComment n) r line h some many = absurd many
-refused_many text at p start item sign (refusal.OpenVariation n) r line h some many = absurd many
-refused_many text at p start item sign (refusal.BadMove n) r line h some many = absurd many
+pub refused_many : (text : List ℕ) (at : ℕ) (p : Progress) (item : Item) (sign : Sign) (e : PdnRefusal) → Reached text at p → IsItemOfText (form_at text at) at (drop at text) item
+    → item.sign ≡ Some sign → IsRefusedAs p sign e → OnFalse (pdn_wants_memory e) (Refused text e)
+refused_many text at p item sign refusal.TooManyGames r is some many = one_more text at p item sign r is some many
+refused_many text at p item sign (refusal.Memory m) r is some many = tt
+refused_many text at p item sign (refusal.BadByte n) r is some many = absurd many
+refused_many text at p item sign (refusal.OpenTag n) r is some many = absurd many
+refused_many text at p item sign (refusal.OpenComment n) r is some many = absurd many
+refused_many text at p item sign (refusal.OpenVariation n) r is some many = absurd many
+refused_many text at p item sign (refusal.BadMove n) r is some many = absurd many

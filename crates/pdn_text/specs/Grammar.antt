@@ -96,3 +96,7 @@ begins_line text at = at == 0 || slice_index text (at - 1) == 10
 -- the form of the item that is due at a place
 abbrev pub form_at : List ℕ → ℕ → Form
 form_at text at = form_of (begins_line text at) (drop at text)
+
+-- no item stands at a place
+abbrev pub IsStop : List ℕ → ℕ → Type 0
+IsStop text at = (item : Item) → ¬ IsItemOfText (form_at text at) at (drop at text) item

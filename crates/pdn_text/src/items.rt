@@ -17,22 +17,27 @@ use crate::words::{Word, word_of};
 use std::alloc::Global;
 
 /// What an item says of a game.
-#[derive(Drop)]
-pub(crate) enum Sign {
+#[derive(Debug, Drop)]
+pub enum Sign {
+    /// The game has this tag; behind a move the tag begins the next game.
     Tagged(Tag),
+    /// The game has this move.
     Moved(MoveText),
+    /// The game ends: the item is a result.
     Ended,
 }
 
-/// An item: the place behind it, and what it says of a game, if anything.
-#[derive(Drop)]
-pub(crate) struct Item {
-    pub(crate) end: usize,
-    pub(crate) sign: Option<Sign>,
+/// An item of a text.
+#[derive(Debug, Drop)]
+pub struct Item {
+    /// The place behind its last byte.
+    pub end: usize,
+    /// What it says of a game, if anything.
+    pub sign: Option<Sign>,
 }
 
-/// The item that begins at `at`, or the fault there.
-pub(crate) fn item_at(
+/// The item that begins at `at`, or the fault there. `line_start` says whether a line begins there.
+pub(crate) fn item_of(
     alloc: Global,
     line_start: bool,
     text: &[u8],

@@ -6,6 +6,9 @@
 //! `specs/Grammar.antt` says what each item is, `specs/Games.antt` which games the items make, and
 //! `specs/Pdn.antt` which fault stands first.
 //!
+//! `item_at` answers the item at a place, or the fault there, for callers that want more of a text than
+//! its games.
+//!
 //! Places are byte offsets from 0.
 #![tactic(auto)]
 
@@ -26,5 +29,6 @@ mod words;
 pub const MOST_GAMES: usize = 4096;
 
 pub use game::{Game, MoveText, Tag};
-pub use reader::read_games;
+pub use items::{Item, Sign};
+pub use reader::{beginning, item_at, read_games};
 pub use refusal::PdnRefusal;

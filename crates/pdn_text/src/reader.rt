@@ -1,14 +1,14 @@
 //! Reads a whole text.
-ghost use Rattle.std.specs.Prelude.{◌≡◌, ◌<◌, ◌≤◌, length, IfOk, IfErr};
+ghost use Rattle.std.specs.Prelude.{◌≡◌, ◌<◌, ◌≤◌, drop, length, IfOk, IfErr};
 ghost use Rattle.std.specs.Bool.{OnFalse};
 ghost use Rattle.shared_words.specs.Answers.{IsExact, listed};
-ghost use Rattle.pdn_text.specs.Grammar.{begins_line};
+ghost use Rattle.pdn_text.specs.Grammar.{IsItemOfText, IsPdnFault, begins_line, form_at};
 ghost use Rattle.pdn_text.specs.Pdn.{Reads, Refused, beginning};
 ghost use Rattle.pdn_text.specs.Signs.{pdn_wants_memory};
 
 use crate::game::Game;
 use crate::gather::Gathered;
-use crate::items::{Item, item_at};
+use crate::items::{Item, item_of};
 use crate::refusal::PdnRefusal;
 use std::alloc::Global;
 
@@ -35,7 +35,7 @@ fn read_items(alloc: Global, text: &[u8]) -> Result<Vec<Game>, PdnRefusal>
     let mut gathered = Gathered::new(alloc);
     let mut at = beginning(text);
     while at < text.len() {
-        let Item { end, sign } = item_at(alloc, begins_line(text, at), text, at)?;
+        let Item { end, sign } = item_at(alloc, text, at)?;
         match sign {
             Some(sign) => gathered.take(sign)?,
             None => {}
@@ -45,8 +45,22 @@ fn read_items(alloc: Global, text: &[u8]) -> Result<Vec<Game>, PdnRefusal>
     Ok(gathered.finish()?)
 }
 
+/// The item that stands at a place of a text, or the fault there: [`read_games`] cuts a text into these,
+/// from [`beginning`] on and each straight behind the one before. It fails otherwise only for want of
+/// memory.
+pub fn item_at(alloc: Global, text: &[u8], at: usize) -> Result<Item, PdnRefusal>
+    requires { at < length text.now }
+    ensures exact { IsExact pdn_wants_memory
+        (IsItemOfText (form_at text.now at) at (drop at text.now))
+        (IsPdnFault (form_at text.now at) at (drop at text.now)) result }
+    ensures onward { IfOk result (λ item. at < item.end) }
+    ensures inside { IfOk result (λ item. item.end ≤ length text.now) }
+{
+    item_of(alloc, begins_line(text, at), text, at)
+}
+
 /// Where the items begin: behind the byte order mark, if one stands at the front.
-fn beginning(text: &[u8]) -> usize
+pub fn beginning(text: &[u8]) -> usize
     ensures value { result ≡ beginning text.now }
     ensures inside { result ≤ length text.now }
 {

@@ -8,7 +8,6 @@ ghost use Rattle.terminal_text.specs.Shown.{IsShown, shown};
 use crate::certificates::{say_check_fault, say_text_fault};
 use crate::games::{game_numbered, games_of, say_fen, say_move_fault, say_other_game};
 use crate::journals::{say_journal, say_limit};
-use crate::lines::refusal_of_line;
 use crate::pdn::say_pdn;
 use crate::tables::say_table;
 use crate::words::say_words;
@@ -158,19 +157,4 @@ pub fn hint(
 {
     let text = raw_hint(alloc, words, refusal, source)?;
     shown(alloc, &text)
-}
-
-/// The same for the line that a run has written: nothing where that is no refusal's.
-pub fn hint_on_line(
-    alloc: Global,
-    words: &[&str],
-    line: &[u8],
-    source: &[u8],
-) -> Result<Vec<u8>, AllocError>
-    ensures safe { IfOk result (λ text. All IsShown text.items) }
-{
-    match refusal_of_line(line) {
-        Some(refusal) => hint(alloc, words, &refusal, source),
-        None => Ok(Vec::new(alloc)),
-    }
 }

@@ -21,6 +21,6 @@ mod tables;
 mod tests;
 mod words;
 
-pub use hints::{hint, hint_on_line};
+pub use hints::hint;
 pub use lines::refusal_of_line;
 pub use move_lists::legal_moves_text;

@@ -1,5 +1,5 @@
 //! Texts on refusals, written by hand.
-use crate::{hint, hint_on_line, legal_moves_text, refusal_of_line};
+use crate::{hint, legal_moves_text, refusal_of_line};
 use draughts_board::{Position, Side, Square};
 use fen_text::{FenRefusal, read_fen};
 use opening_report::Refusal;
@@ -253,10 +253,11 @@ fn journals_and_limits(rt: HostRuntime) -> Result<(), Fail> {
         text.as_str(),
         "Root 5 has no value yet. Go on with `solve`, with a larger `--budget` or `--depth`.\n"
     );
-    let text = hint_on_line(rt.alloc(), &["-", "solve"], b"refused memory\n", b"")?;
+    let refusal = refusal_of_line(b"refused memory\n").ok_or("a refusal")?;
+    let text = told(rt.alloc(), refusal, b"")?;
     assert_eq!(rt;
-        text.as_slice(),
-        b"Memory ran out. What was written to the journal before is kept.\n".as_slice()
+        text.as_str(),
+        "Memory ran out. What was written to the journal before is kept.\n"
     );
     Ok(())
 }
@@ -406,10 +407,6 @@ fn lines_say_refusals(rt: HostRuntime) -> Result<(), Fail> {
         "refused disk\nrefused disk\n",
     ] {
         assert_eq!(rt; refusal_of_line(line.as_bytes()), None, "{line}");
-        assert_eq!(rt;
-            hint_on_line(rt.alloc(), &["-", "solve"], line.as_bytes(), b"")?.len(),
-            0
-        );
     }
     Ok(())
 }

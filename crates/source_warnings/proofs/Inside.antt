@@ -1,9 +1,9 @@
 -- The place of each warning is one of the source.
-use Rattle.std.proofs.Common.{◌≡◌, ℕ, ◌+◌, ◌≤◌, Bool, true, false, ◌==◌, List, [], length, sym, subst, if◌then◌else◌, arith, Result, Ok, Err}
-use Rattle.std.specs.Prelude.{All, IfOk, nat_lt}
-use Rattle.std.proofs.lemmas.List.Elements.{All-append, All-cons, All-nil}
+use Rattle.std.proofs.Common.{ℕ, ◌+◌, ◌≤◌, Bool, true, false, ◌==◌, List, [], length, if◌then◌else◌, arith, Option, None}
+use Rattle.std.specs.Prelude.{All, nat_lt, option_to_list}
+use Rattle.std.proofs.lemmas.List.Elements.{All-cons, All-nil}
 use Rattle.source_warnings.specs.Games.{after, game_of_tag, next_game, opened}
-use Rattle.source_warnings.specs.Warnings.{IsInside, few, few_at_end, few_before_tag, on_item, on_result, on_tag, warning}
+use Rattle.source_warnings.specs.Warnings.{IsInside, few, on_end, on_ending, on_item, on_tag, warning}
 use Rattle.source_warnings.specs.declared.causes.Cause.{Cause}
 use Rattle.source_warnings.specs.declared.causes.Cause.TheVariants.{LikeFen, LikeGameType, SecondFen, SecondResult, RunsOn, FewPlies}
 use Rattle.source_warnings.specs.declared.causes.Warning.{Warning}
@@ -67,59 +67,53 @@ after_plies game at kind.Result = omega arith
 
 -- ---- the warnings on an item
 
-either : (source : List ℕ) (c : Bool) (a b : List Warning) → All (IsInside source) a
-    → All (IsInside source) b → All (IsInside source) (if c then a else b)
+-- the warning, if there is one, is on a byte of the source
+abbrev pub InsideIf : List ℕ → Option Warning → Type 0
+InsideIf source found = All (IsInside source) (option_to_list found)
+
+either : (source : List ℕ) (c : Bool) (a b : Option Warning) → InsideIf source a → InsideIf source b
+    → InsideIf source (if c then a else b)
 either source true a b h k = h
 either source false a b h k = k
 
 one_inside : (source : List ℕ) (at : ℕ) (cause : Cause) → at ≤ length source
-    → All (IsInside source) (warning at cause)
+    → InsideIf source (warning at cause)
 one_inside source at cause h =
     All-cons (IsInside source) (record { at = at; cause = cause }) [] h (All-nil (IsInside source))
 
 few_inside : (source : List ℕ) (asked : ℕ) (game : Game) → game.begins ≤ length source
-    → All (IsInside source) (few asked game)
+    → InsideIf source (few asked game)
 few_inside source asked game h =
-    either source (nat_lt game.plies asked) (warning game.begins (FewPlies game.number game.plies)) [] (one_inside source game.begins (FewPlies game.number game.plies) h) (All-nil (IsInside source))
-
-before_inside : (source : List ℕ) (asked : ℕ) (game : Game) → game.begins ≤ length source
-    → All (IsInside source) (few_before_tag asked game)
-before_inside source asked game h =
-    either source (game.plies == 0) [] (few asked game) (All-nil (IsInside source)) (few_inside source asked game h)
+    either source (nat_lt game.plies asked) (warning game.begins (FewPlies game.number game.plies)) None (one_inside source game.begins (FewPlies game.number game.plies) h) (All-nil (IsInside source))
 
 pub end_inside : (source : List ℕ) (asked : ℕ) (game : Game) → game.begins ≤ length source
-    → All (IsInside source) (few_at_end asked game)
+    → InsideIf source (on_end asked game)
 end_inside source asked game h =
-    either source game.is_open (few asked game) [] (few_inside source asked game h) (All-nil (IsInside source))
+    either source game.is_open (few asked game) None (few_inside source asked game h) (All-nil (IsInside source))
+
+pub ending_inside : (source : List ℕ) (asked : ℕ) (game : Game) (at : ℕ) (k : Kind)
+    → game.begins ≤ length source → at ≤ length source → InsideIf source (on_ending asked game at k)
+ending_inside source asked game at kind.Skipped h l = All-nil (IsInside source)
+ending_inside source asked game at kind.RunsOn h l = All-nil (IsInside source)
+ending_inside source asked game at (kind.Tag text) h l =
+    either source (game.plies == 0) None (few asked game) (All-nil (IsInside source)) (few_inside source asked game h)
+ending_inside source asked game at kind.Move h l = All-nil (IsInside source)
+ending_inside source asked game at kind.Result h l =
+    either source game.follows_result None (few asked (opened game at)) (All-nil (IsInside source)) (few_inside source asked (opened game at) (opened_begins game at (length source) h l))
 
 tag_inside : (source : List ℕ) (game : Game) (at : ℕ) (text : Name) → at ≤ length source
-    → All (IsInside source) (on_tag game at text)
+    → InsideIf source (on_tag game at text)
 tag_inside source game at name.Fen h =
-    either source game.has_position (warning at SecondFen) [] (one_inside source at SecondFen h) (All-nil (IsInside source))
+    either source game.has_position (warning at SecondFen) None (one_inside source at SecondFen h) (All-nil (IsInside source))
 tag_inside source game at name.LikeFen h = one_inside source at LikeFen h
 tag_inside source game at name.LikeGameType h = one_inside source at LikeGameType h
 tag_inside source game at name.Other h = All-nil (IsInside source)
 
-result_inside : (source : List ℕ) (asked : ℕ) (game : Game) (at : ℕ) → game.begins ≤ length source
-    → at ≤ length source → All (IsInside source) (on_result asked game at)
-result_inside source asked game at h k =
-    either source game.follows_result (warning at SecondResult) (few asked (opened game at)) (one_inside source at SecondResult k) (few_inside source asked (opened game at) (opened_begins game at (length source) h k))
-
-pub item_inside : (source : List ℕ) (asked : ℕ) (game : Game) (at : ℕ) (k : Kind)
-    → game.begins ≤ length source → at ≤ length source
-    → All (IsInside source) (on_item asked game at k)
-item_inside source asked game at kind.Skipped h l = All-nil (IsInside source)
-item_inside source asked game at kind.RunsOn h l = one_inside source at RunsOn l
-item_inside source asked game at (kind.Tag text) h l =
-    All-append (IsInside source) (few_before_tag asked game) (on_tag (game_of_tag game) at text) (before_inside source asked game h) (tag_inside source (game_of_tag game) at text l)
-item_inside source asked game at kind.Move h l = All-nil (IsInside source)
-item_inside source asked game at kind.Result h l = result_inside source asked game at h l
-
--- ---- what is returned
-
--- where it is these warnings
-pub returned_inside : {V E : Type 0} (source : List ℕ) (items : V → List Warning) (r : Result V E)
-    (all : List Warning) → All (IsInside source) all → IfOk r (λ v. items v ≡ all)
-    → IfOk r (λ v. All (IsInside source) (items v))
-returned_inside source items (Ok v) all h e = subst (All (IsInside source)) (sym e) h
-returned_inside source items (Err e) all h k = tt
+pub item_inside : (source : List ℕ) (game : Game) (at : ℕ) (k : Kind) → at ≤ length source
+    → InsideIf source (on_item game at k)
+item_inside source game at kind.Skipped l = All-nil (IsInside source)
+item_inside source game at kind.RunsOn l = one_inside source at RunsOn l
+item_inside source game at (kind.Tag text) l = tag_inside source (game_of_tag game) at text l
+item_inside source game at kind.Move l = All-nil (IsInside source)
+item_inside source game at kind.Result l =
+    either source game.follows_result (warning at SecondResult) None (one_inside source at SecondResult l) (All-nil (IsInside source))

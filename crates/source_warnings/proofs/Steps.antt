@@ -1,50 +1,167 @@
--- How the scan goes on from one item to the next, and where it stops.
-use Rattle.std.proofs.Common.{◌≡◌, ◌≤◌, ℕ, zero, suc, ◌+◌, arith, Bool, true, false, ◌==◌, List, [], ◌++◌, drop, refl, sym, subst, if◌then◌else◌}
-use Rattle.pdn_text.specs.Grammar.{begins_line}
-use Rattle.source_warnings.specs.Games.{after}
-use Rattle.source_warnings.specs.Items.{item_of, skipped}
-use Rattle.source_warnings.specs.Warnings.{few_at_end, on_item, warned_from}
+-- How far a source has been read, and what was found there.
+use Rattle.std.proofs.Common.{◌≡◌, ◌∙◌, ◌<◌, ◌≤◌, ℕ, ◌+◌, arith, List, [], ◌∷◌, ◌++◌, length, drop, refl, sym, subst, ap, append-nil, append_assoc, length-append, get_or, take, Option, Some, None, Result, Ok, Err}
+use Rattle.std.specs.Prelude.{All, IfNone, IfOk, IfSome, codes, option_to_list}
+use Rattle.terminal_text.specs.Places.{place_text}
+use Rattle.terminal_text.specs.Shown.{shown}
+use Rattle.std.proofs.lemmas.List.Elements.{All-append, All-nil, All-take}
+use Rattle.pdn_text.specs.Grammar.{IsItemOfText, IsStop, form_at}
+use Rattle.pdn_text.specs.Pdn.{AreItemsOfText, beginning}
+use Rattle.pdn_text.specs.declared.items.Item.{Item}
+use Rattle.pdn_text.proofs.OneReading.{one_stop}
+use Rattle.pdn_text.proofs.Reached.{push_item}
+use Rattle.source_warnings.specs.Games.{after, first_game}
+use Rattle.source_warnings.specs.Items.{kind_of}
+use Rattle.source_warnings.specs.Told.{IsToldOf}
+use Rattle.source_warnings.specs.Warnings.{AreFound, AreWarnings, IsInside, IsKept, on_end, on_ending, on_item, on_items}
+use Rattle.source_warnings.specs.declared.found.TheConstants.{MOST_TOLD}
 use Rattle.source_warnings.specs.declared.causes.Warning.{Warning}
+use Rattle.source_warnings.specs.declared.found.Found.{Found}
 use Rattle.source_warnings.specs.declared.games.Game.{Game}
-use Rattle.source_warnings.specs.declared.items.Item.{Item}
+use Rattle.source_warnings.specs.declared.items.Kind.{Kind}
+use Rattle.source_warnings.proofs.Inside.{after_begins, after_number, after_plies, end_inside, ending_inside, item_inside}
 
--- no item stands behind the end
-pub nothing_behind : (line_start : Bool) → item_of line_start [] ≡ skipped 0
-unfolding item_of
-nothing_behind true = refl
-nothing_behind false = refl
+-- The source is items up to a place, this game stands there, and this was found.
+pub record IsRead (source : List ℕ) (asked at : ℕ) (game : Game) (found : Found) : Type 0 where
+  pub items : List Item
+  pub all : List Warning
+  pub are_items : AreItemsOfText source (beginning source) items at
+  pub goes_on : (more : List Item) → on_items asked source first_game (beginning source) (items ++ more) ≡ all ++ on_items asked source game at more
+  pub kept : IsKept found all
+  pub few : length all ≤ at + at
+  pub all_inside : All (IsInside source) all
+  pub inside : at ≤ length source
+  pub number : game.number ≤ at + 1
+  pub plies : game.plies ≤ at
+  pub begins : game.begins ≤ at
 
-else_of : (c : Bool) (a b : List Warning) → c ≡ false → (if c then a else b) ≡ b
-else_of c a b e = subst (λ (d : Bool). (if d then a else b) ≡ b) (sym e) refl
+-- what a warning, if it is one, makes of what is kept
+abbrev pub Keeps : Found → Option Warning → Found → Type 0
+Keeps old found new = (all : List Warning) → IsKept old all → IsKept new (all ++ option_to_list found)
 
-then_of : (c : Bool) (a b : List Warning) → c ≡ true → (if c then a else b) ≡ a
-then_of c a b e = subst (λ (d : Bool). (if d then a else b) ≡ a) (sym e) refl
+pub read_nothing : (source : List ℕ) (asked at : ℕ) (found : Found) → at ≡ beginning source → at ≤ length source → IsKept found []
+    → IsRead source asked at first_game found
+read_nothing source asked at found e inside kept = record {
+  items = [];
+  all = [];
+  are_items = sym e;
+  goes_on = λ more. ap (λ place. on_items asked source first_game place more) (sym e);
+  kept = kept;
+  few = omega arith;
+  all_inside = All-nil (IsInside source);
+  inside = inside;
+  number = omega arith;
+  plies = omega arith;
+  begins = omega arith;
+}
 
-not_zero : (n : ℕ) → 1 ≤ n → (n == 0) ≡ false
-not_zero n h = grind arith
+few_more : (all : List Warning) (found : Option Warning) → length (all ++ option_to_list found) ≤ length all + 1
+few_more all None = omega (arith, length-append all [])
+few_more all (Some w) = omega (arith, length-append all (w ∷ []))
 
-is_zero : (n : ℕ) → n ≡ 0 → (n == 0) ≡ true
-is_zero n e = grind arith
+regroup : (a b c d : List Warning) → a ++ (b ++ (c ++ d)) ≡ ((a ++ b) ++ c) ++ d
+regroup a b c d = sym (append_assoc (a ++ b) c d ∙ append_assoc a b (c ++ d))
 
-pub goes_on : (most asked : ℕ) (source : List ℕ) (game : Game) (at : ℕ) (item : Item)
-    → item ≡ item_of (begins_line source at) (drop at source) → 1 ≤ item.len
-    → warned_from (suc most) asked source game at
-    ≡ on_item asked game at item.kind
-    ++ warned_from most asked source (after game at item.kind) (at + item.len)
-goes_on most asked source game at item e h =
-    let P : Item → Type 0 = λ i. 1 ≤ i.len
-    → warned_from (suc most) asked source game at
-    ≡ on_item asked game at i.kind
-    ++ warned_from most asked source (after game at i.kind) (at + i.len) in
-    let here : Item = item_of (begins_line source at) (drop at source) in
-    subst P (sym e) (λ f. else_of (here.len == 0) (few_at_end asked game) (on_item asked game at here.kind ++ warned_from most asked source (after game at here.kind) (at + here.len)) (not_zero here.len f)) h
+pub read_item : (source : List ℕ) (asked at : ℕ) (game : Game) (old between new : Found) (item : Item) → IsRead source asked at game old
+    → IsItemOfText (form_at source at) at (drop at source) item → at < item.end → item.end ≤ length source
+    → Keeps old (on_ending asked game at (kind_of source at item)) between
+    → Keeps between (on_item game at (kind_of source at item)) new
+    → IsRead source asked item.end (after game at (kind_of source at item)) new
+read_item source asked at game old between new item r is onward inside ending itself =
+    let k : Kind = kind_of source at item in
+    let ended = option_to_list (on_ending asked game at k) in
+    let said = option_to_list (on_item game at k) in
+    let few = r.few in
+    let at_end : at ≤ length source = r.inside in
+    let number = r.number in
+    let plies = r.plies in
+    let begins = r.begins in
+    record {
+      items = r.items ++ item ∷ [];
+      all = (r.all ++ ended) ++ said;
+      are_items = push_item source (beginning source) at r.items item r.are_items is;
+      goes_on = λ more. ap (on_items asked source first_game (beginning source)) (append_assoc r.items (item ∷ []) more)
+          ∙ r.goes_on (item ∷ more)
+          ∙ regroup r.all ended said (on_items asked source (after game at k) item.end more);
+      kept = itself (r.all ++ ended) (ending r.all r.kept);
+      few = omega (arith, few_more r.all (on_ending asked game at k), few_more (r.all ++ ended) (on_item game at k));
+      all_inside = All-append (IsInside source) (r.all ++ ended) said
+          (All-append (IsInside source) r.all ended r.all_inside (ending_inside source asked game at k (omega arith) (omega arith)))
+          (item_inside source game at k (omega arith));
+      inside = inside;
+      number = omega (arith, after_number game at k);
+      plies = omega (arith, after_plies game at k);
+      begins = omega (arith, after_begins game at k at begins (omega arith));
+    }
 
-pub stops : (most asked : ℕ) (source : List ℕ) (game : Game) (at : ℕ) (item : Item)
-    → item ≡ item_of (begins_line source at) (drop at source) → item.len ≡ 0
-    → warned_from most asked source game at ≡ few_at_end asked game
-stops zero asked source game at item e h = refl
-stops (suc most) asked source game at item e h =
-    let P : Item → Type 0 = λ i. i.len ≡ 0
-    → warned_from (suc most) asked source game at ≡ few_at_end asked game in
-    let here : Item = item_of (begins_line source at) (drop at source) in
-    subst P (sym e) (λ f. then_of (here.len == 0) (few_at_end asked game) (on_item asked game at here.kind ++ warned_from most asked source (after game at here.kind) (at + here.len)) (is_zero here.len f)) h
+-- where the source ends, or no item stands
+pub read_all : (source : List ℕ) (asked at : ℕ) (game : Game) (old new : Found) → IsRead source asked at game old → IsStop source at
+    → Keeps old (on_end asked game) new → AreFound source asked new
+read_all source asked at game old new r stop last = (
+  r.all ++ option_to_list (on_end asked game),
+  record {
+    items = r.items;
+    place = at;
+    are_items = r.are_items;
+    stop = stop;
+    are_all = sym (ap (on_items asked source first_game (beginning source)) (sym (append-nil r.items)) ∙ r.goes_on []);
+  },
+  last r.all r.kept,
+)
+
+pub told_inside : (source : List ℕ) (asked at : ℕ) (game : Game) (old new : Found) → IsRead source asked at game old
+    → Keeps old (on_end asked game) new → All (IsInside source) new.told.items
+told_inside source asked at game old new r last =
+    let begins = r.begins in
+    let inside = r.inside in
+    let all = r.all ++ option_to_list (on_end asked game) in
+    let are_inside : All (IsInside source) all = All-append (IsInside source) r.all (option_to_list (on_end asked game)) r.all_inside (end_inside source asked game (omega arith)) in
+    rw ((last r.all r.kept).0) (All-take (IsInside source) MOST_TOLD all are_inside)
+
+-- ---- as the code goes
+
+pub read_on : (source : List ℕ) (asked at : ℕ) (game next : Game) (old between new : Found) (item : Item) (k : Kind) (ending itself : Option Warning)
+    → IsRead source asked at game old → IsItemOfText (form_at source at) at (drop at source) item → at < item.end → item.end ≤ length source
+    → k ≡ kind_of source at item → ending ≡ on_ending asked game at k → itself ≡ on_item game at k → next ≡ after game at k
+    → Keeps old ending between → Keeps between itself new → IsRead source asked item.end next new
+read_on source asked at game next old between new item k ending itself r is onward inside ek e1 e2 en k1 k2 =
+    subst (λ (g : Game). IsRead source asked item.end g new) (sym (en ∙ ap (after game at) ek))
+    (read_item source asked at game old between new item r is onward inside
+    (subst (λ (w : Option Warning). Keeps old w between) (e1 ∙ ap (on_ending asked game at) ek) k1)
+    (subst (λ (w : Option Warning). Keeps between w new) (e2 ∙ ap (on_item game at) ek) k2))
+
+pub some_holds : (P : Item → Type 0) (found : Option Item) (item : Item) → found ≡ Some item → IfSome found P → P item
+some_holds P found item e h = subst (λ (o : Option Item). IfSome o P) e h
+
+pub none_holds : (P : Type 0) (found : Option Item) → ((item : Item) → found ≡ Some item → ⊥) → IfNone found P → P
+none_holds P None lacks h = h
+none_holds P (Some item) lacks h = absurd (lacks item refl)
+
+-- ---- there is one list of warnings
+
+one_list : (source : List ℕ) (asked : ℕ) (a b : List Warning) → AreWarnings source asked a → AreWarnings source asked b → a ≡ b
+one_list source asked a b h k =
+    let s = one_stop source (beginning source) h.place k.place h.items k.items h.are_items k.are_items h.stop k.stop in
+    h.are_all ∙ (ap (on_items asked source first_game (beginning source)) s.0 ∙ sym k.are_all)
+
+pub kept_only : (source : List ℕ) (asked : ℕ) (found : Found) → AreFound source asked found → (all : List Warning) → AreWarnings source asked all → IsKept found all
+kept_only source asked found h all are = subst (IsKept found) (one_list source asked h.0 all h.1 are) h.2
+
+-- ---- what is told begins as what is told of all
+
+told_of_all : (source : List ℕ) (all told : List Warning) (text : List ℕ) → told ≡ take MOST_TOLD all → IsToldOf source told text → IsToldOf source all text
+told_of_all source [] told text e h = subst (λ (ws : List Warning). IsToldOf source ws text) e h
+told_of_all source (w ∷ more) told text e h = subst (λ (ws : List Warning). IsToldOf source ws text) e h
+
+pub told_result : {V E : Type 0} (items : V → List ℕ) (source : List ℕ) (asked : ℕ) (found : Found) (r : Result V E) → AreFound source asked found
+    → IfOk r (λ text. IsToldOf source found.told.items (items text))
+    → IfOk r (λ text. (all : List Warning) × AreWarnings source asked all × IsToldOf source all (items text))
+told_result items source asked found (Ok text) h told = (h.0, h.1, told_of_all source h.0 found.told.items (items text) h.2.0 told)
+told_result items source asked found (Err e) h told = tt
+
+-- a text that begins with the place of the first of these
+pub first_told : {V E : Type 0} (items : V → List ℕ) (source : List ℕ) (told : List Warning) (d : Warning) (raw rest : List ℕ) (r : Result V E) → 1 ≤ length told
+    → raw ≡ codes "warning: " ++ (place_text source (get_or told 0 d).at ++ rest) → IfOk r (λ text. items text ≡ shown raw)
+    → IfOk r (λ text. IsToldOf source told (items text))
+first_told items source [] d raw rest r many e same = absurd (omega arith)
+first_told items source (w ∷ more) d raw rest (Ok text) many e same = (rest, same ∙ ap shown e)
+first_told items source (w ∷ more) d raw rest (Err error) many e same = tt

@@ -21,7 +21,7 @@ fn sources_that_are_meant_so(rt: HostRuntime) -> Result<(), Fail> {
         b"\xEF\xBB\xBF* [White \"a\\\"] * *\"] 0-1".as_slice(),
         b"; one line\r\r\n%another\r\n*".as_slice(),
     ] {
-        assert_eq!(rt; warnings_of(rt.alloc(), source, 0)?.len(), 0);
+        assert_eq!(rt; warnings_of(rt.alloc(), source, 0)?.told.len(), 0);
         assert_eq!(rt; warnings_text(rt.alloc(), source, 0)?.len(), 0);
     }
     Ok(())
@@ -31,7 +31,7 @@ fn sources_that_are_meant_so(rt: HostRuntime) -> Result<(), Fail> {
 fn each_cause_has_its_place(rt: HostRuntime) -> Result<(), Fail> {
     let source =
         b"[fen \"B:W:B1\"] [gametype \"20\"] 9-13 1-0\n; so\r[FEN \"W:W16:B12\"] *\n[FEN \"W:W16:B12\"] [FEN \"W:W16:B11\"] * *";
-    let found = warnings_of(rt.alloc(), source, 0)?;
+    let found = warnings_of(rt.alloc(), source, 0)?.told;
     let want = [
         (0, Cause::LikeFen),
         (15, Cause::LikeGameType),
@@ -50,7 +50,7 @@ fn each_cause_has_its_place(rt: HostRuntime) -> Result<(), Fail> {
 fn games_with_few_plies(rt: HostRuntime) -> Result<(), Fail> {
     let source =
         b"1. 11-15 22-18 * [Event \"two\"] 9-13 [Event \"three\"] 9-14 22-18 11-16 1/2-1/2 *";
-    let found = warnings_of(rt.alloc(), source, 3)?;
+    let found = warnings_of(rt.alloc(), source, 3)?.told;
     let want = [(3, 1, 2), (17, 2, 1), (77, 4, 0)];
     for (warning, (at, game, plies)) in found.iter().zip(want) {
         let due = if game == 4 {
@@ -104,7 +104,11 @@ fn texts_say_what_to_write(rt: HostRuntime) -> Result<(), Fail> {
 
 #[test]
 fn ten_are_told_and_the_rest_counted(rt: HostRuntime) -> Result<(), Fail> {
-    let text = told(rt.alloc(), b"* * * * * * * * * * * * * *")?;
+    let source = b"* * * * * * * * * * * * * *";
+    let found = warnings_of(rt.alloc(), source, 0)?;
+    assert_eq!(rt; found.told.len(), 10);
+    assert_eq!(rt; found.more, 3);
+    let text = told(rt.alloc(), source)?;
     assert_eq!(rt; text.as_str().matches("This result").count(), 10);
     assert!(rt;
         text.as_str()

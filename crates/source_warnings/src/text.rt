@@ -1,7 +1,8 @@
 //! The text on warnings.
 ghost use Rattle.std.specs.Prelude.{◌≡◌, ◌≤◌, ◌++◌, ℕ, List, All, IfOk, OnOk, codes, length};
 ghost use Rattle.source_warnings.specs.Told.{IsToldOf};
-ghost use Rattle.source_warnings.specs.Warnings.{IsInside, warnings};
+ghost use Rattle.source_warnings.specs.Warnings.{AreWarnings, IsInside};
+ghost use Rattle.source_warnings.specs.declared.causes.Warning.{Warning};
 ghost use Rattle.terminal_text.specs.Places.{place_text};
 ghost use Rattle.terminal_text.specs.Shown.{IsShown};
 
@@ -9,9 +10,6 @@ use crate::causes::{Cause, Warning};
 use crate::scan::warnings_of;
 use std::alloc::{AllocError, Global};
 use terminal_text::{say, say_excerpt, say_number, say_place, shown};
-
-/// How many warnings are told in words at most.
-pub const MOST_TOLD: usize = 10;
 
 /// Appends that a game has fewer moves than the plies that were asked.
 fn say_few(text: &mut Vec<u8>, asked: usize, game: usize, plies: usize) -> Result<(), AllocError> {
@@ -78,34 +76,34 @@ fn say_warning(
     say_cause(text, asked, warning.cause)
 }
 
-/// Appends warnings, at most so many in words, and how many more there are.
+/// Appends warnings, and how many more there are.
 fn say_further(
     text: &mut Vec<u8>,
     source: &[u8],
     asked: usize,
-    found: &[Warning],
-    most: usize,
+    told: &[Warning],
+    more: usize,
 ) -> Result<(), AllocError>
-    requires { All (IsInside source.now) found.now }
+    requires { All (IsInside source.now) told.now }
 {
-    let told = found.len().min(most);
-    for warning in &found[..told] {
+    for warning in told {
         say_warning(text, source, asked, *warning)?;
     }
-    let more = found.len() - told;
     if more > 0 {
         say_number(text, "warning: and ", more as u64, " more.\n")?;
     }
     Ok(())
 }
 
-/// The first warning before it is made safe for a terminal, and the further ones.
+/// The first warning before it is made safe for a terminal, the further ones, and how many more there
+/// are.
 fn raw_text(
     alloc: Global,
     source: &[u8],
     asked: usize,
     first: Warning,
     further: &[Warning],
+    more: usize,
 ) -> Result<Vec<u8>, AllocError>
     requires here { IsInside source.now first }
     requires behind { All (IsInside source.now) further.now }
@@ -118,27 +116,28 @@ fn raw_text(
     let mut rest = Vec::new(alloc);
     say_excerpt(&mut rest, source, first.at)?;
     say_cause(&mut rest, asked, first.cause)?;
-    say_further(&mut rest, source, asked, further, MOST_TOLD - 1)?;
+    say_further(&mut rest, source, asked, further, more)?;
     text.extend_from_slice(&rest)?;
     Ok(text)
 }
 
 /// What a person is told of a source of games that was read, for whose openings so many plies were
-/// asked; 0 where none were. Of each of the first ten warnings: its line and its column, how the source
-/// reads there, how that is read, and what may be written instead; then how many more there are.
+/// asked; 0 where none were. Of each of the first [`crate::MOST_TOLD`] warnings: its line and its
+/// column, how the source reads there, how that is read, and what may be written instead; then how
+/// many more there are.
 ///
 /// It reads nothing but its arguments. Whatever they hold, the text is printable ASCII and line ends. It
 /// is empty where there is nothing to warn of, and else begins with the place of the first warning. It
 /// fails only for want of memory.
 pub fn warnings_text(alloc: Global, source: &[u8], asked: usize) -> Result<Vec<u8>, AllocError>
     ensures safe { IfOk result (λ text. All IsShown text.items) }
-    ensures told { IfOk result (λ text.
-        IsToldOf source.now (warnings source.now asked) text.items) }
+    ensures told { IfOk result (λ text. (all : List Warning)
+        × AreWarnings source.now asked all × IsToldOf source.now all text.items) }
 {
     let found = warnings_of(alloc, source, asked)?;
-    let [first, further @ ..] = found.as_slice() else {
+    let [first, further @ ..] = found.told.as_slice() else {
         return Ok(Vec::new(alloc));
     };
-    let text = raw_text(alloc, source, asked, *first, further)?;
+    let text = raw_text(alloc, source, asked, *first, further, found.more)?;
     shown(alloc, &text)
 }

@@ -121,9 +121,9 @@ fn hand_in<R: Wait, D: Disk>(
     let start = Instant::now(rt)?;
     let staged = shared.stage(waiting, pass, lease, outcome);
     spent.stage = spent.stage.saturating_add(start.elapsed(rt)?.as_nanos());
-    staged?;
+    let number = staged?;
     let start = Instant::now(rt)?;
-    let committed = shared.commit(waiting, pass);
+    let committed = shared.commit_together(waiting, pass, number);
     spent.commit = spent.commit.saturating_add(start.elapsed(rt)?.as_nanos());
     let _receipt = committed?;
     Ok(())

@@ -18,6 +18,7 @@ pub mod RootlessLemmas
 pub mod ExactLemmas
 pub mod WorksLemmas
 pub mod TurnLemmas
+pub mod NumberLemmas
 pub mod SharedLemmas
 pub mod CountingLemmas
 pub mod SearchLemmas

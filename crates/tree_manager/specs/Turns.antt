@@ -1,6 +1,6 @@
 -- What one turn of a shared session does, said of the line that it found and of the line that it
 -- left, which is the front of its pass.
-use Rattle.std.specs.Prelude.{◌≡◌, ◌≢◌, ◌⊎◌, ℕ, false, List, [], ◌∷◌, ◌++◌, Contains, length, count_by, is_some, Result, Ok, Err}
+use Rattle.std.specs.Prelude.{◌≡◌, ◌≢◌, ◌⊎◌, ℕ, false, List, [], ◌∷◌, ◌++◌, Contains, length, count_by, is_some, Option, None, Some, Result, Ok, Err}
 use Rattle.turn_lock.specs.Growth.{GrowsTo}
 use Rattle.draughts_board.specs.Draughts.{draughts}
 use Rattle.draughts_board.specs.Game.{is_at_sight}
@@ -103,6 +103,12 @@ module _ (found new : List Entry) where
       (new ≡ found) × ((id ≡ given.id) × AwaitsNoResult given new)
   Stages given outcome (Err (stage.Memory error)) = new ≡ found
 
+  -- `stage` of a shared session: and of so many records of the line this is the last
+  abbrev pub StagesNumbered : Lease → Outcome → Result ℕ StageRefusal → Type 0
+  StagesNumbered given outcome (Ok number) =
+      Stages given outcome (Ok tt) × (number ≡ length (recorded new))
+  StagesNumbered given outcome (Err refusal) = Stages given outcome (Err refusal)
+
   -- `release`
   abbrev pub Releases : ℕ → Result (Unit {0}) Stale → Type 0
   Releases id (Ok _) = AddsEntry (Released id) × MayRelease id found
@@ -121,6 +127,12 @@ module _ (found new : List Entry) where
   Commits (Ok receipt) = AllAcknowledged receipt
   Commits (Err commit.Failed) = (new ≡ found) × EndsBroken new
   Commits (Err commit.Disk) = ((faults : ℕ) × AddsEntry (Broken faults)) × EndsBroken new
+
+  -- `commit_together`: nothing where another pass has committed, and else what `commit` does
+  abbrev pub CommitsUnlessDone : Result (Option Receipt) CommitRefusal → Type 0
+  CommitsUnlessDone (Ok None) = new ≡ found
+  CommitsUnlessDone (Ok (Some receipt)) = AllAcknowledged receipt
+  CommitsUnlessDone (Err refusal) = Commits (Err refusal)
 
   -- `count_roots`
   abbrev pub Counts : RootCounts → Type 0

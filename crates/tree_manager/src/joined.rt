@@ -74,7 +74,7 @@ impl<D: Disk> JoinedBench<D> {
     ghost use Rattle.bench_core.specs.Cores.{IsOutcomeOf, record_of};
     ghost use Rattle.bench_core.specs.Answers.{unkept};
     ghost use Rattle.tree_manager.specs.declared.entries.Entry.TheVariants as entry;
-    ghost use Rattle.tree_manager.specs.Lines.{recorded, unapplied_in, attachment_of, is_failed, EndsBroken};
+    ghost use Rattle.tree_manager.specs.Lines.{recorded, applied_in, unapplied_in, attachment_of, is_failed, EndsBroken};
     ghost use Rattle.tree_manager.specs.Histories.{IsHistory, IsCoreOf};
     ghost use Rattle.tree_manager.specs.Entries.{faults_told};
     ghost use Rattle.tree_manager.specs.Receipts.{KeepsReceipts, acknowledgements};
@@ -186,6 +186,23 @@ impl<D: Disk> JoinedBench<D> {
         ensures { result ≡ length self.now.line }
     {
         self.marks.len() as u64
+    }
+
+    /// How many records its line has, those that are staged among them.
+    pub fn recorded(&self) -> u64
+        ensures { is_failed self.now.line ≡ false → result ≡ length (recorded self.now.line) }
+    {
+        let staged = self.journal.staged() as u64;
+        self.journal.count().saturating_add(staged)
+    }
+
+    /// So many records of its line are applied, and so durable. Of a session that has failed it says no.
+    pub fn has_applied(&self, number: u64) -> bool
+        ensures yes { result ≡ true → number ≤ length (applied_in self.now.line) }
+        ensures no { result ≡ false → is_failed self.now.line ≡ false
+            → length (applied_in self.now.line) < number }
+    {
+        !self.journal.is_failed() && number <= self.journal.count()
     }
 
     /// The disk, with what was committed. It keeps the session's receipts; where the session has failed, its faults rose

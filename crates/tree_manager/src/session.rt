@@ -73,7 +73,7 @@ impl<D: Disk> Session<D> {
     ghost use Rattle.bench_core.specs.Cores.{IsOutcomeOf, record_of};
     ghost use Rattle.bench_core.specs.Answers.{unkept};
     ghost use Rattle.tree_manager.specs.declared.entries.Entry.TheVariants as entry;
-    ghost use Rattle.tree_manager.specs.Lines.{recorded, unapplied_in, attachment_of, is_failed, EndsBroken};
+    ghost use Rattle.tree_manager.specs.Lines.{recorded, applied_in, unapplied_in, attachment_of, is_failed, EndsBroken};
     ghost use Rattle.tree_manager.specs.Histories.{IsHistory, IsCoreOf};
     ghost use Rattle.tree_manager.specs.Entries.{faults_told};
     ghost use Rattle.tree_manager.specs.Receipts.{KeepsReceipts, acknowledgements};
@@ -275,6 +275,22 @@ impl<D: Disk> Session<D> {
             Each (λ ack. ack.moment ≤ receipt.moment) (acknowledgements self.new.line)) }
     {
         self.joined.commit()
+    }
+
+    /// How many records its line has, those that are staged among them.
+    pub fn recorded(&self) -> u64
+        ensures { is_failed self.now.line ≡ false → result ≡ length (recorded self.now.line) }
+    {
+        self.joined.recorded()
+    }
+
+    /// So many records of its line are applied, and so durable. Of a session that has failed it says no.
+    pub fn has_applied(&self, number: u64) -> bool
+        ensures yes { result ≡ true → number ≤ length (applied_in self.now.line) }
+        ensures no { result ≡ false → is_failed self.now.line ≡ false
+            → length (applied_in self.now.line) < number }
+    {
+        self.joined.has_applied(number)
     }
 
     /// Ends every lease that lives and is not kept, in rising order of number. Where nothing is staged, none lives then. It

@@ -2,13 +2,14 @@
 //!
 //! A pass's front is the session's line as this pass last saw it. It only grows, so no turn takes back what another pass
 //! has seen. What an answer means stands in `specs/Turns.antt`, and speaks of the front alone.
-ghost use Rattle.std.specs.Prelude.{◌≡◌, ◌≤◌, ◌⊎◌, true, length, IfOk, IfErr};
+ghost use Rattle.std.specs.Prelude.{◌≡◌, ◌≤◌, ◌⊎◌, true, length, OnOk, IfOk, IfErr};
 ghost use Rattle.std.specs.List.{AllByRecursion as Each};
 ghost use Rattle.bench_disk.specs.Disk.{IsHonest};
 ghost use Rattle.turn_lock.specs.Seen.{IsOutside};
 ghost use Rattle.bench_core.specs.Cores.{IsOutcomeOf};
+ghost use Rattle.tree_manager.specs.Lines.{recorded, applied_in};
 ghost use Rattle.tree_manager.specs.Receipts.{acknowledgements};
-ghost use Rattle.tree_manager.specs.Turns.{GrowsByTurns, InOneTurn, AsksForSearch, Leases, Stages, Commits, Releases, Counts};
+ghost use Rattle.tree_manager.specs.Turns.{GrowsByTurns, InOneTurn, AsksForSearch, Leases, StagesNumbered, Commits, CommitsUnlessDone, Releases, Counts};
 
 use crate::counting::RootCounts;
 use crate::refusals::{CommitRefusal, StageRefusal};
@@ -21,12 +22,24 @@ use lease_table::{Lease, LeaseId, Stale};
 use std::alloc::{AllocError, Global};
 use std::marker::Model;
 use std::sync::Wait;
+use std::sync::atomic::{AtomicBool, AtomicU64, Ordering};
+use std::thread;
 use turn_lock::{Kept, Pass, TurnLock};
+
+/// How often a pass that waits for another's commit looks for it at most.
+const MOST_LOOKS: u32 = 256;
+
+/// In so many looks running no pass sleeps, where none is waited for any more.
+const CALM_LOOKS: u32 = 8;
 
 /// A session that many threads share. Contracts see which lock it is.
 #[derive(Drop)]
 pub struct SharedBench<D: Disk> {
     lock: TurnLock<Session<D>>,
+    /// How many commits succeeded.
+    commits: AtomicU64,
+    /// Passes slept when the last of them ended: it took them long to wait for it.
+    is_slow: AtomicBool,
 }
 
 impl<D: Disk> Model for SharedBench<D> {
@@ -53,7 +66,14 @@ impl<D: Disk> SharedBench<D> {
         ensures handed_back { IfErr result (λ refused. refused.0 ≡ session) }
     {
         match TurnLock::new(alloc, session) {
-            Ok((lock, pass)) => Ok((SharedBench { lock }, pass)),
+            Ok((lock, pass)) => {
+                let shared = SharedBench {
+                    lock,
+                    commits: AtomicU64::new(0),
+                    is_slow: AtomicBool::new(false),
+                };
+                Ok((shared, pass))
+            }
             Err(refused) => Err(refused),
         }
     }
@@ -80,25 +100,25 @@ impl<D: Disk> SharedBench<D> {
         answer
     }
 
-    /// Stages the result of a lease's search, in one turn, and keeps the lease for it. A refusal drops the outcome. `Stale`
-    /// comes where the lease does not live, or has its result.
+    /// Stages the result of a lease's search, in one turn, and keeps the lease for it. The answer is the number of its record
+    /// in the journal, from 1. A refusal drops the outcome. `Stale` comes where the lease does not live, or has its result.
     pub fn stage<R: Wait>(
         &self,
         rt: &R,
         pass: &mut BenchPass<D>,
         lease: &Lease,
         outcome: Outcome,
-    ) -> Result<(), StageRefusal>
+    ) -> Result<u64, StageRefusal>
         requires outside { IsOutside self.now pass.old }
         requires outcome { IsOutcomeOf lease.now outcome }
         ensures outside { IsOutside self.now pass.new }
         ensures grows { GrowsByTurns pass.old.front pass.new.front }
         ensures turn { InOneTurn pass.old.front pass.new.front
-            (λ found new. Stages found new lease.now outcome result) }
+            (λ found new. StagesNumbered found new lease.now outcome result) }
     {
         let mut session = self.lock.enter(rt, pass);
         let before = session.count();
-        let answer = session.stage(lease, outcome);
+        let answer = stage_numbered(&mut session, lease, outcome);
         self.leave(pass, session, before);
         answer
     }
@@ -116,9 +136,88 @@ impl<D: Disk> SharedBench<D> {
     {
         let mut session = self.lock.enter(rt, pass);
         let before = session.count();
-        let answer = session.commit();
+        let answer = self.commit_session(&mut session);
         self.leave(pass, session, before);
         answer
+    }
+
+    /// Sees to it that the record of this number, which the pass staged, is durable and applied. `None` comes where a commit
+    /// of another pass has done it, and else it commits as `commit` does.
+    ///
+    /// Where passes fell asleep over the last commit, it first lets those that wake stage what they have, for a short time, so
+    /// that one commit does for all of them. No clause speaks of this waiting.
+    pub fn commit_together<R: Wait>(
+        &self,
+        rt: &R,
+        pass: &mut BenchPass<D>,
+        number: u64,
+    ) -> Result<Option<Receipt>, CommitRefusal>
+        requires outside { IsOutside self.now pass.old }
+        requires number { number ≤ length (recorded pass.old.front) }
+        ensures outside { IsOutside self.now pass.new }
+        ensures grows { GrowsByTurns pass.old.front pass.new.front }
+        ensures applied { OnOk result (number ≤ length (applied_in pass.new.front)) }
+        ensures turn { InOneTurn pass.old.front pass.new.front
+            (λ found new. CommitsUnlessDone found new result) }
+    {
+        self.wait_for_commit();
+        let mut session = self.lock.enter(rt, pass);
+        let before = session.count();
+        let answer = self.commit_unless_applied(&mut session, number);
+        self.leave(pass, session, before);
+        answer
+    }
+
+    /// Lets passes that sleep stage what they have, as long as there are any and no commit comes, and at most for so many
+    /// looks. It does not wait where the last commit was over before any pass fell asleep.
+    fn wait_for_commit(&self) {
+        if !self.is_slow.load(Ordering::SeqCst) {
+            return;
+        }
+        let commits = self.commits.load(Ordering::SeqCst);
+        let mut calm = 0u32;
+        for _ in 0..MOST_LOOKS {
+            calm = if self.lock.has_sleepers() {
+                0
+            } else {
+                calm.saturating_add(1)
+            };
+            if calm == CALM_LOOKS || self.commits.load(Ordering::SeqCst) != commits {
+                return;
+            }
+            thread::yield_now();
+        }
+    }
+
+    /// Commits in a turn, and notes that it did, and whether passes fell asleep over it.
+    fn commit_session(&self, session: &mut Session<D>) -> Result<Receipt, CommitRefusal>
+        ensures grows { GrowsByTurns session.old.line session.new.line }
+        ensures turn { Commits session.old.line session.new.line result }
+        ensures moments { IsHonest D.TELLS → IfOk result (λ receipt.
+            Each (λ ack. ack.moment ≤ receipt.moment) (acknowledgements session.new.line)) }
+    {
+        let receipt = session.commit()?;
+        self.commits.fetch_add(1, Ordering::SeqCst);
+        self.is_slow
+            .store(self.lock.has_sleepers(), Ordering::SeqCst);
+        Ok(receipt)
+    }
+
+    /// Commits in a turn, unless the record of this number is applied.
+    fn commit_unless_applied(
+        &self,
+        session: &mut Session<D>,
+        number: u64,
+    ) -> Result<Option<Receipt>, CommitRefusal>
+        requires { number ≤ length (recorded session.old.line) }
+        ensures grows { GrowsByTurns session.old.line session.new.line }
+        ensures applied { OnOk result (number ≤ length (applied_in session.new.line)) }
+        ensures turn { CommitsUnlessDone session.old.line session.new.line result }
+    {
+        if session.has_applied(number) {
+            return Ok(None);
+        }
+        Ok(Some(self.commit_session(session)?))
     }
 
     /// Ends a lease without a result, in one turn. It takes no memory. `Stale` comes where the lease does not live or has its
@@ -205,7 +304,21 @@ impl<D: Disk> SharedBench<D> {
         ensures grows { GrowsByTurns pass.front result.0.line }
         ensures count { length result.0.line ≡ result.1 }
     {
-        let Self { lock } = self;
+        let Self { lock, .. } = self;
         lock.close_counted(rt, pass)
     }
+}
+
+/// Stages in a turn, and tells the number of the record.
+fn stage_numbered<D: Disk>(
+    session: &mut Session<D>,
+    lease: &Lease,
+    outcome: Outcome,
+) -> Result<u64, StageRefusal>
+    requires { IsOutcomeOf lease.now outcome }
+    ensures grows { GrowsByTurns session.old.line session.new.line }
+    ensures turn { StagesNumbered session.old.line session.new.line lease.now outcome result }
+{
+    session.stage(lease, outcome)?;
+    Ok(session.recorded())
 }

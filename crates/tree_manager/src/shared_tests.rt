@@ -1,13 +1,13 @@
 //! Threads at a shared bench with the roots W:W16,23:B12 and W:W16,24:B12.
-ghost use Rattle.std.specs.Prelude.{◌≡◌, ◌≤◌, IfOk};
+ghost use Rattle.std.specs.Prelude.{IfOk};
 ghost use Rattle.turn_lock.specs.Seen.{IsOutside};
 
+use crate::tests::{begin, fresh_session, two_against_one};
 use crate::{BenchPass, RootCounts, Session, SharedBench};
-use bench_core::{LeaseRefusal, Settings};
+use bench_core::LeaseRefusal;
 use bench_disk::{Disk, MemoryDisk};
-use disk_journal::JournalRefusal;
 use draughts_board::{Cell, PlaceRefusal, Position, Side};
-use endgame_table::{Table, fill};
+use endgame_table::fill;
 use lease_table::{LeaseId, Stale};
 use std::alloc::{AllocError, Global};
 use std::sync::Wait;
@@ -23,56 +23,12 @@ fn is_sync<T: Sync>(_: &T) {}
 
 fn is_send<T: Send>(_: &T) {}
 
-/// White's men on 16 and on 23 or 24 to move against a man on 12.
-fn two_against_one(other_on_24: bool) -> Result<Position, PlaceRefusal> {
-    let mut cells = [Cell::Empty; 32];
-    cells[16 - 1] = Cell::Man(Side::White);
-    if other_on_24 {
-        cells[24 - 1] = Cell::Man(Side::White);
-    } else {
-        cells[23 - 1] = Cell::Man(Side::White);
-    }
-    cells[12 - 1] = Cell::Man(Side::Black);
-    Position::place(cells, Side::White)
-}
-
 /// White's man on 16 to move against a man on 12, whose value a table of two pieces has.
 fn one_against_one() -> Result<Position, PlaceRefusal> {
     let mut cells = [Cell::Empty; 32];
     cells[16 - 1] = Cell::Man(Side::White);
     cells[12 - 1] = Cell::Man(Side::Black);
     Position::place(cells, Side::White)
-}
-
-/// A session on a fresh disk, of depth 1.
-fn session_of(
-    alloc: Global,
-    table: &Table,
-    budget: u32,
-) -> Result<Session<MemoryDisk>, JournalRefusal>
-    requires pieces { table.now.pieces ≡ 2 }
-    requires budget { budget ≤ 5 }
-    ensures { IfOk result (λ session. session.core.state.settings.pieces ≡ 2) }
-{
-    let settings = Settings {
-        pieces: 2,
-        depth: 1,
-        budget,
-        lease: 10,
-    };
-    match Session::attach(alloc, MemoryDisk::new(alloc), settings, table) {
-        Ok(session) => Ok(session),
-        Err((_, refusal)) => Err(refusal),
-    }
-}
-
-/// Begins both roots.
-fn begin_both(session: &mut Session<MemoryDisk>, table: &Table) -> Result<(), Fail>
-    requires { table.now.pieces ≡ session.old.core.state.settings.pieces }
-{
-    let roots = [two_against_one(false)?, two_against_one(true)?];
-    session.begin(&roots, table)?;
-    Ok(())
 }
 
 /// A shared bench over the session, and its first pass.
@@ -88,17 +44,25 @@ fn shared_of(
     }
 }
 
-/// A shared bench on a fresh disk with both roots, and its first pass.
+/// A shared bench on a fresh disk with these roots, and its first pass.
 fn shared_on(
     alloc: Global,
-    table: &Table,
+    roots: &[Position],
 ) -> Result<(SharedBench<MemoryDisk>, BenchPass<MemoryDisk>), Fail>
-    requires { table.now.pieces ≡ 2 }
     ensures { IfOk result (λ made. IsOutside made.0 made.1) }
 {
-    let mut session = session_of(alloc, table, 5)?;
-    begin_both(&mut session, table)?;
+    let table = fill(alloc, 2)?;
+    let mut session = fresh_session(alloc, &table)?;
+    begin(&mut session, roots, &table)?;
     Ok(shared_of(alloc, session)?)
+}
+
+/// A shared bench on a fresh disk with both roots, and its first pass.
+fn shared_on_both(alloc: Global) -> Result<(SharedBench<MemoryDisk>, BenchPass<MemoryDisk>), Fail>
+    ensures { IfOk result (λ made. IsOutside made.0 made.1) }
+{
+    let roots = [two_against_one(false)?, two_against_one(true)?];
+    shared_on(alloc, &roots)
 }
 
 /// Ends the sharing: how many entries the line has, by the session and by the lock.
@@ -183,8 +147,7 @@ fn ask_in_two_threads<R: Threads + Wait + Sync, D: Disk + Send>(
 
 #[test]
 fn a_session_goes_to_other_threads(rt: HostRuntime) -> Result<(), Fail> {
-    let table = fill(rt.alloc(), 2)?;
-    let (shared, pass) = shared_on(rt.alloc(), &table)?;
+    let (shared, pass) = shared_on_both(rt.alloc())?;
     is_sync(&shared);
     is_send(&pass);
     is_send(&shared.finish(&rt, pass));
@@ -193,8 +156,7 @@ fn a_session_goes_to_other_threads(rt: HostRuntime) -> Result<(), Fail> {
 
 #[test]
 fn two_threads_lease_a_root_each(rt: HostRuntime) -> Result<(), Fail> {
-    let table = fill(rt.alloc(), 2)?;
-    let (shared, mut pass) = shared_on(rt.alloc(), &table)?;
+    let (shared, mut pass) = shared_on_both(rt.alloc())?;
     let nodes = match ask_in_two_threads(&rt, &shared, &mut pass) {
         (Ok((_, one)), Ok((_, two))) => (one, two),
         _ => return Err(Fail::from("no lease")),
@@ -209,8 +171,7 @@ fn two_threads_lease_a_root_each(rt: HostRuntime) -> Result<(), Fail> {
 
 #[test]
 fn a_lease_of_one_pass_is_not_given_to_another(rt: HostRuntime) -> Result<(), Fail> {
-    let table = fill(rt.alloc(), 2)?;
-    let (shared, mut pass) = shared_on(rt.alloc(), &table)?;
+    let (shared, mut pass) = shared_on_both(rt.alloc())?;
     let mut other = shared.split(&mut pass);
     let first = LeaseId::new(1);
     assert_eq!(rt;
@@ -228,15 +189,12 @@ fn a_lease_of_one_pass_is_not_given_to_another(rt: HostRuntime) -> Result<(), Fa
 
 #[test]
 fn roots_are_counted(rt: HostRuntime) -> Result<(), Fail> {
-    let table = fill(rt.alloc(), 2)?;
-    let mut session = session_of(rt.alloc(), &table, 5)?;
     let roots = [
         two_against_one(false)?,
         one_against_one()?,
         two_against_one(true)?,
     ];
-    session.begin(&roots, &table)?;
-    let (shared, mut pass) = shared_of(rt.alloc(), session)?;
+    let (shared, mut pass) = shared_on(rt.alloc(), &roots)?;
     let counts = shared.count_roots(&rt, &mut pass);
     assert_eq!(rt; counts, RootCounts { all: 3, settled: 1 });
     // an Attached, three Puts and their Acked, and nothing by the count

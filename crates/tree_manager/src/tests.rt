@@ -1,6 +1,9 @@
 //! Disks whose bytes are worked out from the format by hand, those that are attached and those that are refused; roots that
 //! are begun once, and leases that end.
-ghost use Rattle.std.specs.Prelude.{◌≡◌, ◌⊎◌};
+//!
+//! Each function here is proved too, and dearly while it holds a session: so a function over any disk makes one or two calls
+//! of it and answers plain values.
+ghost use Rattle.std.specs.Prelude.{◌≡◌, IfOk};
 
 use crate::{BeginRefusal, Session};
 use bench_core::{LeaseRefusal, Settings};
@@ -9,57 +12,51 @@ use disk_journal::JournalRefusal;
 use draughts_board::{Cell, PlaceRefusal, Position, Side};
 use endgame_table::{Table, fill};
 use lease_table::LeaseId;
-use std::alloc::Global;
+use std::alloc::{AllocError, Global};
 use std::process::Abort;
 use std::test::Fail;
 
-/// A session on this disk, of depth 1 and budget 5, whose leases last for so many leases given.
-fn session_on(
-    rt: &impl Abort,
+/// A session of depth 1 and budget 5 on this disk, whose leases last for ten leases given, or the disk again and why there is
+/// none.
+fn attach<D: Disk + Drop>(
     alloc: Global,
-    disk: MemoryDisk,
+    disk: D,
     table: &Table,
-    lease: u32,
-) -> Session<MemoryDisk>
-    requires pieces { table.now.pieces ≡ 2 }
-    requires lasts { (lease ≡ 1) ⊎ (lease ≡ 2) }
-    ensures { result.core.state.settings.pieces ≡ 2 }
+) -> Result<Session<D>, (D, JournalRefusal)>
+    requires { table.now.pieces ≡ 2 }
+    ensures { IfOk result (λ session. session.core.state.settings.pieces ≡ 2) }
 {
     let settings = Settings {
         pieces: 2,
         depth: 1,
         budget: 5,
-        lease,
+        lease: 10,
     };
-    match Session::attach(alloc, disk, settings, table) {
-        Ok(session) => session,
-        Err((_, refusal)) => panic!(rt; "refused: {refusal}"),
-    }
+    Session::attach(alloc, disk, settings, table)
 }
 
-/// Why the bytes are refused, if they are; the disk comes back with them.
-fn refusal_of(
+/// That session, or why there is none; then the disk comes back with these bytes.
+fn attach_to(
     rt: &impl Abort,
     alloc: Global,
     bytes: &[u8],
     table: &Table,
-) -> Result<Option<JournalRefusal>, Fail>
+) -> Result<Result<Session<MemoryDisk>, JournalRefusal>, AllocError>
     requires { table.now.pieces ≡ 2 }
 {
-    let settings = Settings {
-        pieces: 2,
-        depth: 1,
-        budget: 5,
-        lease: 1,
-    };
     let disk = MemoryDisk::of(alloc, bytes.to_vec(alloc)?)?;
-    match Session::attach(alloc, disk, settings, table) {
-        Ok(_) => Ok(None),
+    match attach(alloc, disk, table) {
+        Ok(session) => Ok(Ok(session)),
         Err((disk, refusal)) => {
             assert_eq!(rt; disk.bytes(), bytes);
-            Ok(Some(refusal))
+            Ok(Err(refusal))
         }
     }
+}
+
+/// Leases the next leaf.
+fn lease<D: Disk>(session: &mut Session<D>, worker: u32) -> Result<LeaseId, LeaseRefusal> {
+    Ok(session.lease(worker)?.id)
 }
 
 /// Begin of B:W16,19:B12, in which Black is blocked: a frame of 22 bytes, and a record of 18.
@@ -77,93 +74,89 @@ const ROOTLESS: [u8; 31] = [
 #[test]
 fn attaches_a_blocked_root(rt: HostRuntime) -> Result<(), Fail> {
     let table = fill(rt.alloc(), 2)?;
-    let disk = MemoryDisk::of(rt.alloc(), BLOCKED.to_vec(rt.alloc())?)?;
-    let mut session = session_on(&rt, rt.alloc(), disk, &table, 1);
+    let mut session = attach_to(&rt, rt.alloc(), &BLOCKED, &table)??;
     assert_eq!(rt; session.bench().tree().roots(), 1);
-    assert_eq!(rt; session.lease(1), Err(LeaseRefusal::Done));
+    assert_eq!(rt; lease(&mut session, 1), Err(LeaseRefusal::Done));
     Ok(())
 }
 
 #[test]
-fn refuses_what_is_no_journal(rt: HostRuntime) -> Result<(), Fail> {
+fn refuses_what_is_no_journal_and_what_is_not_lawful(rt: HostRuntime) -> Result<(), Fail> {
     let table = fill(rt.alloc(), 2)?;
-    assert_eq!(rt;
-        refusal_of(&rt, rt.alloc(), b"hello worl", &table)?,
-        Some(JournalRefusal::NotAJournal)
-    );
-    assert_eq!(rt;
-        refusal_of(&rt, rt.alloc(), b"DRBENCH\x02\x01\x00", &table)?,
-        Some(JournalRefusal::Damaged(8))
-    );
-    assert_eq!(rt;
-        refusal_of(&rt, rt.alloc(), b"DRBENCH\x02\x07\x00", &table)?,
-        None
-    );
+    let rows: [(&[u8], Option<JournalRefusal>); 4] = [
+        (b"hello worl", Some(JournalRefusal::NotAJournal)),
+        (b"DRBENCH\x02\x01\0", Some(JournalRefusal::Damaged(8))),
+        (b"DRBENCH\x02\x07\0", None),
+        (&ROOTLESS, Some(JournalRefusal::Damaged(17))),
+    ];
+    for (bytes, wanted) in rows {
+        let refusal = attach_to(&rt, rt.alloc(), bytes, &table)?.err();
+        assert_eq!(rt; refusal, wanted);
+    }
     Ok(())
 }
 
-#[test]
-fn refuses_what_is_not_lawful(rt: HostRuntime) -> Result<(), Fail> {
-    let table = fill(rt.alloc(), 2)?;
-    assert_eq!(rt;
-        refusal_of(&rt, rt.alloc(), &ROOTLESS, &table)?,
-        Some(JournalRefusal::Damaged(17))
-    );
-    Ok(())
-}
-
-/// W:W16,23:B12
-fn root() -> Result<Position, PlaceRefusal> {
+/// White's men on 16 and on 23 or 24 to move against a man on 12.
+pub(crate) fn two_against_one(other_on_24: bool) -> Result<Position, PlaceRefusal> {
     let mut cells = [Cell::Empty; 32];
     cells[16 - 1] = Cell::Man(Side::White);
-    cells[23 - 1] = Cell::Man(Side::White);
+    if other_on_24 {
+        cells[24 - 1] = Cell::Man(Side::White);
+    } else {
+        cells[23 - 1] = Cell::Man(Side::White);
+    }
     cells[12 - 1] = Cell::Man(Side::Black);
     Position::place(cells, Side::White)
 }
 
-/// Begins a root that is named twice: how many records and roots stand then.
-fn begin_twice<D: Disk>(
+/// A session on a fresh disk.
+pub(crate) fn fresh_session(
+    alloc: Global,
+    table: &Table,
+) -> Result<Session<MemoryDisk>, JournalRefusal>
+    requires { table.now.pieces ≡ 2 }
+    ensures { IfOk result (λ session. session.core.state.settings.pieces ≡ 2) }
+{
+    match attach(alloc, MemoryDisk::new(alloc), table) {
+        Ok(session) => Ok(session),
+        Err((_, refusal)) => Err(refusal),
+    }
+}
+
+/// Begins these roots: how many records and roots stand then.
+pub(crate) fn begin<D: Disk>(
     session: &mut Session<D>,
-    p: Position,
+    positions: &[Position],
     table: &Table,
 ) -> Result<(u64, u32), BeginRefusal>
     requires { table.now.pieces ≡ session.old.core.state.settings.pieces }
 {
-    let receipt = session.begin(&[p, p], table)?;
+    let receipt = session.begin(positions, table)?;
     Ok((receipt.number, session.bench().tree().roots()))
 }
 
-#[test]
-fn begins_a_root_once(rt: HostRuntime) -> Result<(), Fail> {
-    let table = fill(rt.alloc(), 2)?;
-    let p = root()?;
-    let mut session = session_on(&rt, rt.alloc(), MemoryDisk::new(rt.alloc()), &table, 1);
-    assert_eq!(rt; begin_twice(&mut session, p, &table).ok(), Some((1, 1)));
+/// Commits nothing, and ends all leases.
+fn end_all<D: Disk>(session: &mut Session<D>) -> Result<(), Fail> {
+    let _idle = session.commit()?;
+    session.end_leases();
     Ok(())
 }
 
-/// Leases the one leaf, asks for another, ends all leases, and asks again: the first lease, why there was none, whether the
-/// first could still be released, and the next lease.
-fn lease_and_end<D: Disk>(
-    session: &mut Session<D>,
-) -> Result<(LeaseId, Option<LeaseRefusal>, bool, LeaseId), Fail> {
-    let first = session.lease(1)?.id;
-    let none = session.lease(2).err();
-    let _idle = session.commit()?;
-    session.end_leases();
-    let released = session.release(first).is_ok();
-    let next = session.lease(2)?.id;
-    Ok((first, none, released, next))
-}
-
 #[test]
-fn ends_the_leases_that_live(rt: HostRuntime) -> Result<(), Fail> {
+fn begins_a_root_once_and_ends_the_leases_that_live(rt: HostRuntime) -> Result<(), Fail> {
     let table = fill(rt.alloc(), 2)?;
-    let p = root()?;
-    let mut session = session_on(&rt, rt.alloc(), MemoryDisk::new(rt.alloc()), &table, 2);
-    assert_eq!(rt; begin_twice(&mut session, p, &table).ok(), Some((1, 1)));
-    let none = Some(LeaseRefusal::NoLeaf { live: 1 });
-    let due = (LeaseId::new(1), none, false, LeaseId::new(2));
-    assert_eq!(rt; lease_and_end(&mut session)?, due);
+    let mut session = fresh_session(rt.alloc(), &table)?;
+    // A root that is named twice is begun once.
+    let p = two_against_one(false)?;
+    assert_eq!(rt; begin(&mut session, &[p, p], &table).ok(), Some((1, 1)));
+    let first = lease(&mut session, 1)?;
+    assert_eq!(rt; first, LeaseId::new(1));
+    assert_eq!(rt;
+        lease(&mut session, 2),
+        Err(LeaseRefusal::NoLeaf { live: 1 })
+    );
+    end_all(&mut session)?;
+    assert!(rt; session.release(first).is_err());
+    assert_eq!(rt; lease(&mut session, 2), Ok(LeaseId::new(2)));
     Ok(())
 }

@@ -10,7 +10,7 @@ use std::alloc::{AllocError, AllocFailed, Global};
 use std::marker::{Brand, Model};
 use std::snapshot::Snapshot;
 use std::sync::Wait;
-use std::sync::atomic::AtomicU64;
+use std::sync::atomic::{AtomicU64, Ordering};
 
 /// A lock over one value. Contracts see which lock it is.
 ///
@@ -126,6 +126,12 @@ impl<V: Kept> TurnLock<V> {
         ensures front { pass.new.front ≡ pass.old.front }
     {
         self.give_turn(&mut pass.seat, value);
+    }
+
+    /// Whether a pass sleeps until the turn is given up, or is about to. It may have changed when the
+    /// answer comes, so nothing but patience should rest on it.
+    pub fn has_sleepers(&self) -> bool {
+        self.sleepers.load(Ordering::SeqCst) != 0
     }
 
     /// A second pass, which has seen what the first has.

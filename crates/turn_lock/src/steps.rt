@@ -100,7 +100,7 @@ impl<V: Kept> TurnLock<V> {
             Some(_) => unreachable!(),
         }
         self.table.shared.store::<GiveTurn>(seat, TURN, FREE);
-        if self.sleepers.load(Ordering::SeqCst) != 0 {
+        if self.has_sleepers() {
             self.table.shared.wake_one(TURN);
         }
     }

@@ -1,7 +1,8 @@
 //! The work of one worker.
-ghost use Rattle.std.specs.Prelude.{◌≡◌, IfErr};
+ghost use Rattle.std.specs.Prelude.{◌≡◌, ◌≤◌, length, OnOk, IfErr};
 ghost use Rattle.turn_lock.specs.Seen.{IsOutside};
 ghost use Rattle.bench_core.specs.Cores.{IsOutcomeOf};
+ghost use Rattle.tree_manager.specs.Lines.{recorded, applied_in};
 ghost use Rattle.tree_manager.specs.Turns.{GrowsByTurns};
 ghost use Rattle.worker_gate.specs.Work.{CanSearch, CanSearchLeaf, ShowsEnd};
 
@@ -175,25 +176,28 @@ fn put_result<R: Wait, D: Disk>(
     ensures ended { IfErr result (λ ended. ShowsEnd ended pass.new.front) }
 {
     match shared.stage(rt, pass, lease, outcome) {
-        Ok(()) => commit_result(rt, shared, pass),
+        Ok(number) => commit_result(rt, shared, pass, number),
         Err(StageRefusal::Stale(_)) => Ok(Step::Searched),
         Err(StageRefusal::Failed) => Err(Ended::Failed),
         Err(StageRefusal::Memory(_)) => give_back(rt, shared, pass, lease.id),
     }
 }
 
-/// Commits what is staged.
+/// Sees to it that the record of this number is durable, by a commit of this worker or of another.
 fn commit_result<R: Wait, D: Disk>(
     rt: &R,
     shared: &SharedBench<D>,
     pass: &mut BenchPass<D>,
+    number: u64,
 ) -> Result<Step, Ended>
     requires outside { IsOutside shared.now pass.old }
+    requires number { number ≤ length (recorded pass.old.front) }
     ensures outside { IsOutside shared.now pass.new }
     ensures grows { GrowsByTurns pass.old.front pass.new.front }
+    ensures applied { OnOk result (number ≤ length (applied_in pass.new.front)) }
     ensures ended { IfErr result (λ ended. ShowsEnd ended pass.new.front) }
 {
-    match shared.commit(rt, pass) {
+    match shared.commit_together(rt, pass, number) {
         Ok(_) => Ok(Step::Searched),
         Err(CommitRefusal::Failed | CommitRefusal::Disk) => Err(Ended::Failed),
     }

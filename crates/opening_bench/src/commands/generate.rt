@@ -16,6 +16,7 @@ use bench_disk::Disk;
 use capture_positions::capture_positions;
 use draughts_board::Position;
 use endgame_table::fill;
+use journal_runs::Account;
 use opening_report::Refusal;
 use std::alloc::{AllocError, Global};
 use std::sync::Wait;
@@ -67,7 +68,7 @@ fn run_counted<R: Threads + Wait + Sync, D: Disk + Send, G: Gate + Sync>(
         budget: count,
         lease: GENERATE_LEASE,
     };
-    let (disk, answer) = journal_runs::solve_counted(
+    let (disk, answer) = journal_runs::solve(
         rt,
         alloc,
         disk,
@@ -76,6 +77,7 @@ fn run_counted<R: Threads + Wait + Sync, D: Disk + Send, G: Gate + Sync>(
         positions,
         &table,
         gate,
+        Account::Summary,
     );
     match answer {
         Ok(ran) => (

@@ -17,7 +17,7 @@ use bench_edges::Options;
 use draughts_board::Position;
 use endgame_table::fill;
 use indexmap::IndexSet;
-use journal_runs::{JournalFlaw, RunRefusal};
+use journal_runs::{Account, JournalFlaw, RunRefusal};
 use opening_report::Refusal;
 use pdn_openings::{Opening, openings};
 use pdn_text::read_games;
@@ -116,6 +116,7 @@ fn run_with<R: Threads + Wait + Sync, D: Disk + Send, G: Gate + Sync>(
         positions,
         &table,
         gate,
+        Account::Report,
     );
     match answer {
         Ok(ran) => (

@@ -1,10 +1,11 @@
 use Rattle.std.proofs.Common.{subst, sym}
 use Rattle.bench_edges.specs.Words.{texts}
-use Rattle.bench_edges.specs.declared.words.Command.TheVariants.{Solve, Report, Certify, Verify, MakeTable, TableCheck}
+use Rattle.bench_edges.specs.declared.words.Command.TheVariants.{Solve, Report, Certify, Verify, MakeTable, TableCheck, Generate}
 use Rattle.opening_bench.specs.Accepted.{Accepts, HasAsked, HasLookCause}
 use Rattle.opening_bench.specs.Bench.{Does, HoldsOpenings, WritesOnly}
+use Rattle.opening_bench.proofs.NewJournalLemmas.{new_has_ample_budget, new_has_room}
 use Rattle.opening_bench.proofs.RefusalLemmas.{certificates_accepted, tables_accepted}
-use Rattle.opening_bench.proofs.SolvingLemmas.{ample_solves, openings_accepted, said_once}
+use Rattle.opening_bench.proofs.SolvingLemmas.{ample_generates, ample_solves, openings_accepted, said_once}
 use Rattle.opening_bench.proofs.WritingLemmas.{line_values}
 use Rattle.opening_bench.proofs.bench.bench.Goals as goal
 
@@ -12,6 +13,12 @@ pub returns-in-Err-clause-values : goal.returns-in-Err-clause-values
 returns-in-Err-clause-values g c =
     line_values c.from.result (g.K.Sink.taken c.args.sink.now) (g.K.Sink.taken c.refuse.new.sink) (g.K.Sink.faults c.args.sink.now) (g.K.Sink.faults c.refuse.new.sink)
     c.refuse.ensures.said c.refuse.ensures.line
+
+pub returns-in-Err-clause-accepted_generated : goal.returns-in-Err-clause-accepted_generated
+returns-in-Err-clause-accepted_generated g c seed count said room = absurd (c.in-Err.ensures.refused.no_command (Generate seed count) said)
+
+pub returns-in-Err-clause-ample_generated : goal.returns-in-Err-clause-ample_generated
+returns-in-Err-clause-ample_generated g c seed count said ample = absurd (c.in-Err.ensures.refused.no_command (Generate seed count) said)
 
 pub returns-in-Ok-clause-accepted : goal.returns-in-Ok-clause-accepted
 returns-in-Ok-clause-accepted g c options said =
@@ -25,6 +32,24 @@ returns-in-Ok-clause-ample g c options said =
     ample_solves g.D.Disk.TELLS g.D.Disk.reads g.D.Disk.images g.D.Disk.images_since g.D.Disk.moment g.D.Disk.faults options (g.S.Source.left c.args.source.now) (g.K.Sink.taken c.args.sink.now) (g.K.Sink.taken c.run_command.new.sink) c.args.disk c.run_command.result.1 c.run_command.result.0
     (λ reports. subst (λ command. Does g.D.Disk.TELLS g.D.Disk.reads g.D.Disk.images g.D.Disk.images_since g.D.Disk.moment g.D.Disk.faults command (g.S.Source.left c.args.source.now) (g.K.Sink.taken c.args.sink.now) (g.K.Sink.taken c.run_command.new.sink) c.args.disk c.run_command.result.1 c.run_command.result.0) same
     (c.run_command.ensures.does reports))
+
+pub returns-in-Ok-clause-accepted_generated : goal.returns-in-Ok-clause-accepted_generated
+returns-in-Ok-clause-accepted_generated g c seed count said room =
+    let same = said_once (texts c.args.words.now) c.in-Ok.command (Generate seed count) c.in-Ok.ensures.each_command said in
+    c.run_command.ensures.asked (subst (λ command. HasAsked g.D.Disk.TELLS g.D.Disk.reads command c.args.disk) (sym same) room)
+
+pub returns-in-Ok-clause-ample_generated : goal.returns-in-Ok-clause-ample_generated
+returns-in-Ok-clause-ample_generated g c seed count said =
+    let same = said_once (texts c.args.words.now) c.in-Ok.command (Generate seed count) c.in-Ok.ensures.each_command said in
+    ample_generates g.D.Disk.TELLS g.D.Disk.reads g.D.Disk.images g.D.Disk.images_since g.D.Disk.moment g.D.Disk.faults seed count (g.S.Source.left c.args.source.now) (g.K.Sink.taken c.args.sink.now) (g.K.Sink.taken c.run_command.new.sink) c.args.disk c.run_command.result.1 c.run_command.result.0
+    (λ reports. subst (λ command. Does g.D.Disk.TELLS g.D.Disk.reads g.D.Disk.images g.D.Disk.images_since g.D.Disk.moment g.D.Disk.faults command (g.S.Source.left c.args.source.now) (g.K.Sink.taken c.args.sink.now) (g.K.Sink.taken c.run_command.new.sink) c.args.disk c.run_command.result.1 c.run_command.result.0) same
+    (c.run_command.ensures.does reports))
+
+pub returns-in-Ok-clause-settled_generated : goal.returns-in-Ok-clause-settled_generated
+returns-in-Ok-clause-settled_generated g c seed count said honest read = (
+  returns-in-Ok-clause-accepted_generated g c seed count said (new_has_room g.D.Disk.TELLS g.D.Disk.reads seed count c.args.disk said.1.1.1 honest read),
+  returns-in-Ok-clause-ample_generated g c seed count said (new_has_ample_budget g.D.Disk.TELLS g.D.Disk.reads seed count c.args.disk said.1.1.1 honest read),
+)
 
 pub returns-in-Ok-clause-accepted_certificates : goal.returns-in-Ok-clause-accepted_certificates
 returns-in-Ok-clause-accepted_certificates g c said =

@@ -10,7 +10,7 @@ loop-at-init c = rw c.beginning-at.ensures.value (reached_beginning c.args.text.
 pub returns-in_err-end-clause-refused : goal.returns-in_err-end-clause-refused
 returns-in_err-end-clause-refused c =
     let p = err_from_is_err_and c.from_residual.result c.from_residual.ensures.1 in
-    let here = refused_here c.args.text.now c.loop-at.at (progress c.loop-at.gathered) c.begins_line.result c.in_err-end.field-0.0 c.loop-at.invariant c.loop-at-test.true c.begins_line.ensures c.in_err-end.ensures.gives in
+    let here = refused_here c.args.text.now c.loop-at.at (progress c.loop-at.gathered) c.in_err-end.field-0.0 c.loop-at.invariant c.loop-at-test.true c.in_err-end.ensures.exact.fault in
     rw (p.1, p.2) here
 
 pub take-requires : goal.take-requires
@@ -19,17 +19,17 @@ take-requires c = c.loop-at.invariant.few
 pub returns-in_err-take-in-Some-clause-refused : goal.returns-in_err-take-in-Some-clause-refused
 returns-in_err-take-in-Some-clause-refused c =
     let p = err_from_is_err_and c.from_residual-in_err-take-in-Some.result c.from_residual-in_err-take-in-Some.ensures.1 in
-    let here = refused_many c.args.text.now c.loop-at.at (progress c.loop-at.gathered) c.begins_line.result c.in_ok-end.field-0 c.in-Some.sign c.in_err-take-in-Some.field-0.0 c.loop-at.invariant c.begins_line.ensures c.in_ok-end.ensures.gives c.in-Some.is c.in_err-take-in-Some.ensures.err in
+    let here = refused_many c.args.text.now c.loop-at.at (progress c.loop-at.gathered) c.in_ok-end.field-0 c.in-Some.sign c.in_err-take-in-Some.field-0.0 c.loop-at.invariant c.in_ok-end.ensures.exact.good c.in-Some.is c.in_err-take-in-Some.ensures.err in
     rw (p.1, p.2) here
 
 pub loop-at-preserved-in_ok-take-in-Some : goal.loop-at-preserved-in_ok-take-in-Some
 loop-at-preserved-in_ok-take-in-Some c =
-    reached_sign c.args.text.now c.loop-at.at (progress c.loop-at.gathered) (progress c.take.new.self) c.begins_line.result c.in_ok-end.field-0 c.in-Some.sign c.loop-at.invariant c.begins_line.ensures c.in_ok-end.ensures.gives c.in-Some.is
+    reached_sign c.args.text.now c.loop-at.at (progress c.loop-at.gathered) (progress c.take.new.self) c.in_ok-end.field-0 c.in-Some.sign c.loop-at.invariant c.in_ok-end.ensures.exact.good c.in-Some.is
     c.in_ok-take-in-Some.ensures.ok c.in_ok-take-in-Some.ensures.few c.in_ok-end.ensures.inside
 
 pub loop-at-preserved : goal.loop-at-preserved
 loop-at-preserved c =
-    reached_skip c.args.text.now c.loop-at.at (progress c.loop-at.gathered) c.begins_line.result c.in_ok-end.field-0 c.loop-at.invariant c.begins_line.ensures c.in_ok-end.ensures.gives c.in-None.is c.in_ok-end.ensures.inside
+    reached_skip c.args.text.now c.loop-at.at (progress c.loop-at.gathered) c.in_ok-end.field-0 c.loop-at.invariant c.in_ok-end.ensures.exact.good c.in-None.is c.in_ok-end.ensures.inside
 
 pub returns-clause-games : goal.returns-clause-games
 returns-clause-games c =

@@ -2,4 +2,4 @@ use Rattle.tree_manager.proofs.SharedLemmas.{grows_turn}
 use Rattle.tree_manager.proofs.shared.SharedBench.stage.Goals as goal
 
 pub returns-clause-grows : goal.returns-clause-grows
-returns-clause-grows g c = grows_turn _ _ _ _ _ c.enter-session.ensures.grows c.enter-session.ensures.whole c.stage-answer.ensures.grows c.leave.ensures.front
+returns-clause-grows g c = grows_turn _ _ _ _ _ c.enter-session.ensures.grows c.enter-session.ensures.whole c.stage_numbered-answer.ensures.grows c.leave.ensures.front
