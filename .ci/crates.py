@@ -2,7 +2,7 @@
 """Fails where the table of docs/ARCHITECTURE.md does not name each crate of crates.txt, or names others than it stands on.
 
 Of the crates that a crate stands on, the table has those that stand under no other of them, in the order of crates.txt.
-Benchmark programs share one row, and of them the name alone is looked for. With `--write` the last column of the other rows is
+Benchmark programs share one row, and so do crates of tests; of them the name alone is looked for. With `--write` the last column of the other rows is
 written; a row that is missing is not.
 """
 import pathlib
@@ -54,9 +54,9 @@ def main():
         rows = {name: cell(stands_on, name) for name in rows if name in stands_on}
     failed = False
     for name in stands_on:
-        is_program = name.endswith("_bench") and name != "opening_bench"
+        is_beside = name.endswith(("_bench", "_tests")) and name != "opening_bench"
         named = any(f"`{name}`" in line for line in lines)
-        if (is_program and named) or rows.get(name) == cell(stands_on, name):
+        if (is_beside and named) or rows.get(name) == cell(stands_on, name):
             continue
         failed = True
         print(f"look: docs/ARCHITECTURE.md lacks the row of {name} with{cell(stands_on, name)}at its end", file=sys.stderr)

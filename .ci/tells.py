@@ -1,5 +1,5 @@
 #!/usr/bin/env python3
-"""Fails where code outside `bench_disk` names `TELLS`.
+"""Fails where code outside `bench_disk` and its tests names `TELLS`.
 
 A disk's `TELLS` says whether it tells its bytes. Clauses may ask for it; a body that branches on it would do something
 else on a real disk, where no clause on bytes holds. So clauses, ghost items and comments are cut away, and `TELLS` may
@@ -46,7 +46,7 @@ def behind(tokens, at, is_item):
 def main():
     status = 0
     for path in sorted(pathlib.Path("crates").glob("*/src/**/*.rt")):
-        if path.parts[1] == "bench_disk":
+        if path.parts[1] == "bench_disk" or path.parts[1:] == ("journal_tests", "src", "disks.rt"):
             continue
         for token, line in code_of(path.read_text(encoding="utf-8")):
             if token == "TELLS":

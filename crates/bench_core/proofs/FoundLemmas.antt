@@ -1,21 +1,17 @@
 -- What a search under a live lease gives is a result of its leaf.
-use Rattle.std.proofs.Common.{◌≡◌, ◌⊎◌, inl, inr, ℕ, zero, suc, ◌<◌, List, [], ◌∷◌, map, length, get_or, refl, ap, sym, ◌∙◌, subst, ⊎_elim, arith}
-use Rattle.std.specs.Prelude.{Bool, true, false, cond, not, ◌&&◌, ◌||◌, Contains, All, Any, IsTrue, Option, IfSome}
-use Rattle.std.specs.List.{AllByRecursion as Each}
-use Rattle.std.proofs.lemmas.Bool.{true≢false, false≢true, and_parts, or_left, eq-eqb, false_from_ne_true}
+use Rattle.std.proofs.Common.{◌≡◌, inl, inr, ℕ, List, [], ◌∷◌, map, get_or, refl, ap, sym, ◌∙◌, subst, ⊎_elim, arith}
+use Rattle.std.specs.Prelude.{Bool, true, false, not, ◌&&◌, ◌||◌, Contains, All, Any, Option, IfSome}
+use Rattle.std.proofs.lemmas.Bool.{true≢false, false≢true, eq-eqb, false_from_ne_true}
 use Rattle.draughts_board.specs.declared.pieces.Side.{Side}
 use Rattle.draughts_board.specs.declared.pieces.Side.TheVariants.{Black, White}
-use Rattle.draughts_board.specs.declared.pieces.Value.{Value}
-use Rattle.draughts_board.specs.declared.pieces.Value.TheVariants as value
-use Rattle.draughts_board.specs.Board.{Board, IsLawful, other}
-use Rattle.draughts_board.specs.Game.{Wins, Holds, HasValue, ShowsWin, ShowsHold, is_at_sight}
+use Rattle.draughts_board.specs.Board.{Board, other}
+use Rattle.draughts_board.specs.Game.{Wins, ShowsWin, ShowsHold, is_at_sight}
 use Rattle.draughts_board.specs.Draughts.{draughts}
 use Rattle.draughts_board.specs.Play.{successors_of}
 use Rattle.draughts_board.proofs.Truth.{other-other}
-use Rattle.proof_numbers.specs.Known.{Known, knows_win, knows_hold, joined, includes}
-use Rattle.proof_numbers.specs.Numbers.{is_resolved, proved, refuted}
-use Rattle.proof_tree.specs.declared.rows.Mark.TheVariants.{Unexpanded}
-use Rattle.proof_tree.specs.Forest.{Forest, Node, node_at, node_numbers, numbers, numbers_by_mark}
+use Rattle.proof_numbers.specs.Known.{Known, knows_win, knows_hold, includes}
+use Rattle.proof_numbers.specs.Numbers.{is_resolved}
+use Rattle.proof_tree.specs.Forest.{Node, node_at, node_numbers}
 use Rattle.proof_tree.specs.Sound.{IsSoundNode}
 use Rattle.proof_tree.proofs.EachNode.{EachNode-at}
 use Rattle.strategy_certificate.specs.declared.claims.Claim.{Claim}
@@ -26,20 +22,21 @@ use Rattle.strategy_certificate.specs.Claims.{TellsWin, TellsHold, Settles, IsOf
 use Rattle.bench_records.specs.Texts.{ShowsEnough}
 use Rattle.strategy_certificate.specs.declared.oracle.Answer.{Answer}
 use Rattle.strategy_certificate.specs.Tables.{IsSoundTable}
-use Rattle.certificate_checker.specs.Answers.{IsFinding, IsAnswer}
+use Rattle.certificate_checker.specs.Answers.{IsAnswer}
 use Rattle.certificate_checker.specs.Sight.{IsAtSight, AreChildren}
-use Rattle.certificate_checker.specs.declared.outcomes.Exhausted.{Exhausted}
+use Rattle.certificate_checker.specs.declared.outcomes.Exhausted.{Exhausted as Search}
 use Rattle.certificate_checker.specs.declared.outcomes.Outcome.TheVariants as outcomes
-use Rattle.certificate_joiner.specs.Certified.{IsShelved}
 use Rattle.lease_table.specs.declared.leases.Lease.{Lease}
-use Rattle.lease_table.specs.declared.leases.Row.{Row}
 use Rattle.bench_records.specs.declared.records.BenchRecord.{BenchRecord}
 use Rattle.bench_records.specs.declared.records.BenchRecord.TheVariants as records
 use Rattle.certificate_checker.specs.Told.{facts_claimed, facts_shown}
-use Rattle.bench_core.specs.Growing.{IsLeafWith, MayBeSolved, MayBeExpanded}
-use Rattle.bench_core.specs.States.{CoreState, IsFoundUnder, IsExhaustedAt, TellsAllFound, IsOpenFor, IsSoundRow, IsSoundBy}
+use Rattle.bench_core.specs.States.{CoreState, IsFoundUnder, IsExhaustedAt, IsSoundRow, IsSoundBy}
 use Rattle.bench_core.specs.Answers.{unkept}
-use Rattle.bench_core.specs.Cores.{IsOutcomeOf}
+use Rattle.bench_core.specs.Cores.{Core, IsResult, MayStage, IsOutcomeOf, record_of}
+use Rattle.bench_core.specs.Benches.{record_staged, IsPrepared}
+use Rattle.bench_core.specs.Results.{outcome_of, IsTold, staged_of}
+use Rattle.bench_core.specs.declared.results.Found.{Found}
+use Rattle.bench_core.specs.declared.results.Found.TheVariants.{Solved, Exhausted}
 use Rattle.bench_core.proofs.AtSight.{win_seen, hold_seen, children_back}
 use Rattle.bench_core.proofs.Lists.{Each-contains, Contains-cases}
 use Rattle.certificate_checker.proofs.FactLemmas.{claim_told_win, claim_told_hold, win_left, win_right, hold_left, hold_right}
@@ -153,7 +150,7 @@ module _ (recs : List BenchRecord) (s : CoreState) (lease : Lease) (sound : IsSo
       }
 
   -- what is not shown so far ahead is of a leaf that may be expanded
-  exhausted_at : (e : Exhausted) → IsOutcomeOf lease (outcomes.Exhausted e) → IsExhaustedAt s.settings.pieces lease.goal s.settings.depth row.leaf.leaf.own.position
+  exhausted_at : (e : Search) → IsOutcomeOf lease (outcomes.Exhausted e) → IsExhaustedAt s.settings.pieces lease.goal s.settings.depth row.leaf.leaf.own.position
   exhausted_at e out =
       let p = row.leaf.leaf.own.position in
       subst (λ (k : ℕ). IsExhaustedAt k lease.goal s.settings.depth p) (out.1.1.1 ∙ row.pieces)
@@ -162,7 +159,7 @@ module _ (recs : List BenchRecord) (s : CoreState) (lease : Lease) (sound : IsSo
       (subst (λ (q : Board). IsExhaustedAt e.pieces e.goal e.depth q) (out.0 ∙ row.leaf.holds.position)
       (record { no_win = e.no_win; no_hold = e.no_hold }))))
 
-  pub exhausted_found : (e : Exhausted) → IsOutcomeOf lease (outcomes.Exhausted e) → IsFoundUnder s lease (records.Expand lease.node)
+  pub exhausted_found : (e : Search) → IsOutcomeOf lease (outcomes.Exhausted e) → IsFoundUnder s lease (records.Expand lease.node)
   exhausted_found e out =
       let l = row.leaf in
       let k = s.settings.pieces in
@@ -184,7 +181,7 @@ module _ (recs : List BenchRecord) (s : CoreState) (lease : Lease) (sound : IsSo
       }
 
   -- its children are the successors of the leaf, with their facts at sight
-  pub exhausted_children : (answer : Board → Option Answer) → IsSoundTable draughts s.settings.pieces answer → (e : Exhausted) → IsOutcomeOf lease (outcomes.Exhausted e)
+  pub exhausted_children : (answer : Board → Option Answer) → IsSoundTable draughts s.settings.pieces answer → (e : Search) → IsOutcomeOf lease (outcomes.Exhausted e)
       → IfSome (node_at lease.node s.forest) (λ x. AreChildren s.settings.pieces x.own.position e.children)
   exhausted_children answer table e out =
       let l = row.leaf in
@@ -195,6 +192,25 @@ module _ (recs : List BenchRecord) (s : CoreState) (lease : Lease) (sound : IsSo
       let some = subst (λ (n : ℕ). ∥ All (IsAtSight n) e.children ∥₁) (out.1.1.1 ∙ row.pieces) e.facts in
       subst (λ (o : Option Node). IfSome o (λ x. AreChildren k x.own.position e.children)) (sym l.there)
       (record { positions = are; facts = children_back k answer table p lawful e.children are some })
+
+  -- a result of the lease's search is found under it, and what is staged of it is prepared
+  pub result_found : (found : Found) → IsOutcomeOf lease (outcome_of found) → IsTold found → IsFoundUnder s lease (record_of lease (outcome_of found))
+  result_found (Solved facts shown) own told = solved_found shown told.0 own
+  result_found (Exhausted e) own told = exhausted_found e own
+
+  pub result_prepared : (answer : Board → Option Answer) → IsSoundTable draughts s.settings.pieces answer → (found : Found) → IsOutcomeOf lease (outcome_of found) → IsTold found
+      → IsPrepared s (staged_of lease lease.node found)
+  result_prepared answer table (Solved facts shown) own told = told.1
+  result_prepared answer table (Exhausted e) own told = exhausted_children answer table e own
+
+-- what is staged of a result is its record, and a record of a search
+pub staged_is : (lease : Lease) (found : Found) → record_staged (staged_of lease lease.node found) ≡ record_of lease (outcome_of found)
+staged_is lease (Solved facts shown) = refl
+staged_is lease (Exhausted e) = refl
+
+pub may_stage : (core : Core) (lease : Lease) (found : Found) → IsResult core (record_of lease (outcome_of found)) → MayStage core (record_of lease (outcome_of found))
+may_stage core lease (Solved facts shown) may = may
+may_stage core lease (Exhausted e) may = may
 
 -- ---- its text
 

@@ -13,6 +13,7 @@ use Rattle.bench_core.specs.declared.staged.Staged.{Staged}
 use Rattle.bench_core.specs.declared.staged.Staged.TheVariants.{Begin, Solve, Expand}
 use Rattle.bench_core.specs.Grown.{GrownState}
 use Rattle.bench_core.specs.Benches.{record_staged, nodes_made}
+use Rattle.proof_tree.specs.declared.tree.TheConstants.{MOST_ROOTS}
 
 abbrev pub forest_after : Staged → Forest → Forest
 forest_after (Begin child) roots = with_root child.position (known child.facts) roots
@@ -27,7 +28,7 @@ leases_after (Expand lease n children) t = record t { rows = without lease t.row
 abbrev pub CanApply : GrownState → LeaseRows → ℕ → Staged → Type 0
 CanApply grown t given (Begin child) =
     (¬ Contains (root_positions grown.forest) child.position)
-    × ((length (nodes grown.forest) < 65536) × ((1 ≤ grown.nodes) × (1 ≤ grown.room)))
+    × ((length (nodes grown.forest) < MOST_ROOTS) × ((1 ≤ grown.nodes) × (1 ≤ grown.room)))
 CanApply grown t given (Solve lease n p facts shown) =
     IsSomeAnd (node_at n grown.forest) (λ x. x.own.mark ≡ Unexpanded)
     × (IfSome (node_at n grown.forest) (λ x. IsConsistent (joined x.own.facts (known facts)))

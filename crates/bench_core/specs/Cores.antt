@@ -16,6 +16,7 @@ use Rattle.bench_core.specs.declared.settings.Settings.{Settings}
 use Rattle.bench_core.specs.Records.{is_work, is_work_on, begun}
 use Rattle.bench_core.specs.Growing.{MayBegin, GrowsWithAll}
 use Rattle.bench_core.specs.States.{CoreState, Event, Finds, BeginsRoot, AsksLease, Releases, with_lease_rows, IsFoundUnder, IsRun, IsSoundBy}
+use Rattle.proof_tree.specs.declared.tree.TheConstants.{MOST_ROOTS}
 
 pub record Core : Type 0 where
   pub state : CoreState
@@ -168,4 +169,4 @@ pub record IsSoundCore (core : Core) : Type 0 where
   pub own : AreOfOwnNodes core.staged
   pub lawful : All IsLawful (begun core.staged)
   pub distinct : IsDistinct same_board (root_positions core.state.forest ++ begun core.staged)
-  pub room : length (root_positions core.state.forest ++ begun core.staged) ≤ 65536
+  pub room : length (root_positions core.state.forest ++ begun core.staged) ≤ MOST_ROOTS

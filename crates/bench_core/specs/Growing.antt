@@ -18,6 +18,7 @@ use Rattle.certificate_checker.specs.Told.{facts_shown}
 use Rattle.certificate_joiner.specs.Certified.{IsShelved}
 use Rattle.bench_records.specs.declared.records.BenchRecord.{BenchRecord}
 use Rattle.bench_records.specs.declared.records.BenchRecord.TheVariants.{Begin, Solve, Expand}
+use Rattle.proof_tree.specs.declared.tree.TheConstants.{MOST_ROOTS}
 
 -- ---- lawful records
 
@@ -44,7 +45,7 @@ pub record MayBeExpanded (k : ℕ) (leaf : Node) : Type 0 where
 pub record MayBegin (p : Board) (roots : List Board) : Type 0 where
   pub lawful : IsLawful p
   pub absent : ¬ Contains roots p
-  pub room : length roots < 65536
+  pub room : length roots < MOST_ROOTS
 
 abbrev pub IsLawfulRecord : ℕ → Forest → BenchRecord → Type 0
 IsLawfulRecord k roots (Begin p) = MayBegin p (root_positions roots)

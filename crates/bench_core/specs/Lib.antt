@@ -5,6 +5,7 @@ pub mod States
 pub mod Cores
 pub mod Answers
 pub mod Benches
+pub mod Results
 pub mod Applying
 pub mod Replaying
 pub mod Laws

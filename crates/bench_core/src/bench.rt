@@ -3,12 +3,13 @@ use crate::applying::{apply, end, keep};
 use crate::grown::GrownTree;
 use crate::refusals::{LeaseRefusal, ReadyRefusal, ReplayRefusal};
 use crate::replaying::{replay_begin, replay_expand, replay_solve};
+use crate::results::{Found, LeaseResult};
 use crate::settings::{MOST_WORK, Settings};
-use crate::shown::{certificates_of, is_same_lease, solve_text};
+use crate::shown::is_same_lease;
 use crate::staged::Staged;
 use crate::taken::{LeasedNodes, lease_at};
 use bench_records::{BenchRecord, encode};
-use certificate_checker::{Exhausted, Outcome, ProofList, child_at_sight, told_by_all};
+use certificate_checker::{Outcome, child_at_sight};
 use draughts_board::Position;
 use lease_table::{Lease, LeaseId, Leases, Stale};
 use proof_numbers::Child;
@@ -54,6 +55,8 @@ impl Model for Bench {
 }
 
 impl Bench {
+    ghost use Rattle.proof_tree.specs.declared.tree.TheConstants.{MOST_ROOTS};
+    ghost use Rattle.bench_core.specs.declared.settings.TheConstants.{MOST_WORK, MOST_LEASE};
     ghost use Rattle.std.specs.Prelude.{◌≡◌, ◌≢◌, ◌≤◌, ◌<◌, ◌+◌, ◌-◌, ◌^◌, ◌++◌, ◌∷◌, [], ℕ, List, Contains, length, min, count_by, slice_get, Option, Ok, IfOk, IfErr, IfSome, IsSome, OnOk, OnErr, IsTrue, ◌↔◌, Some, false};
     ghost use Rattle.draughts_board.specs.Board.{Board};
     ghost use Rattle.draughts_board.specs.Draughts.{draughts};
@@ -70,21 +73,20 @@ impl Bench {
     ghost use Rattle.bench_records.specs.Texts.{IsText};
     ghost use Rattle.bench_core.specs.Records.{is_work, begun};
     ghost use Rattle.bench_core.specs.States.{HasRow, IsFoundUnder, lease_answer, with_lease, with_lease_rows};
-    ghost use Rattle.bench_core.specs.Cores.{Core, IsSoundCore, new_core, with_budget, with_staged, MayStage, IsResult, IsOutcomeOf, record_of, with_record, IsForgotten, IsCommitted, CanApplyAll};
-    ghost use Rattle.certificate_checker.specs.Answers.{IsAnswer};
+    ghost use Rattle.bench_core.specs.Cores.{Core, IsSoundCore, new_core, with_budget, with_staged, MayStage, IsOutcomeOf, record_of, with_record, IsForgotten, IsCommitted, CanApplyAll};
     ghost use Rattle.certificate_checker.specs.Sight.{IsAtSight};
     ghost use Rattle.bench_core.specs.Benches.{record_staged, lease_kept, IsPrepared};
+    ghost use Rattle.bench_core.specs.Results.{outcome_of, IsTold};
     ghost use Rattle.bench_core.specs.Growing.{GrowsWith};
     ghost use Rattle.bench_core.specs.Answers.{RefusesLease, RefusesReady, RefusesReplay, unkept};
-    ghost use Rattle.certificate_checker.specs.declared.outcomes.Outcome.TheVariants as outcomes;
 
     /// A bench without roots. The caller knows that there is a sound table of so many pieces, as each oracle tells.
     pub fn new(alloc: Global, s: Settings) -> Result<Bench, AllocError>
         requires pieces { IsTableSize s.pieces }
         requires depth { s.depth ≤ 12 }
-        requires budget { s.budget ≤ 1000000 }
+        requires budget { s.budget ≤ MOST_WORK }
         requires lasts { 1 ≤ s.lease }
-        requires lease { s.lease ≤ 1000000000 }
+        requires lease { s.lease ≤ MOST_LEASE }
         requires table { (answer : Board → Option Answer) × IsSoundTable draughts s.pieces answer }
         ensures { IfOk result (λ bench. bench ≡ new_core s) }
     {
@@ -107,7 +109,7 @@ impl Bench {
         requires given { self.old.state.given ≡ 0 }
         requires staged { self.old.staged ≡ [] }
         ensures { self.new ≡ with_budget (min self.old.state.settings.budget
-            (1000000 - count_by is_work self.old.records)) self.old }
+            (MOST_WORK - count_by is_work self.old.records)) self.old }
     {
         let replayed = self.grown.work_records();
         let left = (MOST_WORK as usize).saturating_sub(replayed);
@@ -247,7 +249,7 @@ impl Bench {
         requires absent { ¬ Contains (root_positions self.old.state.forest
             ++ begun self.old.staged) p }
         requires room { length (root_positions self.old.state.forest
-            ++ begun self.old.staged) < 65536 }
+            ++ begun self.old.staged) < MOST_ROOTS }
         ensures staged { OnOk result (self.new ≡ with_staged self.old (records.Begin p)) }
         ensures may { OnOk result (MayStage self.old (records.Begin p)) }
         ensures grows { OnOk result (CanApplyAll self.new) }
@@ -298,13 +300,29 @@ impl Bench {
         ensures refused { IfErr result (RefusesReady self.old.state lease.now) }
         ensures unchanged { OnErr result (self.new ≡ self.old) }
     {
-        if !self.is_open(lease) {
+        let found = LeaseResult::new(self.alloc, lease, outcome)?;
+        self.ready_result(found)
+    }
+
+    /// Stages a result that is made already, as `ready` does. It copies no certificate and encodes nothing.
+    pub fn ready_result(&mut self, found: LeaseResult) -> Result<Vec<u8>, ReadyRefusal>
+        ensures live { OnOk result (Contains self.old.state.leases.rows (unkept found.lease)) }
+        ensures staged { OnOk result
+            (self.new ≡ with_staged self.old (record_of found.lease found.outcome)) }
+        ensures may { OnOk result (MayStage self.old (record_of found.lease found.outcome)) }
+        ensures grows { OnOk result (CanApplyAll self.new) }
+        ensures text { IfOk result (λ text. (before : List Record)
+            → IsText self.old.state.settings.pieces before
+            (record_of found.lease found.outcome) text.items) }
+        ensures refused { IfErr result (RefusesReady self.old.state found.lease) }
+        ensures unchanged { OnErr result (self.new ≡ self.old) }
+    {
+        let LeaseResult { lease, found, text } = found;
+        if !self.is_open(&lease) {
             return Err(ReadyRefusal::Stale(lease.id));
         }
-        match outcome {
-            Outcome::Solved(found) => Ok(self.ready_solved(lease, found)?),
-            Outcome::Exhausted(exhausted) => Ok(self.ready_expanded(lease, exhausted)?),
-        }
+        self.stage_found(&lease, found)?;
+        Ok(text)
     }
 
     /// Whether a live row that is not kept is this lease.
@@ -323,62 +341,23 @@ impl Bench {
         !self.leases.is_kept(lease.id)
     }
 
-    /// Stages what solves the node of an open lease, and gives the text of its record.
-    fn ready_solved(&mut self, lease: &Lease, found: ProofList) -> Result<Vec<u8>, AllocError>
+    /// Stages what the search under an open lease found.
+    fn stage_found(&mut self, lease: &Lease, found: Found) -> Result<(), AllocError>
         requires live { Contains self.old.state.leases.rows (unkept lease.now) }
-        requires answer { IsAnswer lease.now.pieces lease.now.goal lease.now.depth
-            lease.now.position found }
-        ensures staged { OnOk result (self.new ≡ with_staged self.old
-            (records.Solve lease.now.node lease.now.position found)) }
-        ensures may { OnOk result
-            (IsResult self.old (records.Solve lease.now.node lease.now.position found)) }
-        ensures grows { OnOk result (CanApplyAll self.new) }
-        ensures text { IfOk result (λ text. (before : List Record)
-            → IsText self.old.state.settings.pieces before
-            (records.Solve lease.now.node lease.now.position found) text.items) }
-        ensures unchanged { OnErr result (self.new ≡ self.old) }
-    {
-        let facts = told_by_all(found.as_slice());
-        let shown = certificates_of(self.alloc, found)?;
-        let (shown, text) = solve_text(self.alloc, lease.node, lease.position, shown)?;
-        let Some(node) = self.grown.tree().leaf(lease.node) else {
-            unreachable!()
-        };
-        let item = Staged::Solve {
-            lease: lease.id,
-            node,
-            position: lease.position,
-            facts,
-            shown,
-        };
-        self.stage_work(lease.id, item)?;
-        Ok(text)
-    }
-
-    /// Stages what expands the node of an open lease, and gives the text of its record.
-    fn ready_expanded(&mut self, lease: &Lease, e: Exhausted) -> Result<Vec<u8>, AllocError>
-        requires live { Contains self.old.state.leases.rows (unkept lease.now) }
-        requires outcome { IsOutcomeOf lease.now (outcomes.Exhausted e) }
+        requires outcome { IsOutcomeOf lease.now (outcome_of found) }
+        requires told { IsTold found }
         ensures staged { OnOk result
-            (self.new ≡ with_staged self.old (records.Expand lease.now.node)) }
-        ensures may { OnOk result (IsResult self.old (records.Expand lease.now.node)) }
+            (self.new ≡ with_staged self.old (record_of lease.now (outcome_of found))) }
+        ensures may { MayStage self.old (record_of lease.now (outcome_of found)) }
+        ensures tables { lease.now.pieces ≡ self.old.state.settings.pieces }
         ensures grows { OnOk result (CanApplyAll self.new) }
-        ensures text { IfOk result (λ text. (before : List Record)
-            → IsText self.old.state.settings.pieces before
-            (records.Expand lease.now.node) text.items) }
         ensures unchanged { OnErr result (self.new ≡ self.old) }
     {
-        let text = encode(self.alloc, &BenchRecord::Expand { node: lease.node })?;
         let Some(node) = self.grown.tree().leaf(lease.node) else {
             unreachable!()
         };
-        let item = Staged::Expand {
-            lease: lease.id,
-            node,
-            children: e.children,
-        };
-        self.stage_work(lease.id, item)?;
-        Ok(text)
+        let item = found.into_staged(lease, node);
+        self.stage_work(lease.id, item)
     }
 
     /// Stages the record of an open lease's search, and keeps the lease for it.

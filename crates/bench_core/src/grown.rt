@@ -35,6 +35,7 @@ impl Model for GrownTree {
 }
 
 impl GrownTree {
+    ghost use Rattle.proof_tree.specs.declared.tree.TheConstants.{MOST_ROOTS};
     ghost use Rattle.std.specs.Prelude.{◌≡◌, ◌≤◌, ◌<◌, ◌-◌, ◌+◌, ◌++◌, ◌∷◌, [], Contains, length, map, count_by, slice_get, IfOk, IfSome, IsSome, IsSomeAnd, OnOk};
     ghost use Rattle.draughts_board.specs.Play.{successors_of};
     ghost use Rattle.proof_numbers.specs.Facts.{known};
@@ -89,7 +90,7 @@ impl GrownTree {
     /// Adds a root.
     pub(crate) fn begin(&mut self, root: Child)
         requires absent { ¬ Contains (root_positions self.old.forest) root.position }
-        requires few { length (nodes self.old.forest) < 65536 }
+        requires few { length (nodes self.old.forest) < MOST_ROOTS }
         requires nodes { 1 ≤ self.old.nodes }
         requires room { 1 ≤ self.old.room }
         ensures forest { self.new.forest

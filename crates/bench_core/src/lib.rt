@@ -13,6 +13,7 @@ mod grown;
 pub mod laws;
 mod refusals;
 mod replaying;
+mod results;
 mod settings;
 mod shown;
 mod staged;
@@ -20,5 +21,6 @@ mod taken;
 
 pub use bench::Bench;
 pub use refusals::{LeaseRefusal, ReadyRefusal, ReplayRefusal};
-pub use settings::{MOST_WORK, Settings};
+pub use results::LeaseResult;
+pub use settings::{MOST_LEASE, MOST_WORK, Settings};
 pub use taken::LeasedNodes;

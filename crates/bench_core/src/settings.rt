@@ -3,6 +3,9 @@
 /// The work records that all sessions of one journal may have together.
 pub const MOST_WORK: u32 = 1_000_000;
 
+/// For so many leases given a lease lasts at most.
+pub const MOST_LEASE: u32 = 1_000_000_000;
+
 /// What a bench is made for.
 #[derive(Clone, Copy, PartialEq, Eq, Debug)]
 pub struct Settings {

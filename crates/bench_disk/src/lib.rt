@@ -22,8 +22,6 @@ mod file_handle;
 mod handle_disk;
 mod memory_disk;
 mod short_file;
-#[cfg(test)]
-mod tests;
 mod torn;
 mod whole;
 

@@ -9,8 +9,6 @@ mod reader;
 mod reading;
 mod records;
 mod refusal;
-#[cfg(test)]
-mod tests;
 mod writing;
 
 pub use reading::decode;

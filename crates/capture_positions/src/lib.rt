@@ -12,8 +12,6 @@ pub mod examples;
 mod jumps;
 pub mod laws;
 mod openings;
-#[cfg(test)]
-mod tests;
 
 pub use jumps::{JUMP_COUNT, OTHER_COUNT};
 pub use openings::{INDEX_COUNT, MAX_OPENINGS, SEED_FACTOR, STEP_FACTOR, capture_positions};

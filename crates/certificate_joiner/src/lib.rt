@@ -13,8 +13,6 @@ mod shelf;
 mod shown;
 mod stepping;
 mod steps;
-#[cfg(test)]
-mod tests;
 
 pub use certificates::join;
 pub use shelf::PartShelf;

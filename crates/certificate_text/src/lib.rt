@@ -7,8 +7,6 @@ mod lines;
 mod printing;
 mod reading;
 mod refusal;
-#[cfg(test)]
-mod tests;
 
 pub use printing::{claim_word, print_certificate};
 pub use reading::read_certificate;

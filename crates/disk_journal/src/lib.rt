@@ -22,8 +22,6 @@ mod load;
 mod payload;
 mod reader;
 mod refusal;
-#[cfg(test)]
-mod tests;
 
 pub use journal::{Journal, Receipt};
 pub use load::read_journal;

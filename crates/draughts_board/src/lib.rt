@@ -18,8 +18,6 @@ mod pieces;
 mod positions;
 mod resolution;
 mod squares;
-#[cfg(test)]
-mod tests;
 
 pub use paths::Move;
 pub use pieces::{Cell, Side, Value};

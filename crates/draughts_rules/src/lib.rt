@@ -18,8 +18,6 @@ mod pieces;
 mod resolution;
 mod square_list;
 mod steps;
-#[cfg(test)]
-mod tests;
 
 pub use draughts_board::ResolveRefusal;
 pub use move_lists::{has_move, legal_moves};

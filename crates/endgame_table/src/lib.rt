@@ -14,8 +14,6 @@ mod numbers;
 mod origins;
 mod rounds;
 mod table;
-#[cfg(test)]
-mod tests;
 
 pub use bytes::table_bytes;
 pub use filling::fill;

@@ -19,6 +19,3 @@ pub use laws::{printed_is_plain, printed_is_spelled, printed_tells_apart, spelle
 pub use printing::print_fen;
 pub use reading::read_fen;
 pub use refusal::FenRefusal;
-
-#[cfg(test)]
-mod tests;

@@ -19,6 +19,7 @@ use Rattle.opening_report.specs.declared.roots.Root.{Root}
 use Rattle.opening_report.specs.Report.{forest_roots, report_of, AreTrueRoots}
 use Rattle.journal_looks.specs.declared.refusals.LookRefusal.{LookRefusal}
 use Rattle.journal_looks.specs.declared.refusals.LookRefusal.TheVariants.{Journal, NoRoot, UnsettledRoot}
+use Rattle.proof_tree.specs.declared.tree.TheConstants.{MOST_ROOTS}
 
 -- ---- what a file shows
 
@@ -62,7 +63,7 @@ pub record Certifies (file : List ℕ) (n : ℕ) (c : Certificate) : Type 0 wher
 -- the text is the report on roots whose values are true
 pub record IsTrueReport (text : List ℕ) : Type 0 where
   pub roots : List Root
-  pub few : length roots ≤ 65536
+  pub few : length roots ≤ MOST_ROOTS
   pub text_is : text ≡ report_of roots
   pub values : AreTrueRoots roots
 

@@ -7,8 +7,6 @@
 mod looks;
 mod reading;
 mod refusals;
-#[cfg(test)]
-mod tests;
 
 pub use looks::{Looked, certify, report};
 pub use refusals::LookRefusal;

@@ -21,6 +21,7 @@ use Rattle.journal_runs.specs.declared.refusals.JournalFlaw.TheVariants as flaw
 use Rattle.journal_runs.specs.declared.refusals.RunRefusal.{RunRefusal}
 use Rattle.journal_runs.specs.declared.refusals.RunRefusal.TheVariants as refusal
 use Rattle.journal_runs.specs.Ample.{IsAmple}
+use Rattle.proof_tree.specs.declared.tree.TheConstants.{MOST_ROOTS}
 
 -- ---- a session's work
 
@@ -80,7 +81,7 @@ abbrev pub IsWorkRefusal : {D : Type 0} → SessionState D → List Board → Ru
 IsWorkRefusal s positions refusal.Disk = Unit {0}
 IsWorkRefusal s positions (refusal.Journal e) = ⊥
 IsWorkRefusal s positions refusal.TooManyRoots =
-    65536 < length (with_roots (root_positions s.core.state.forest) positions)
+    MOST_ROOTS < length (with_roots (root_positions s.core.state.forest) positions)
 IsWorkRefusal s positions refusal.Memory = Unit {0}
 
 -- the journal's refusal for what stands on its disk

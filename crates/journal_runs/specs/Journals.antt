@@ -22,6 +22,7 @@ use Rattle.journal_runs.specs.declared.runs.Account.{Account}
 use Rattle.journal_runs.specs.declared.runs.Account.TheVariants.{Report, Summary}
 use Rattle.journal_runs.specs.Ample.{IsAmple}
 use Rattle.journal_runs.specs.Ends.{refusal_of_flaw}
+use Rattle.proof_tree.specs.declared.tree.TheConstants.{MOST_ROOTS}
 
 -- ---- what is left of the disk
 
@@ -75,7 +76,7 @@ module _ {D : Type 0} (reads : D → List ℕ) (images : D → List ℕ → Type
 -- one of them, and no position is two of them.
 pub record ReportsTruth (positions : List Board) (text : List ℕ) : Type 0 where
   pub roots : List Root
-  pub few : length roots ≤ 65536
+  pub few : length roots ≤ MOST_ROOTS
   pub true_values : AreTrueRoots roots
   pub text_is : text ≡ report_of roots
   pub each : (p : Board) → Contains positions p
@@ -113,5 +114,5 @@ IsCaused pieces positions file (refusal.Journal flaw) =
     × ((before : List BenchRecord) → ¬ ReadsRecords pieces file before)
 IsCaused pieces positions file refusal.TooManyRoots =
     (before : List BenchRecord) × (ReadsRecords pieces file before
-    × (65536 < length (with_roots (begun before) positions)))
+    × (MOST_ROOTS < length (with_roots (begun before) positions)))
 IsCaused pieces positions file refusal.Memory = Unit {0}

@@ -7,8 +7,6 @@
 mod alone;
 mod refusals;
 mod runs;
-#[cfg(test)]
-mod tests;
 mod together;
 
 pub use alone::work_alone;

@@ -10,6 +10,8 @@ ghost use Rattle.worker_gate.specs.Work.{CanSearch};
 ghost use Rattle.journal_runs.specs.Ends.{GoesOnFrom, HasRun, HasWorked, IsIdle, IsWorkRefusal};
 ghost use Rattle.journal_runs.specs.Journals.{IsCaused, IsTrueAccount, KeepsJournal, Resumes, account_of};
 ghost use Rattle.journal_runs.specs.declared.refusals.RunRefusal.TheVariants as refusal;
+ghost use Rattle.proof_tree.specs.declared.tree.TheConstants.{MOST_ROOTS};
+ghost use Rattle.bench_core.specs.declared.settings.TheConstants.{MOST_WORK, MOST_LEASE};
 
 use crate::refusals::{RunRefusal, refusal_of};
 use crate::together::work_together;
@@ -61,9 +63,9 @@ pub fn solve<R: Threads + Wait + Sync, D: Disk + Send, G: Gate + Sync>(
 ) -> (D, Result<Ran, RunRefusal>)
     requires tables { table.now.pieces ≡ settings.pieces }
     requires depth { settings.depth ≤ MOST_DEPTH }
-    requires budget { settings.budget ≤ 1000000 }
+    requires budget { settings.budget ≤ MOST_WORK }
     requires lasts { 1 ≤ settings.lease }
-    requires lease { settings.lease ≤ 1000000000 }
+    requires lease { settings.lease ≤ MOST_LEASE }
     ensures leaves { IsHonest D.TELLS → NothingPending (D.reads disk) (D.images disk) →
         KeepsJournal D.reads D.images D.images_since D.moment D.faults
         settings.pieces disk result.0 }
@@ -141,7 +143,7 @@ fn report_on<D: Disk, O: Oracle>(
         ran.text.items ≡ report_of (forest_roots session.now.core.state.forest)) }
     ensures settled { IfOk result (λ ran. ran.is_settled ≡ is_settled) }
     ensures values { OnOk result (AreTrueRoots (forest_roots session.now.core.state.forest)) }
-    ensures few { OnOk result (length (forest_roots session.now.core.state.forest) ≤ 65536) }
+    ensures few { OnOk result (length (forest_roots session.now.core.state.forest) ≤ MOST_ROOTS) }
     ensures refused { IfErr result (λ r. r ≡ refusal.Memory) }
 {
     match report_text(alloc, session.bench(), oracle) {

@@ -16,6 +16,3 @@ pub use fortress::prove_fortress;
 pub use leaf::{MOST_DEPTH, search};
 pub use memo::Memo;
 pub use sight::is_undecided;
-
-#[cfg(test)]
-mod tests;

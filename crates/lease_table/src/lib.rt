@@ -8,8 +8,6 @@
 pub mod laws;
 mod leases;
 mod table;
-#[cfg(test)]
-mod tests;
 
 pub use leases::{Lease, LeaseId, Row, Stale};
 pub use table::Leases;

@@ -1,6 +1,6 @@
 -- What a refusal comes of: its status shows whether the source failed, or the disk.
 use Rattle.std.proofs.Common.{◌≡◌, ◌≢◌, ℕ, inl, inr, Bool, List, [], Option, refl, sym, ◌∙◌, ap, subst}
-use Rattle.std.specs.Prelude.{IfOk, IfErr, OnOk, Result, Ok, Err}
+use Rattle.std.specs.Prelude.{IfOk, IfErr, Result, Ok, Err}
 use Rattle.std.specs.Io.KnownBytes.{IsAtEnd}
 use Rattle.shared_words.specs.Counts.{Rose}
 use Rattle.bench_disk.specs.Disk.{IsHonest}
@@ -32,11 +32,10 @@ use Rattle.opening_report.specs.Conversions.{of_pdn, of_openings, of_text, of_ch
 use Rattle.opening_report.specs.Report.{forest_roots, summary_line}
 use Rattle.opening_report.specs.declared.refusals.Refusal.{Refusal}
 use Rattle.opening_report.specs.declared.refusals.Refusal.TheVariants as refusal
-use Rattle.opening_bench.specs.Accepted.{IsGoodFor}
 use Rattle.opening_bench.specs.Bench.{IsCommandRefusal, IsCutShort, IsInput, ReadsSource, status_of}
 use Rattle.opening_bench.specs.Commands.{HasFault}
 use Rattle.opening_bench.specs.Disks.{HasDiskFault, IsRefusedRun, of_look, of_run}
-use Rattle.opening_bench.specs.Steps.{AcceptsBytes, AnswersBytes, RefusesBytes}
+use Rattle.opening_bench.specs.Steps.{AnswersBytes, RefusesBytes}
 use Rattle.opening_bench.specs.declared.commands.generate.TheConstants.{GENERATE_DEPTH, GENERATE_PIECES}
 
 -- ---- what a status shows
@@ -151,10 +150,6 @@ cut_blames B command source rest before after r (inl memory) = by_refusal (Rose 
 cut_blames B command source rest before after r (inr (inl read)) = by_refusal (Rose before after) B r refusal.Read read.0 (read_blames (Rose before after) B read.1.1)
 cut_blames B command source rest before after r (inr (inr long)) = by_refusal (Rose before after) B r refusal.TooLong long.0 (input_blames (Rose before after) B)
 
-pub on_ok : {X E : Type 0} (answer : Result X E) (P : Type 0) → P → OnOk answer P
-on_ok (Ok x) P p = p
-on_ok (Err e) P p = tt
-
 module _ {D : Type 0} (tells : Bool) (reads : D → List ℕ) (images : D → List ℕ → Type 0) (images_since : D → ℕ → List ℕ → Type 0) (moment faults : D → ℕ) where
   refused_run_blames : (A : Type 0) (pieces : ℕ) (positions : List Board) (old new : D) (r : Refusal) → IsRefusedRun tells reads images images_since moment faults pieces positions old new r
       → Blames A (Rose (faults old) (faults new)) (status_of r)
@@ -171,7 +166,8 @@ module _ {D : Type 0} (tells : Bool) (reads : D → List ℕ) (images : D → Li
   disk_fault_blames A TableCheck bytes old new r h = absurd h
   disk_fault_blames A (Generate seed count) bytes old new r h = refused_run_blames A GENERATE_PIECES (openings_from seed count) old new r h
 
-  command_blames : (command : Command) (source rest : Option (List ℕ)) (before after : ℕ) (old new : D) (r : Refusal)
+  -- what the status of a refused command shows
+  pub command_blames : (command : Command) (source rest : Option (List ℕ)) (before after : ℕ) (old new : D) (r : Refusal)
       → IsCommandRefusal tells reads images images_since moment faults command source rest before after old new r
       → Blames (Rose before after) (Rose (faults old) (faults new)) (status_of r)
   command_blames command source rest before after old new r (inl cut) = cut_blames (Rose (faults old) (faults new)) command source rest before after r cut
@@ -180,18 +176,8 @@ module _ {D : Type 0} (tells : Bool) (reads : D → List ℕ) (images : D → Li
   command_blames command source rest before after old new r (inr (inr disk)) =
       disk_fault_blames (Rose before after) command disk.input old new r disk.fault
 
-  -- what the status of a refused command shows
-  pub refused_blames : {X : Type 0} (command : Command) (source rest : Option (List ℕ)) (before after : ℕ) (old new : D) (answer : Result X Refusal) (r : Refusal) (status : Status)
-      → answer ≡ Err r → status ≡ status_of r
-      → IfErr answer (IsCommandRefusal tells reads images images_since moment faults command source rest before after old new)
-      → Blames (Rose before after) (Rose (faults old) (faults new)) status
-  refused_blames {X = X} command source rest before after old new answer r status is of h =
-      subst (Blames (Rose before after) (Rose (faults old) (faults new))) (sym of)
-      (command_blames command source rest before after old new r
-      (subst (λ (a : Result X Refusal). IfErr a (IsCommandRefusal tells reads images images_since moment faults command source rest before after old new)) is h))
-
   -- bytes that are refused, of a source that was read to its end
-  bytes_refuse : (command : Command) (source rest : Option (List ℕ)) (before after : ℕ) (bytes : List ℕ) (old new : D) (r : Refusal)
+  pub bytes_refuse : (command : Command) (source rest : Option (List ℕ)) (before after : ℕ) (bytes : List ℕ) (old new : D) (r : Refusal)
       → IsInput command source bytes → (ReadsSource command → IsAtEnd rest) → after ≡ before
       → RefusesBytes tells reads images images_since moment faults command bytes old new r
       → IsCommandRefusal tells reads images images_since moment faults command source rest before after old new r
@@ -200,15 +186,6 @@ module _ {D : Type 0} (tells : Bool) (reads : D → List ℕ) (images : D → Li
       inr (inl (record { input = bytes; is_input = is_input; fault = fault; end = end (fault_reads command bytes r fault); counted = counted }))
   bytes_refuse command source rest before after bytes old new r is_input end counted (inr fault) =
       inr (inr (record { input = bytes; is_input = is_input; fault = fault; end = end; counted = counted }))
-
-  pub source_refuses : {X : Type 0} (command : Command) (source rest : Option (List ℕ)) (before after : ℕ) (bytes seen : List ℕ) (old new : D) (answer : Result X Refusal) → seen ≡ bytes
-      → IsInput command source bytes → (ReadsSource command → IsAtEnd rest) → after ≡ before
-      → IfErr answer (RefusesBytes tells reads images images_since moment faults command seen old new)
-      → IfErr answer (IsCommandRefusal tells reads images images_since moment faults command source rest before after old new)
-  source_refuses command source rest before after bytes seen old new (Ok x) same is_input end counted h = tt
-  source_refuses command source rest before after bytes seen old new (Err r) same is_input end counted h =
-      bytes_refuse command source rest before after bytes old new r is_input end counted
-      (subst (λ (b : List ℕ). RefusesBytes tells reads images images_since moment faults command b old new r) same h)
 
   -- a look that gives no certificate
   pub uncertified : (X : Type 0) (root : ℕ) (old new : D) (fault : LookRefusal) (r : Refusal) → r ≡ of_look fault
@@ -239,23 +216,3 @@ module _ {D : Type 0} (tells : Bool) (reads : D → List ℕ) (images : D → Li
   counts_refuse seed count positions seen old new (Ok x) is same h = tt
   counts_refuse seed count positions seen old new (Err r) is same h =
       inr (subst (λ (ps : List Board). IsRefusedRun tells reads images images_since moment faults GENERATE_PIECES ps old new r) (same ∙ is) h)
-
-  -- .. whatever bytes there are, since none are read
-  pub generated_answers : {X : Type 0} (command : Command) (seed count : ℕ) (bytes : List ℕ) (old new : D) (answer : Result X Refusal) (text : X → List ℕ) (settled : X → Bool) → command ≡ Generate seed count
-      → IfOk answer (λ x. AnswersBytes tells reads images images_since moment faults (Generate seed count) [] old new (text x) (settled x))
-      → IfOk answer (λ x. AnswersBytes tells reads images images_since moment faults command bytes old new (text x) (settled x))
-  generated_answers command seed count bytes old new (Ok x) text settled is h =
-      subst (λ (c : Command). AnswersBytes tells reads images images_since moment faults c bytes old new (text x) (settled x)) (sym is) (record { answers = h.answers; shows = h.shows })
-  generated_answers command seed count bytes old new (Err e) text settled is h = tt
-
-  pub generated_refuses : {X : Type 0} (command : Command) (seed count : ℕ) (bytes : List ℕ) (old new : D) (answer : Result X Refusal) → command ≡ Generate seed count
-      → IfErr answer (RefusesBytes tells reads images images_since moment faults (Generate seed count) [] old new)
-      → IfErr answer (RefusesBytes tells reads images images_since moment faults command bytes old new)
-  generated_refuses command seed count bytes old new (Ok x) is h = tt
-  generated_refuses command seed count bytes old new (Err r) is h =
-      subst (λ (c : Command). RefusesBytes tells reads images images_since moment faults c bytes old new r) (sym is) h
-
-  pub generated_accepts : {X : Type 0} (command : Command) (seed count : ℕ) (bytes : List ℕ) (old : D) (answer : Result X Refusal) → command ≡ Generate seed count
-      → IfErr answer (AcceptsBytes tells reads command bytes old)
-  generated_accepts command seed count bytes old (Ok x) is = tt
-  generated_accepts command seed count bytes old (Err r) is = λ good room. absurd (subst (λ (c : Command). IsGoodFor c bytes) is good)

@@ -1,5 +1,6 @@
 -- What a run on a journal, and a look at one, answer and refuse.
-use Rattle.std.proofs.Common.{◌≡◌, ℕ, ◌<◌, ◌^◌, Bool, List, length, refl, sym, ◌∙◌, subst, arith, lit<}
+use Rattle.std.proofs.Common.{◌≡◌, ℕ, ◌<◌, ◌^◌, Bool, true, List, length, refl, sym, ◌∙◌, ap, subst, arith, lit<}
+use Rattle.std.proofs.lemmas.Bool.{false≢true}
 use Rattle.std.specs.Prelude.{IfErr, Result, Ok, Err}
 use Rattle.bench_edges.specs.declared.words.Command.TheVariants.{Solve}
 use Rattle.bench_edges.specs.declared.words.Options.{Options}
@@ -19,7 +20,7 @@ use Rattle.opening_bench.specs.Accepted.{HasRoom, IsUnrefused}
 use Rattle.opening_bench.specs.Bench.{status_of}
 use Rattle.opening_bench.specs.Disks.{IsRefusedRun, of_run}
 use Rattle.opening_bench.specs.Solving.{roots_of_openings}
-use Rattle.opening_bench.specs.Steps.{AcceptsBytes, AreRootsIn, SaysTrue}
+use Rattle.opening_bench.specs.Steps.{AcceptsBytes, AreRootsIn, SaysTrue, says_nothing_of_bytes}
 
 -- the report of a look at a journal says what is true
 pub true_report_says : (text : List ℕ) → IsTrueReport text → SaysTrue text
@@ -28,22 +29,28 @@ true_report_says text p front back whole =
     let few = p.few in
     report-is_true p.roots front back (omega (arith, few, k)) p.values (sym p.text_is ∙ whole)
 
+-- a refusal that says nothing of what the disk reads as
+pub silent_unrefused : (r : Refusal) → says_nothing_of_bytes r ≡ true → IsUnrefused (status_of r)
+silent_unrefused refusal.Disk silent = ((λ e. absurd cc), (λ e. absurd cc))
+silent_unrefused refusal.Memory silent = ((λ e. absurd cc), (λ e. absurd cc))
+silent_unrefused r silent = absurd (false≢true silent)
+
 module _ {D : Type 0} (tells : Bool) (reads : D → List ℕ) (images : D → List ℕ → Type 0) (images_since : D → ℕ → List ℕ → Type 0) (moment faults : D → ℕ) where
   moved : (pieces : ℕ) (seen positions : List Board) (old new : D) (r : Refusal) → seen ≡ positions
       → IsRefusedRun tells reads images images_since moment faults pieces seen old new r → IsRefusedRun tells reads images images_since moment faults pieces positions old new r
   moved pieces seen positions old new r same h = subst (λ ps. IsRefusedRun tells reads images images_since moment faults pieces ps old new r) same h
 
   -- a journal that has room is not refused
-  pub unrefused : (pieces : ℕ) (positions : List Board) (old new : D) (r : Refusal) (fault : RunRefusal) → r ≡ of_run fault → HasRoom tells reads pieces positions old
-      → IsCaused pieces positions (reads old) fault → IsUnrefused (status_of r)
-  unrefused pieces positions old new r run.Disk is room caused = subst (λ q. IsUnrefused (status_of q)) (sym is) ((λ e. absurd cc), (λ e. absurd cc))
-  unrefused pieces positions old new r (run.Journal flaw) is room caused = absurd (caused.1 room.records room.read)
-  unrefused pieces positions old new r run.TooManyRoots is room caused =
+  pub room_silent : (pieces : ℕ) (positions : List Board) (old new : D) (r : Refusal) (fault : RunRefusal) → r ≡ of_run fault → HasRoom tells reads pieces positions old
+      → IsCaused pieces positions (reads old) fault → says_nothing_of_bytes r ≡ true
+  room_silent pieces positions old new r run.Disk is room caused = ap says_nothing_of_bytes is
+  room_silent pieces positions old new r (run.Journal flaw) is room caused = absurd (caused.1 room.records room.read)
+  room_silent pieces positions old new r run.TooManyRoots is room caused =
       let same = files_read_as_one_list pieces (reads old) caused.0 room.records caused.1.0 room.read in
       let many = subst (λ (rs : List BenchRecord). 65536 < length (with_roots (begun rs) positions)) same caused.1.1 in
       let few = room.room in
       absurd (omega (arith, many, few))
-  unrefused pieces positions old new r run.Memory is room caused = subst (λ q. IsUnrefused (status_of q)) (sym is) ((λ e. absurd cc), (λ e. absurd cc))
+  room_silent pieces positions old new r run.Memory is room caused = ap says_nothing_of_bytes is
 
   pub run_accepts : (options : Options) (text : List ℕ) (positions seen : List Board) (old new : D) (r : Refusal) → AreRootsIn options.plies text positions → seen ≡ positions
       → IsRefusedRun tells reads images images_since moment faults options.pieces seen old new r
@@ -52,7 +59,7 @@ module _ {D : Type 0} (tells : Bool) (reads : D → List ℕ) (images : D → Li
       let all = roots_of_openings roots.openings in
       let k = moved options.pieces seen all old new r (same ∙ roots.all) h in
       let there = room roots.openings roots.read in
-      unrefused options.pieces all old new r k.fault k.is there (k.caused there.honest)
+      silent_unrefused r (room_silent options.pieces all old new r k.fault k.is there (k.caused there.honest))
 
   -- the same of an answer, if it is a refusal
   pub run_all_accepts : {X : Type 0} (options : Options) (text : List ℕ) (positions seen : List Board) (old new : D) (r : Result X Refusal) → AreRootsIn options.plies text positions → seen ≡ positions

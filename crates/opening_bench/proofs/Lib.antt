@@ -11,3 +11,4 @@ pub mod LookingLemmas
 pub mod CauseLemmas
 pub mod OnePlyLemmas
 pub mod NewJournalLemmas
+pub mod RunLemmas

@@ -3,12 +3,11 @@ use Rattle.std.proofs.Common.{◌≡◌, ℕ, inl, inr, Bool, true, false, List,
 use Rattle.std.specs.Prelude.{IfErr, IsSome, Result, Ok, Err}
 use Rattle.std.specs.Bool.{OnFalse}
 use Rattle.std.proofs.lemmas.Bool.{false≢true}
-use Rattle.shared_words.specs.Answers.{Unless}
 use Rattle.shared_words.proofs.Exactness.{on_false}
 use Rattle.bench_edges.specs.declared.status.Status.{Status}
-use Rattle.bench_edges.specs.declared.status.Status.TheVariants.{Done, Unsolved, Disk, Memory, Write}
+use Rattle.bench_edges.specs.declared.status.Status.TheVariants.{Disk, Memory}
 use Rattle.bench_edges.specs.declared.words.Command.{Command}
-use Rattle.bench_edges.specs.declared.words.Command.TheVariants.{Report, Certify, MakeTable, Generate}
+use Rattle.bench_edges.specs.declared.words.Command.TheVariants.{Solve, Report, Certify, MakeTable, Generate}
 use Rattle.capture_positions.specs.Walk.{openings_from}
 use Rattle.disk_journal.specs.declared.refusal.JournalRefusal.TheVariants as journal
 use Rattle.journal_looks.specs.Looks.{says_nothing}
@@ -16,13 +15,13 @@ use Rattle.journal_looks.specs.declared.refusals.LookRefusal.{LookRefusal}
 use Rattle.journal_looks.specs.declared.refusals.LookRefusal.TheVariants as look
 use Rattle.opening_report.specs.declared.refusals.Refusal.{Refusal}
 use Rattle.opening_report.specs.declared.refusals.Refusal.TheVariants as refusal
-use Rattle.opening_bench.specs.Accepted.{HasAsked, HasLookCause, IsRefusedFor, IsUnrefused}
-use Rattle.opening_bench.specs.Bench.{IsCommandRefusal, IsCutShort, IsRefused, Refuses, TakesLine, TakesOutput, status_of}
+use Rattle.opening_bench.specs.Accepted.{HasAsked, HasLookCause, IsRefusedFor}
+use Rattle.opening_bench.specs.Bench.{IsCutShort, TakesLine, status_of}
 use Rattle.opening_bench.specs.Commands.{Searches, source_limit}
 use Rattle.opening_bench.specs.Disks.{of_look}
-use Rattle.opening_bench.specs.Steps.{says_nothing_of_bytes}
+use Rattle.opening_bench.specs.Steps.{AcceptsAsked, AnswersLook, RefusesBytes, says_nothing_of_bytes}
 use Rattle.opening_bench.specs.declared.commands.generate.TheConstants.{GENERATE_PIECES}
-use Rattle.opening_bench.proofs.JournalLemmas.{unrefused}
+use Rattle.opening_bench.proofs.JournalLemmas.{room_silent}
 
 -- ---- a look, and the program's own refusal
 
@@ -92,26 +91,6 @@ cut_answers command file cause source rest before after r P cut stands =
 
 -- ---- the status
 
-pub output_unrefused : (text : List ℕ) (settled : Bool) (before after : Option (List ℕ)) (status : Status) → TakesOutput status text settled before after → IsUnrefused status
-output_unrefused text settled before after Done h = ((λ e. absurd cc), (λ e. absurd cc))
-output_unrefused text settled before after Unsolved h = ((λ e. absurd cc), (λ e. absurd cc))
-output_unrefused text settled before after Write h = ((λ e. absurd cc), (λ e. absurd cc))
-output_unrefused text settled before after status h = absurd h
-
-silent_unrefused : (r : Refusal) → says_nothing_of_bytes r ≡ true → IsUnrefused (status_of r)
-silent_unrefused refusal.Disk silent = ((λ e. absurd cc), (λ e. absurd cc))
-silent_unrefused refusal.Memory silent = ((λ e. absurd cc), (λ e. absurd cc))
-silent_unrefused r silent = absurd (false≢true silent)
-
-pub refused_unrefused : {X : Type 0} (answer : Result X Refusal) (r : Refusal) (status : Status) → answer ≡ Err r → status ≡ status_of r
-    → IfErr answer (λ q. says_nothing_of_bytes q ≡ true) → IsUnrefused status
-refused_unrefused {X = X} answer r status is of silent =
-    subst IsUnrefused (sym of) (silent_unrefused r (subst (λ (a : Result X Refusal). IfErr a (λ q. says_nothing_of_bytes q ≡ true)) is silent))
-
--- an output has no cause of refusal
-pub output_uncaused : {X : Type 0} (answer : Result X Refusal) (x : X) (q : Refusal) → answer ≡ Ok x → Unless says_nothing_of_bytes answer (answer ≡ Err q) → ⊥
-output_uncaused {X = X} answer x q is h = no_error x q (subst (λ (a : Result X Refusal). Unless says_nothing_of_bytes a (a ≡ Err q)) is h)
-
 module _ (before after : Option (List ℕ)) (faults_before faults_after : ℕ) where
   silent_for : (r q : Refusal) (status : Status) → says_nothing_of_bytes r ≡ true → status ≡ status_of r → IsRefusedFor q before after faults_before faults_after status
   silent_for refusal.Disk q status silent of = subst (IsRefusedFor q before after faults_before faults_after) (sym of) tt
@@ -129,49 +108,32 @@ module _ (before after : Option (List ℕ)) (faults_before faults_after : ℕ) w
   refused_by false r q status silent of line h =
       exact_for q status (ap status_of (sym h) ∙ sym of) (subst (λ (x : Refusal). TakesLine x before after faults_before faults_after) h line)
 
-  pub refused_for : {X : Type 0} (answer : Result X Refusal) (r q : Refusal) (status : Status) → answer ≡ Err r → status ≡ status_of r → TakesLine r before after faults_before faults_after
-      → Unless says_nothing_of_bytes answer (answer ≡ Err q) → IsRefusedFor q before after faults_before faults_after status
-  refused_for {X = X} answer r q status is of line h =
+  pub refused_for : (X : Type 0) (r q : Refusal) (status : Status) → status ≡ status_of r → TakesLine r before after faults_before faults_after
+      → OnFalse (says_nothing_of_bytes r) (◌≡◌ {A = Result X Refusal} (Err r) (Err q)) → IsRefusedFor q before after faults_before faults_after status
+  refused_for X r q status of line h =
       refused_by (says_nothing_of_bytes r) r q status refl of line
-      (on_false (says_nothing_of_bytes r) (◌≡◌ {A = Result X Refusal} (Err r) (Err q)) (r ≡ q) (λ e. error_of r q e)
-      (subst (λ (a : Result X Refusal). Unless says_nothing_of_bytes a (a ≡ Err q)) is h))
+      (on_false (says_nothing_of_bytes r) (◌≡◌ {A = Result X Refusal} (Err r) (Err q)) (r ≡ q) (λ e. error_of r q e) h)
 
--- ---- a command that searches, on a disk that has what it asks
-
-by_refusals : (status : Status) → (Refuses status → IsUnrefused status) → IsUnrefused status
-by_refusals status h = ((λ e. (h (subst Refuses (sym e) tt)).0 e), (λ e. (h (subst Refuses (sym e) tt)).1 e))
+-- ---- a command that searches
 
 module _ {D : Type 0} (tells : Bool) (reads : D → List ℕ) (images : D → List ℕ → Type 0) (images_since : D → ℕ → List ℕ → Type 0) (moment faults : D → ℕ) where
-  generated_unrefused : (seed count : ℕ) (source rest : Option (List ℕ)) (before after : ℕ) (old new : D) (r : Refusal) → HasAsked tells reads (Generate seed count) old
-      → IsCommandRefusal tells reads images images_since moment faults (Generate seed count) source rest before after old new r → IsUnrefused (status_of r)
-  generated_unrefused seed count source rest before after old new r room (inl cut) =
-      silent_unrefused r (cut_accepts tells reads (Generate seed count) source rest before after old r cut room)
-  generated_unrefused seed count source rest before after old new r room (inr (inl wrong)) = absurd wrong.fault
-  generated_unrefused seed count source rest before after old new r room (inr (inr refused)) =
-      let run = refused.fault in
-      unrefused tells reads images images_since moment faults GENERATE_PIECES (openings_from seed count) old new r run.fault run.is room (run.caused room.honest)
+  generated_accepts : (seed count : ℕ) (bytes : List ℕ) (old new : D) (r : Refusal) → HasAsked tells reads (Generate seed count) old
+      → RefusesBytes tells reads images images_since moment faults (Generate seed count) bytes old new r → says_nothing_of_bytes r ≡ true
+  generated_accepts seed count bytes old new r room (inl (inl memory)) = ap says_nothing_of_bytes memory
+  generated_accepts seed count bytes old new r room (inl (inr fault)) = absurd fault
+  generated_accepts seed count bytes old new r room (inr run) =
+      room_silent tells reads images images_since moment faults GENERATE_PIECES (openings_from seed count) old new r run.fault run.is room (run.caused room.honest)
 
-  asked_unrefused : (command : Command) (source rest : Option (List ℕ)) (before after : ℕ) (old new : D) (r : Refusal) → Searches command → HasAsked tells reads command old
-      → IsCommandRefusal tells reads images images_since moment faults command source rest before after old new r → IsUnrefused (status_of r)
-  asked_unrefused Report source rest before after old new r searches asked cause = absurd searches
-  asked_unrefused (Certify root) source rest before after old new r searches asked cause = absurd searches
-  asked_unrefused (MakeTable pieces) source rest before after old new r searches asked cause = absurd searches
-  asked_unrefused (Generate seed count) source rest before after old new r searches asked cause = generated_unrefused seed count source rest before after old new r asked cause
-  asked_unrefused command source rest before after old new r searches asked cause = absurd asked
+  -- it is not refused for what a disk reads as that has what it asks ..
+  pub search_accepts : {X : Type 0} (command : Command) (bytes : List ℕ) (old new : D) (answer : Result X Refusal) → Searches command
+      → IfErr answer (RefusesBytes tells reads images images_since moment faults command bytes old new) → AcceptsAsked tells reads command old answer
+  search_accepts command bytes old new (Ok x) searches refused = λ asked. tt
+  search_accepts (Generate seed count) bytes old new (Err r) searches refused = λ asked. generated_accepts seed count bytes old new r asked refused
+  search_accepts (Solve options) bytes old new (Err r) searches refused = λ asked. absurd asked
+  search_accepts command bytes old new (Err r) searches refused = absurd searches
 
-  -- the same of the status of its run
-  pub search_unrefused : (command : Command) (source rest : Option (List ℕ)) (before after : ℕ) (taken_before taken_after : Option (List ℕ)) (written_before written_after : ℕ) (old new : D) (status : Status)
-      → Searches command → HasAsked tells reads command old
-      → (Refuses status → IsRefused (IsCommandRefusal tells reads images images_since moment faults command source rest before after old new) old new taken_before taken_after written_before written_after status)
-      → IsUnrefused status
-  search_unrefused command source rest before after taken_before taken_after written_before written_after old new status searches asked refused =
-      by_refusals status (λ refuses.
-      let h = refused refuses in
-      subst IsUnrefused h.status_is (asked_unrefused command source rest before after old new h.refusal searches asked h.cause))
-
--- ---- commands that search look at no disk
-
-pub look_quiet : (command : Command) (file : List ℕ) (cause : LookRefusal) → HasLookCause command file cause → Searches command → ⊥
-look_quiet Report file cause stands searches = searches
-look_quiet (Certify root) file cause stands searches = searches
-look_quiet command file cause stands searches = stands
+-- .. and no look at a disk has a cause to refuse it
+pub search_answers : {D X : Type 0} (tells : Bool) (reads : D → List ℕ) (command : Command) (disk : D) (answer : Result X Refusal) → Searches command → AnswersLook tells reads command disk answer
+search_answers tells reads Report disk answer searches = absurd searches
+search_answers tells reads (Certify root) disk answer searches = absurd searches
+search_answers tells reads command disk answer searches = λ honest cause stands. absurd stands

@@ -1,6 +1,6 @@
 -- What is answered, and what is not refused.
 use Rattle.std.proofs.Common.{◌≡◌, ℕ, ◌≤◌, ◌⊎◌, inl, inr, Bool, List, Option, None, Some, refl, sym, subst, length}
-use Rattle.std.specs.Prelude.{IfOk, IfErr, IfSome, IsSome, Result, Ok, Err}
+use Rattle.std.specs.Prelude.{IfSome, IsSome}
 use Rattle.bench_edges.specs.declared.status.Status.{Status}
 use Rattle.bench_edges.specs.declared.words.Command.{Command}
 use Rattle.bench_edges.specs.declared.words.Command.TheVariants.{Solve, Report, Certify, Verify, MakeTable, TableCheck, Generate}
@@ -11,16 +11,11 @@ use Rattle.strategy_certificate.specs.Certificates.{IsGood}
 use Rattle.strategy_certificate.specs.declared.certificates.Certificate.{Certificate}
 use Rattle.opening_report.specs.declared.refusals.Refusal.{Refusal}
 use Rattle.opening_bench.specs.Accepted.{IsGoodFor, HasRoomFor, IsUnrefused, Accepts}
-use Rattle.opening_bench.specs.Bench.{IsInput}
+use Rattle.opening_bench.specs.Bench.{IsInput, status_of}
 use Rattle.opening_bench.specs.Commands.{source_limit}
-use Rattle.opening_bench.specs.Steps.{AcceptsBytes, AcceptsGood}
+use Rattle.opening_bench.specs.Steps.{AcceptsBytes}
 use Rattle.opening_bench.specs.declared.commands.verify.TheConstants.{CERTIFICATE_LIMIT}
 use Rattle.opening_bench.proofs.TableLemmas.{table_is_short}
-
--- ---- what an answer has, where it is known
-
-pub if_ok_at : {X E : Type 0} (r : Result X E) (x : X) → r ≡ Ok x → (P : X → Type 0) → IfOk r P → P x
-if_ok_at r x is P h = subst (λ q. IfOk q P) is h
 
 -- ---- what is accepted
 
@@ -35,20 +30,17 @@ read_or_none TableCheck = inl refl
 read_or_none (Generate seed count) = inr (λ told good. good)
 
 module _ {D : Type 0} (tells : Bool) (reads : D → List ℕ) where
-  pub bytes_accept : (command : Command) (source : Option (List ℕ)) (bytes : List ℕ) (old : D) (r : Refusal) → IsInput command source bytes → AcceptsBytes tells reads command bytes old r
-      → (IsSome (source_limit command) ⊎ ((told : List ℕ) → IsGoodFor command told → ⊥)) → AcceptsGood tells reads command source old r
-  bytes_accept command None bytes old r input accepts kind = tt
-  bytes_accept command (Some told) bytes old r input accepts (inl reads_it) = λ good fits room.
+  accept_by : (command : Command) (source : Option (List ℕ)) (bytes : List ℕ) (old : D) (r : Refusal) → IsInput command source bytes → AcceptsBytes tells reads command bytes old r
+      → (IsSome (source_limit command) ⊎ ((told : List ℕ) → IsGoodFor command told → ⊥)) → Accepts tells reads command source old (status_of r)
+  accept_by command None bytes old r input accepts kind = tt
+  accept_by command (Some told) bytes old r input accepts (inl reads_it) = λ good fits room.
       let same : told ≡ bytes = sym (input.same reads_it) in
       accepts (subst (IsGoodFor command) same good) (subst (λ b. HasRoomFor tells reads command b old) same room)
-  bytes_accept command (Some told) bytes old r input accepts (inr none) = λ good fits room. absurd (none told good)
+  accept_by command (Some told) bytes old r input accepts (inr none) = λ good fits room. absurd (none told good)
 
-  -- the same of an answer, if it is a refusal
-  pub answer_accepts : {X : Type 0} (command : Command) (source : Option (List ℕ)) (bytes seen : List ℕ) (old : D) (r : Result X Refusal) → seen ≡ bytes → IsInput command source bytes
-      → IfErr r (AcceptsBytes tells reads command seen old) → IfErr r (AcceptsGood tells reads command source old)
-  answer_accepts command source bytes seen old (Ok x) same input h = tt
-  answer_accepts command source bytes seen old (Err r) same input h =
-      bytes_accept command source bytes old r input (subst (λ (b : List ℕ). AcceptsBytes tells reads command b old r) same h) (read_or_none command)
+  pub bytes_accept : (command : Command) (source : Option (List ℕ)) (bytes : List ℕ) (old : D) (r : Refusal) → IsInput command source bytes → AcceptsBytes tells reads command bytes old r
+      → Accepts tells reads command source old (status_of r)
+  bytes_accept command source bytes old r input accepts = accept_by command source bytes old r input accepts (read_or_none command)
 
 pub certificates_accepted : {D : Type 0} (tells : Bool) (reads : D → List ℕ) (source : Option (List ℕ)) (old : D) (s : Status) → Accepts tells reads Verify source old s
     → IfSome source (λ told. length told ≤ CERTIFICATE_LIMIT → (c : Certificate) → IsGood c → ReadsAs told c → IsUnrefused s)

@@ -34,9 +34,10 @@ use Rattle.opening_report.proofs.ReportLemmas.{report-is_true, roots_stand_once}
 use Rattle.opening_bench.specs.Accepted.{Accepts, HasAmpleBudget, HasRoom, IsUnrefused}
 use Rattle.opening_bench.specs.declared.commands.generate.TheConstants.{GENERATE_DEPTH, GENERATE_PIECES}
 use Rattle.opening_bench.specs.declared.commands.solve.TheConstants.{GAMES_LIMIT}
-use Rattle.opening_bench.specs.Bench.{Does, Finishes, Reports, TakesOutput, WritesOnly, HoldsOpenings}
+use Rattle.opening_bench.specs.Bench.{Does, Finishes, IsInput, Reports, TakesOutput, WritesOnly, HoldsOpenings}
+use Rattle.opening_bench.specs.Commands.{Answers}
 use Rattle.opening_bench.specs.Solving.{OpeningsOf, IsReportOn, roots_of_openings}
-use Rattle.opening_bench.specs.Steps.{AnswersSource, SaysTrue}
+use Rattle.opening_bench.specs.Steps.{SaysTrue}
 use Rattle.opening_bench.proofs.RootLemmas.{opening_root}
 use Rattle.opening_bench.proofs.WritingLemmas.{output_whole}
 
@@ -153,21 +154,19 @@ of_source : (options : Options) (source : Option (List ℕ)) (input text : List 
 of_source options None input text same p = tt
 of_source options (Some told) input text same p = λ all reads. once_each options input text p all (subst (λ t. OpeningsOf options.plies t all) (sym same) reads)
 
-module _ {D : Type 0} (tells : Bool) (reads : D → List ℕ) (images : D → List ℕ → Type 0) (images_since : D → ℕ → List ℕ → Type 0) (moment faults : D → ℕ) where
-  holds : (command : Command) (source : Option (List ℕ)) (old new : D) (text : List ℕ) (settled : Bool) → AnswersSource tells reads images images_since moment faults command source old new text settled
-      → HoldsOpenings command source text
-  holds (Solve options) source old new text settled p = λ other said.
-      let same : options ≡ other = cc in
-      subst (λ (o : Options). IfSome source (λ told. (openings : List Opening) → OpeningsOf o.plies told openings → (opening : Opening) → Contains openings opening → StandsOnce text opening.position))
-      same (of_source options source p.0 text (p.1.0.same refl) p.1.1.answers)
-  holds Report source old new text settled p = λ options said. absurd cc
-  holds (Certify root) source old new text settled p = λ options said. absurd cc
-  holds Verify source old new text settled p = λ options said. absurd cc
-  holds (MakeTable pieces) source old new text settled p = λ options said. absurd cc
-  holds TableCheck source old new text settled p = λ options said. absurd cc
-  holds (Generate seed count) source old new text settled p = λ options said. absurd cc
+holds : (command : Command) (source : Option (List ℕ)) (input text : List ℕ) (settled : Bool) → IsInput command source input → Answers command input text settled → HoldsOpenings command source text
+holds (Solve options) source input text settled is_input answers = λ other said.
+    let same : options ≡ other = cc in
+    subst (λ (o : Options). IfSome source (λ told. (openings : List Opening) → OpeningsOf o.plies told openings → (opening : Opening) → Contains openings opening → StandsOnce text opening.position))
+    same (of_source options source input text (is_input.same refl) answers)
+holds Report source input text settled is_input answers = λ options said. absurd cc
+holds (Certify root) source input text settled is_input answers = λ options said. absurd cc
+holds Verify source input text settled is_input answers = λ options said. absurd cc
+holds (MakeTable pieces) source input text settled is_input answers = λ options said. absurd cc
+holds TableCheck source input text settled is_input answers = λ options said. absurd cc
+holds (Generate seed count) source input text settled is_input answers = λ options said. absurd cc
 
-  pub output_holds : (command : Command) (source : Option (List ℕ)) (old new : D) (text : List ℕ) (settled : Bool) (before after : Option (List ℕ)) (status : Status) → Finishes status
-      → AnswersSource tells reads images images_since moment faults command source old new text settled → TakesOutput status text settled before after
-      → WritesOnly before after (HoldsOpenings command source)
-  output_holds command source old new text settled before after status finished p h = (text, (output_whole text settled before after status finished h, holds command source old new text settled p))
+pub output_holds : (command : Command) (source : Option (List ℕ)) (input text : List ℕ) (settled : Bool) (before after : Option (List ℕ)) (status : Status) → Finishes status
+    → IsInput command source input → Answers command input text settled → TakesOutput status text settled before after
+    → WritesOnly before after (HoldsOpenings command source)
+output_holds command source input text settled before after status finished is_input answers taken = (text, (output_whole text settled before after status finished taken, holds command source input text settled is_input answers))

@@ -25,6 +25,7 @@ use Rattle.opening_bench.specs.Bench.{TakesLine, status_of}
 use Rattle.opening_bench.specs.Commands.{source_limit}
 use Rattle.opening_bench.specs.Solving.{OpeningsOf, roots_of_openings}
 use Rattle.opening_bench.specs.declared.commands.generate.TheConstants.{GENERATE_PIECES}
+use Rattle.proof_tree.specs.declared.tree.TheConstants.{MOST_ROOTS}
 
 -- the bytes are good for the command: openings can be read of them, or a good certificate, or a
 -- sound table; none are for a command that reads none
@@ -49,7 +50,7 @@ pub record HasRoom {D : Type 0} (tells : Bool) (reads : D → List ℕ) (pieces 
   pub honest : IsHonest tells
   pub records : List BenchRecord
   pub read : ReadsRecords pieces (reads disk) records
-  pub room : length (with_roots (begun records) positions) ≤ 65536
+  pub room : length (with_roots (begun records) positions) ≤ MOST_ROOTS
 
 -- The disk reads as a journal for the table, and the budget is ample for the roots that it has and
 -- those that these positions begin.

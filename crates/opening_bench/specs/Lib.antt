@@ -5,4 +5,5 @@ pub mod Commands
 pub mod Disks
 pub mod Bench
 pub mod Accepted
+pub mod Runs
 pub mod Steps

@@ -1,5 +1,5 @@
 -- The steps of a run, which the private functions answer for.
-use Rattle.std.specs.Prelude.{◌≡◌, ℕ, ◌⊎◌, Bool, true, false, List, ◌++◌, Option, Result, Err, IfErr}
+use Rattle.std.specs.Prelude.{◌≡◌, ℕ, ◌⊎◌, Bool, true, false, List, ◌++◌, Result, Err, IfErr, IfOk}
 use Rattle.shared_words.specs.Answers.{Unless}
 use Rattle.bench_disk.specs.Disk.{IsHonest}
 use Rattle.draughts_board.specs.Board.{Board}
@@ -11,11 +11,12 @@ use Rattle.opening_report.specs.Refusals.{refusal_text}
 use Rattle.opening_report.specs.Report.{ValuesAreTrue}
 use Rattle.opening_report.specs.declared.refusals.Refusal.{Refusal}
 use Rattle.opening_report.specs.declared.refusals.Refusal.TheVariants as refusal
-use Rattle.opening_bench.specs.Accepted.{IsGoodFor, HasAsked, HasLookCause, HasRoomFor, IsUnrefused, Accepts}
-use Rattle.opening_bench.specs.Bench.{IsInput, status_of}
+use Rattle.opening_bench.specs.Accepted.{IsGoodFor, HasAsked, HasLookCause, HasRoomFor, IsUnrefused}
+use Rattle.opening_bench.specs.Bench.{ComesBeforeDisk, status_of}
 use Rattle.opening_bench.specs.Commands.{Answers, HasFault}
-use Rattle.opening_bench.specs.Disks.{ShowsDisk, HasDiskFault, of_look}
+use Rattle.opening_bench.specs.Disks.{LeavesDisk, ShowsDisk, HasDiskFault, of_look}
 use Rattle.opening_bench.specs.Solving.{OpeningsOf, roots_of_openings}
+use Rattle.opening_bench.specs.declared.output.Output.{Output}
 
 -- the refusal's text is one line
 abbrev pub IsLineOf : Refusal → Type 0
@@ -49,12 +50,6 @@ module _ {D : Type 0} (tells : Bool) (reads : D → List ℕ) (images : D → Li
     pub shows : ShowsDisk tells reads images images_since moment faults
         command bytes old new text settled
 
-  -- .. what the source holds
-  abbrev pub AnswersSource : Command → Option (List ℕ) → D → D → List ℕ → Bool → Type 0
-  AnswersSource command source old new text settled =
-      (input : List ℕ) × (IsInput command source input
-      × AnswersBytes command input old new text settled)
-
   -- a fault of these bytes stands, the disk refuses, or memory ran out
   abbrev pub RefusesBytes : Command → List ℕ → D → D → Refusal → Type 0
   RefusesBytes command bytes old new r =
@@ -67,12 +62,6 @@ abbrev pub AcceptsBytes : {D : Type 0} → Bool → (D → List ℕ) → Command
 AcceptsBytes tells reads command bytes disk r =
     IsGoodFor command bytes → HasRoomFor tells reads command bytes disk
     → IsUnrefused (status_of r)
-
--- .. of a source of the right length
-abbrev pub AcceptsGood : {D : Type 0} → Bool → (D → List ℕ) → Command → Option (List ℕ) → D
-    → Refusal → Type 0
-AcceptsGood tells reads command source disk r =
-    Accepts tells reads command source disk (status_of r)
 
 -- ---- a look at the disk
 
@@ -94,3 +83,22 @@ abbrev pub AnswersLook : {D T : Type 0} → Bool → (D → List ℕ) → Comman
 AnswersLook tells reads command disk answer =
     IsHonest tells → (cause : LookRefusal) → HasLookCause command (reads disk) cause
     → Unless says_nothing_of_bytes answer (answer ≡ Err (of_look cause))
+
+-- ---- all that an answer is
+
+module _ {D : Type 0} (tells : Bool) (reads : D → List ℕ) (images : D → List ℕ → Type 0)
+    (images_since : D → ℕ → List ℕ → Type 0) (moment faults : D → ℕ) where
+  -- What a command has to write for these bytes, or why it is refused, and what it leaves of the
+  -- disk.
+  pub record IsAnswer (command : Command) (bytes : List ℕ) (old new : D)
+      (answer : Result Output Refusal) : Type 0 where
+    pub leaves : LeavesDisk tells reads images images_since moment faults command old new
+    pub answers : IfOk answer (λ output. AnswersBytes tells reads images images_since moment faults
+        command bytes old new output.text.items output.is_settled)
+    pub says : IfOk answer (λ output. SaysTrue output.text.items)
+    pub refused : IfErr answer (RefusesBytes tells reads images images_since moment faults
+        command bytes old new)
+    pub accepted : IfErr answer (AcceptsBytes tells reads command bytes old)
+    pub asked : AcceptsAsked tells reads command old answer
+    pub looked : AnswersLook tells reads command old answer
+    pub unused : IfErr answer (λ r. ComesBeforeDisk r → new ≡ old)

@@ -18,10 +18,11 @@ ghost use Rattle.strategy_certificate.specs.Certificates.{IsGood};
 ghost use Rattle.strategy_certificate.specs.declared.certificates.Certificate.{Certificate};
 ghost use Rattle.tree_manager.specs.Receipts.{ReadsRecords};
 ghost use Rattle.opening_report.specs.Report.{ValuesAreTrue};
-ghost use Rattle.opening_bench.specs.Accepted.{Accepts, HasAmpleBudget, HasAsked, HasLookCause, HasRoom, IsRefusedFor, IsUnrefused};
-ghost use Rattle.opening_bench.specs.Bench.{ComesToDisk, Does, Finishes, HoldsOpenings, IsCommandRefusal, IsRefusalByWords, IsRefused, ReadsSource, Refuses, Reports, TakesAtMost, TakesLine, WritesOnly, status_of};
+ghost use Rattle.opening_bench.specs.Accepted.{HasAmpleBudget, HasLookCause, HasRoom, IsRefusedFor, IsUnrefused};
+ghost use Rattle.opening_bench.specs.Bench.{ComesToDisk, Does, Finishes, HoldsOpenings, IsRefusalByWords, IsRefused, ReadsSource, Refuses, Reports, TakesAtMost, TakesLine, WritesOnly, status_of};
 ghost use Rattle.opening_bench.specs.Commands.{Searches, source_limit};
 ghost use Rattle.opening_bench.specs.Disks.{LeavesDisk, of_look};
+ghost use Rattle.opening_bench.specs.Runs.{RunsCommand};
 ghost use Rattle.opening_bench.specs.Solving.{OpeningsOf, roots_of_openings};
 ghost use Rattle.opening_bench.specs.Steps.{IsLineOf};
 
@@ -91,31 +92,11 @@ fn run_command<R: Threads + Wait + Sync, S: Source, K: Sink, D: Disk + Send, G: 
     gate: &G,
 ) -> (Status, D)
     requires { IsWithinLimits command }
-    ensures values { WritesOnly (K.taken sink.old) (K.taken sink.new) ValuesAreTrue }
-    ensures openings { Finishes result.0 → WritesOnly (K.taken sink.old) (K.taken sink.new)
-        (HoldsOpenings command (S.left source.old)) }
-    ensures does { Reports result.0 → Does D.TELLS D.reads D.images D.images_since D.moment D.faults
-        command (S.left source.old) (K.taken sink.old) (K.taken sink.new)
-        disk result.1 result.0 }
-    ensures refused { Refuses result.0 → IsRefused
-        (IsCommandRefusal D.TELLS D.reads D.images D.images_since D.moment D.faults
+    ensures runs { RunsCommand D.TELLS D.reads D.images D.images_since D.moment D.faults
         command (S.left source.old) (S.left source.new)
-        (S.faults source.old) (S.faults source.new) disk result.1)
-        disk result.1 (K.taken sink.old) (K.taken sink.new)
-        (K.faults sink.old) (K.faults sink.new) result.0 }
-    ensures leaves { LeavesDisk D.TELLS D.reads D.images D.images_since D.moment D.faults
-        command disk result.1 }
-    ensures words { result.0 ≢ Status.Words }
-    ensures accepted { Accepts D.TELLS D.reads command (S.left source.old) disk result.0 }
-    ensures asked { HasAsked D.TELLS D.reads command disk → IsUnrefused result.0 }
-    ensures looked { IsHonest D.TELLS → (cause : LookRefusal) →
-        HasLookCause command (D.reads disk) cause → IsRefusedFor (of_look cause)
-        (K.taken sink.old) (K.taken sink.new) (K.faults sink.old) (K.faults sink.new) result.0 }
-    ensures read { result.0 ≡ Status.Read → Rose (S.faults source.old) (S.faults source.new) }
-    ensures write { result.0 ≡ Status.Write → Rose (K.faults sink.old) (K.faults sink.new) }
-    ensures fault { result.0 ≡ Status.Disk → Rose (D.faults disk) (D.faults result.1) }
-    ensures all_read { ComesToDisk result.0 → ReadsSource command → IsAtEnd (S.left source.new) }
-    ensures front { TakesAtMost command (S.left source.old) (S.left source.new) }
+        (S.faults source.old) (S.faults source.new)
+        (K.taken sink.old) (K.taken sink.new) (K.faults sink.old) (K.faults sink.new)
+        disk result.1 result.0 }
     ensures unread { source_limit command ≡ None → source.new ≡ source.old }
 {
     if searches(command) {

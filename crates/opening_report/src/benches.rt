@@ -9,6 +9,7 @@ ghost use Rattle.proof_tree.specs.Forest.{nodes, value_of};
 ghost use Rattle.bench_core.specs.States.{are_settled};
 ghost use Rattle.opening_report.specs.Lines.{IsLine};
 ghost use Rattle.opening_report.specs.Report.{IsTrueRoot, AreTrueRoots, root_of, forest_roots, report_of, settled_count, summary_line};
+ghost use Rattle.proof_tree.specs.declared.tree.TheConstants.{MOST_ROOTS};
 
 use crate::refusals::push_number;
 use crate::reports::report;
@@ -119,7 +120,7 @@ fn shown_roots<O: Oracle>(alloc: Global, bench: &Bench, oracle: &O) -> Result<Ve
     requires { O.piece_limit oracle.now ≡ bench.now.state.settings.pieces }
     ensures roots { IfOk result (λ roots. roots.items ≡ forest_roots bench.now.state.forest) }
     ensures values { OnOk result (AreTrueRoots (forest_roots bench.now.state.forest)) }
-    ensures few { OnOk result (length (forest_roots bench.now.state.forest) ≤ 65536) }
+    ensures few { OnOk result (length (forest_roots bench.now.state.forest) ≤ MOST_ROOTS) }
 {
     let mut roots = Vec::new(alloc);
     for place in 0..bench.tree().roots() {
@@ -142,7 +143,7 @@ pub fn report_text<O: Oracle>(
     ensures text { IfOk result (λ text.
         text.items ≡ report_of (forest_roots bench.now.state.forest)) }
     ensures values { OnOk result (AreTrueRoots (forest_roots bench.now.state.forest)) }
-    ensures few { OnOk result (length (forest_roots bench.now.state.forest) ≤ 65536) }
+    ensures few { OnOk result (length (forest_roots bench.now.state.forest) ≤ MOST_ROOTS) }
 {
     let roots = shown_roots(alloc, bench, oracle)?;
     report(alloc, &roots)

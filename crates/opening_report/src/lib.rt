@@ -13,8 +13,6 @@ mod part_lines;
 mod refusals;
 mod reports;
 mod roots;
-#[cfg(test)]
-mod tests;
 
 pub use benches::{is_settled, report_text, root_certificate, summary_text};
 pub use findings::{sound_line, verified_line};

@@ -13,8 +13,6 @@ mod laws;
 mod opening;
 mod playing;
 mod refusal;
-#[cfg(test)]
-mod tests;
 
 pub use laws::{openings_are_determined, openings_are_lawful};
 pub use opening::{Opening, openings};

@@ -20,8 +20,6 @@ mod reader;
 mod refusal;
 mod runs;
 mod tags;
-#[cfg(test)]
-mod tests;
 mod variations;
 mod words;
 

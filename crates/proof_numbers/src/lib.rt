@@ -10,8 +10,6 @@ pub mod examples;
 mod facts;
 mod leaves;
 mod numbers;
-#[cfg(test)]
-mod tests;
 
 pub use facts::Facts;
 pub use leaves::{Child, MOST_MOVES, leaf, mobility};

@@ -14,6 +14,7 @@ use Rattle.proof_tree.specs.Changes.{stands_on, expand_own, new_nodes}
 use Rattle.proof_tree.specs.Forest.{Own, Forest, no_node, node, Node, nodes, forest, numbers_at, node_numbers, value_of, size}
 use Rattle.proof_tree.specs.Sound.{IsSoundForest}
 use Rattle.std.specs.Map.{keys_of, values_of}
+use Rattle.proof_tree.specs.declared.tree.TheConstants.{MOST_ROOTS}
 
 -- what stands past the end: nothing that a reader has to believe depends on it
 abbrev pub blank : NodeRow
@@ -142,9 +143,9 @@ pub record IsTree (rows : List NodeRow) (entries : List (Board × ℕ))
   pub keys : keys_of entries ≡ map (λ k. (row_at rows k).position) (values_of entries)
   pub sound : IsSoundForest (forest_of rows (values_of entries))
   pub few : length rows + spare < 2 ^ 57
-  pub few_roots : length entries ≤ 65536
+  pub few_roots : length entries ≤ MOST_ROOTS
   pub room : length rows + spare ≤ space
-  pub root_room : min spare (65536 - length entries) ≤ root_space
+  pub root_room : min spare (MOST_ROOTS - length entries) ≤ root_space
 
 -- how many roots stand before the first that is unsettled
 abbrev pub settled_front : List Node → ℕ

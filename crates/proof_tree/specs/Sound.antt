@@ -6,6 +6,7 @@ use Rattle.draughts_board.specs.Play.{successors_of}
 use Rattle.proof_numbers.specs.Known.{IsConsistent}
 use Rattle.proof_tree.specs.declared.rows.Mark.TheVariants.{Expanded, Repeats}
 use Rattle.proof_tree.specs.Forest.{Forest, no_node, node, Node, nodes, size}
+use Rattle.proof_tree.specs.declared.tree.TheConstants.{MOST_ROOTS}
 
 -- each node, wherever it stands, with the positions on the path above it, nearest first
 abbrev pub EachNode : (List Board → Node → Type 0) → List Board → Forest → Type 0
@@ -49,4 +50,4 @@ pub record TreeState : Type 0 where
 pub record IsTreeState (tree : TreeState) : Type 0 where
   pub sound : IsSoundForest tree.forest
   pub few : size tree.forest + tree.spare < 2 ^ 60
-  pub few_roots : length (nodes tree.forest) ≤ 65536
+  pub few_roots : length (nodes tree.forest) ≤ MOST_ROOTS

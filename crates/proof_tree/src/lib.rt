@@ -15,8 +15,6 @@ mod numbering;
 mod picking;
 mod roots;
 mod rows;
-#[cfg(test)]
-mod tests;
 mod tree;
 
 pub use children::{Free, unknown_child, unknown_children};

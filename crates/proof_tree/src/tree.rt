@@ -54,6 +54,7 @@ impl Model for Tree {
 }
 
 impl Tree {
+    ghost use Rattle.proof_tree.specs.declared.tree.TheConstants.{MOST_ROOTS};
     ghost use Rattle.std.specs.Prelude.{◌≡◌, ◌-◌, ◌+◌, ◌<◌, ◌≤◌, ◌↔◌, ◌==◌, ℕ, length, map, is_some, Contains, slice_get, OnOk, OnErr, IfSome, IsNone, IsSome, IsSomeAnd};
     ghost use Rattle.std.specs.List.{list_all};
     ghost use Rattle.draughts_board.specs.Play.{successors_of};
@@ -104,7 +105,7 @@ impl Tree {
     /// 1.
     pub fn add_root(&mut self, root: Child) -> u32
         requires absent { ¬ Contains (root_positions self.old.forest) root.position }
-        requires few { length (nodes self.old.forest) < 65536 }
+        requires few { length (nodes self.old.forest) < MOST_ROOTS }
         requires room { 1 ≤ self.old.spare }
         ensures tree { self.new ≡ record {
           forest = with_root root.position (known root.facts) self.old.forest;

@@ -17,8 +17,6 @@ mod lines;
 mod move_lists;
 mod pdn;
 mod tables;
-#[cfg(test)]
-mod tests;
 mod words;
 
 pub use hints::hint;

@@ -8,8 +8,6 @@ mod decimals;
 pub mod examples;
 mod lists;
 mod splitting;
-#[cfg(test)]
-mod tests;
 
 pub use decimals::{number, number_to, push_number};
 pub use lists::ItemList;

@@ -12,8 +12,6 @@ mod games;
 mod items;
 mod scan;
 mod tags;
-#[cfg(test)]
-mod tests;
 mod text;
 
 pub use causes::{Cause, Warning};

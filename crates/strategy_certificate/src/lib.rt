@@ -11,8 +11,6 @@ mod merging;
 mod oracle;
 mod rows;
 mod shown;
-#[cfg(test)]
-mod tests;
 mod win_parts;
 
 pub use certificates::{Certificate, Part, PartList};

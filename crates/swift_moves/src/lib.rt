@@ -17,8 +17,6 @@ mod movers;
 mod next;
 mod resolution;
 mod steps;
-#[cfg(test)]
-mod tests;
 mod ways;
 
 pub use draughts_board::ResolveRefusal;

@@ -12,8 +12,6 @@ mod entries;
 mod fitting;
 pub mod laws;
 mod refusal;
-#[cfg(test)]
-mod tests;
 
 pub use check::check_table;
 pub use refusal::TableRefusal;

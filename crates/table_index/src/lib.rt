@@ -10,7 +10,5 @@ mod counts;
 pub mod examples;
 mod indices;
 pub mod laws;
-#[cfg(test)]
-mod tests;
 
 pub use indices::{entry_count, index_of, position_at};

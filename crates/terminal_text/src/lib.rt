@@ -8,8 +8,6 @@
 
 mod excerpts;
 mod places;
-#[cfg(test)]
-mod tests;
 mod texts;
 
 pub use excerpts::{EXCERPT_WIDTH, Excerpt, excerpt_of, say_excerpt};

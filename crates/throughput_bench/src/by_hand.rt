@@ -36,7 +36,7 @@ pub(crate) struct Spent {
 }
 
 impl Spent {
-    /// How many of them the worker had the turn.
+    /// How many of them the worker had the turn, or encoded a record before its turn, as `stage` does.
     pub(crate) fn in_turns(&self) -> u128 {
         self.lease
             .saturating_add(self.stage)

@@ -7,7 +7,7 @@
 //!
 //! With the words `time PATH` there are 2,000 roots in memory and 400 on a file at that path. It prints the work records a
 //! second of one worker and of four, without the beginning of the roots, and for how much of one worker's time it has the
-//! turn.
+//! turn, or encodes a record before its turn.
 #![tactic(auto)]
 
 ghost use Rattle.std.specs.Prelude.{◌≡◌};

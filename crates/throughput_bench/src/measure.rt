@@ -1,4 +1,5 @@
-//! How many work records a second, and for how much of its time a worker has the turn.
+//! How many work records a second, and for how much of its time a worker has the turn, or encodes a
+//! record before its turn.
 ghost use Rattle.std.specs.Prelude.{◌≡◌};
 
 use crate::by_hand::Spent;
@@ -42,14 +43,14 @@ fn print_rates(rt: &impl Print, place: Place, one: &Together, four: &Together) -
     Ok(())
 }
 
-/// Prints for how much of its time a worker has the turn.
+/// Prints for how much of its time a worker has the turn or encodes a record.
 fn print_turns(rt: &impl Print, place: Place, work: u64, spent: &Spent) -> Result<()> {
     let name = place.name();
     let percent = spent.in_turns().saturating_mul(100) / spent.in_all().max(1);
     let work = u128::from(work.max(1));
     let (lease, search) = (spent.lease / work, spent.search / work);
     let (stage, commit) = (spent.stage / work, spent.commit / work);
-    print!(rt; "{name}: under the lock {percent} % of a worker's time, for a record ")?;
+    print!(rt; "{name}: in turns and encoding {percent} % of a worker's time, for a record ")?;
     println!(rt; "lease {lease} ns, search {search} ns, stage {stage} ns, commit {commit} ns")?;
     Ok(())
 }

@@ -30,6 +30,8 @@ use Rattle.tree_manager.specs.Entries.{faults_told}
 use Rattle.tree_manager.specs.Lines.{is_failed}
 use Rattle.tree_manager.specs.Histories.{Enters, IsNewCore}
 use Rattle.tree_manager.specs.Receipts.{ReadsRecords}
+use Rattle.proof_tree.specs.declared.tree.TheConstants.{MOST_ROOTS}
+use Rattle.bench_core.specs.declared.settings.TheConstants.{MOST_WORK}
 
 -- its line, the core to which it leads, and its disk
 pub record SessionState (D : Type 0) : Type 0 where
@@ -61,7 +63,7 @@ pub record EndsLeases {D : Type 0} (old new : SessionState D) : Type 0 where
 
 -- what all sessions together leave to one that is to have this budget
 abbrev pub session_budget : ℕ → List BenchRecord → ℕ
-session_budget budget replayed = min budget (1000000 - count_by is_work replayed)
+session_budget budget replayed = min budget (MOST_WORK - count_by is_work replayed)
 
 -- The line is the records as which the disk read, and an Attached of the moment behind the opening
 -- sync, of the disk's faults and of these settings. The bench has replayed the records, and nothing
@@ -158,7 +160,7 @@ abbrev pub RefusesBegin : {D : Type 0} → (D → ℕ) → SessionState D → Li
     → BeginRefusal → Type 0
 RefusesBegin faults old positions new begin.Failed = (is_failed old.line ≡ true) × (new ≡ old)
 RefusesBegin faults old positions new begin.TooManyRoots =
-    (65536 < length (with_roots (root_positions old.core.state.forest) positions)) × (new ≡ old)
+    (MOST_ROOTS < length (with_roots (root_positions old.core.state.forest) positions)) × (new ≡ old)
 RefusesBegin faults old positions new begin.Disk =
     (is_failed old.line ≡ false)
     × (BeginsRoots old positions (Broken (faults new.disk) ∷ []) new

@@ -8,7 +8,7 @@ use crate::marks::{Mark, push_puts};
 use crate::refusals::{BeginRefusal, CommitRefusal, StageRefusal};
 use crate::replaying::replay_all;
 use crate::roots::{new_roots, stage_roots};
-use bench_core::{Bench, LeaseRefusal, Settings};
+use bench_core::{Bench, LeaseRefusal, LeaseResult, Settings};
 use bench_disk::Disk;
 use certificate_checker::Outcome;
 use disk_journal::{Journal, JournalRefusal, Receipt};
@@ -57,6 +57,8 @@ impl<D: Disk> Model for JoinedBench<D> {
 }
 
 impl<D: Disk> JoinedBench<D> {
+    ghost use Rattle.proof_tree.specs.declared.tree.TheConstants.{MOST_ROOTS};
+    ghost use Rattle.bench_core.specs.declared.settings.TheConstants.{MOST_WORK, MOST_LEASE};
     ghost use Rattle.std.specs.List.{AllByRecursion as Each};
     ghost use Rattle.bench_disk.specs.Disk.{NothingPending};
     ghost use Rattle.bench_disk.specs.Runs.{Leaves};
@@ -93,9 +95,9 @@ impl<D: Disk> JoinedBench<D> {
     ) -> Result<JoinedBench<D>, (D, JournalRefusal)>
         requires tables { O.piece_limit oracle.now ≡ s.pieces }
         requires depth { s.depth ≤ 12 }
-        requires budget { s.budget ≤ 1000000 }
+        requires budget { s.budget ≤ MOST_WORK }
         requires lasts { 1 ≤ s.lease }
-        requires lease { s.lease ≤ 1000000000 }
+        requires lease { s.lease ≤ MOST_LEASE }
         ensures pieces { IfOk result (λ session. session.core.state.settings.pieces ≡ s.pieces) }
         ensures none_staged { IfOk result (λ session. session.core.staged ≡ []) }
         ensures attached { IfOk result
@@ -231,7 +233,7 @@ impl<D: Disk> JoinedBench<D> {
         requires rootless { is_failed self.old.line ≡ false → begun self.old.core.staged ≡ [] }
         ensures unfailed { OnOk result (is_failed self.old.line ≡ false) }
         ensures few { OnOk result (length (with_roots
-            (root_positions self.old.core.state.forest) positions.now) ≤ 65536) }
+            (root_positions self.old.core.state.forest) positions.now) ≤ MOST_ROOTS) }
         ensures begun { IfOk result
             (λ receipt. HasBegun self.old positions.now receipt.moment self.new) }
         ensures stands { OnOk result (IsCoreOf self.new.line self.new.core) }
@@ -328,7 +330,28 @@ impl<D: Disk> JoinedBench<D> {
         if self.journal.is_failed() {
             return Err(StageRefusal::Failed);
         }
-        let text = self.bench.ready(lease, outcome)?;
+        let found = LeaseResult::new(*self.marks.allocator(), lease, outcome)?;
+        self.stage_result(found)
+    }
+
+    /// Stages a result that is made already, as `stage` does.
+    pub fn stage_result(&mut self, found: LeaseResult) -> Result<(), StageRefusal>
+        ensures history { IsHistory self.old.line self.old.core }
+        ensures ended { is_failed self.old.line ≡ true → EndsBroken self.old.line }
+        ensures appends { OnOk result
+            (Appends self.old (entry.Put (record_of found.lease found.outcome)) self.new) }
+        ensures unfailed { OnOk result (is_failed self.old.line ≡ false) }
+        ensures live { OnOk result
+            (Contains self.old.core.state.leases.rows (unkept found.lease)) }
+        ensures disk { self.new.disk ≡ self.old.disk }
+        ensures refused { IfErr result
+            (RefusesStage self.old.line self.old.core.state found.lease) }
+        ensures unchanged { OnErr result (self.new ≡ self.old) }
+    {
+        if self.journal.is_failed() {
+            return Err(StageRefusal::Failed);
+        }
+        let text = self.bench.ready_result(found)?;
         if let Err(error) = self.journal.stage(&text) {
             self.bench.forget_ready();
             return Err(StageRefusal::Memory(error));

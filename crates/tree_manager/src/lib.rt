@@ -16,10 +16,6 @@ mod replaying;
 mod roots;
 mod session;
 mod shared;
-#[cfg(test)]
-mod shared_tests;
-#[cfg(test)]
-mod tests;
 
 pub use counting::RootCounts;
 pub use entries::{Attachment, Entry};

@@ -7,6 +7,7 @@ ghost use Rattle.strategy_certificate.specs.Tables.{IsSoundTable, IsTableSize};
 ghost use Rattle.tree_manager.specs.declared.marks.Mark.TheVariants.{Put};
 ghost use Rattle.tree_manager.specs.Receipts.{SpellsRecords};
 ghost use Rattle.tree_manager.specs.Replaying.{IsReplayedCore, RefusesPayloads, payload_texts, refusal_of_text};
+ghost use Rattle.bench_core.specs.declared.settings.TheConstants.{MOST_WORK, MOST_LEASE};
 
 use crate::marks::Mark;
 use bench_core::{Bench, ReplayRefusal, Settings};
@@ -40,9 +41,9 @@ pub fn replay_payloads<O: Oracle>(
     requires tables { O.piece_limit oracle.now ≡ s.pieces }
     requires pieces { IsTableSize s.pieces }
     requires depth { s.depth ≤ 12 }
-    requires budget { s.budget ≤ 1000000 }
+    requires budget { s.budget ≤ MOST_WORK }
     requires lasts { 1 ≤ s.lease }
-    requires lease { s.lease ≤ 1000000000 }
+    requires lease { s.lease ≤ MOST_LEASE }
     requires table { (answer : Board → Option Answer) × IsSoundTable draughts s.pieces answer }
     ensures replayed { IfOk result (IsReplayedCore s) }
     ensures spelled { IfOk result
@@ -86,9 +87,9 @@ pub(crate) fn replay_all<O: Oracle>(
     requires tables { O.piece_limit oracle.now ≡ s.pieces }
     requires pieces { IsTableSize s.pieces }
     requires depth { s.depth ≤ 12 }
-    requires budget { s.budget ≤ 1000000 }
+    requires budget { s.budget ≤ MOST_WORK }
     requires lasts { 1 ≤ s.lease }
-    requires lease { s.lease ≤ 1000000000 }
+    requires lease { s.lease ≤ MOST_LEASE }
     requires table { (answer : Board → Option Answer) × IsSoundTable draughts s.pieces answer }
     ensures replayed { IfOk result (λ r. IsReplayedCore s r.0) }
     ensures spelled { IfOk result

@@ -11,6 +11,7 @@ ghost use Rattle.bench_core.specs.Records.{begun, is_work};
 ghost use Rattle.bench_core.specs.Cores.{CanApplyAll, MayStage};
 ghost use Rattle.tree_manager.specs.Sessions.{AreNewRoots, MayStageRoots, with_roots, with_roots_staged};
 ghost use Rattle.tree_manager.specs.Receipts.{SpellsRecords};
+ghost use Rattle.proof_tree.specs.declared.tree.TheConstants.{MOST_ROOTS};
 
 use bench_core::Bench;
 use bench_disk::Disk;
@@ -52,7 +53,7 @@ pub(crate) fn stage_root<D: Disk, O: Oracle>(
     requires absent { ¬ Contains (root_positions bench.old.state.forest
         ++ begun bench.old.staged) p }
     requires room { length (root_positions bench.old.state.forest
-        ++ begun bench.old.staged) < 65536 }
+        ++ begun bench.old.staged) < MOST_ROOTS }
     requires live { filter (is_live_row bench.old.state.leases.limit bench.old.state.given)
         bench.old.state.leases.rows ≡ bench.old.state.leases.rows }
     ensures bench { OnOk result (bench.new ≡ with_roots_staged bench.old (p ∷ [])) }
@@ -105,7 +106,7 @@ pub(crate) fn stage_roots<D: Disk, O: Oracle>(
     requires new { AreNewRoots (root_positions bench.old.state.forest ++ begun bench.old.staged)
         added.now }
     requires room { length (root_positions bench.old.state.forest ++ begun bench.old.staged)
-        + length added.now ≤ 65536 }
+        + length added.now ≤ MOST_ROOTS }
     requires live { filter (is_live_row bench.old.state.leases.limit bench.old.state.given)
         bench.old.state.leases.rows ≡ bench.old.state.leases.rows }
     requires grows { CanApplyAll bench.old }

@@ -6,7 +6,7 @@ ghost use Rattle.shared_words.specs.Counts.{Rose};
 use crate::entries::Entry;
 use crate::joined::JoinedBench;
 use crate::refusals::{BeginRefusal, CommitRefusal, StageRefusal};
-use bench_core::{Bench, LeaseRefusal, Settings};
+use bench_core::{Bench, LeaseRefusal, LeaseResult, Settings};
 use bench_disk::Disk;
 use certificate_checker::Outcome;
 use disk_journal::{JournalRefusal, Receipt};
@@ -58,6 +58,8 @@ impl<D: Disk> Kept for Session<D> {
 }
 
 impl<D: Disk> Session<D> {
+    ghost use Rattle.proof_tree.specs.declared.tree.TheConstants.{MOST_ROOTS};
+    ghost use Rattle.bench_core.specs.declared.settings.TheConstants.{MOST_WORK, MOST_LEASE};
     ghost use Rattle.std.specs.List.{AllByRecursion as Each};
     ghost use Rattle.bench_disk.specs.Disk.{NothingPending};
     ghost use Rattle.bench_disk.specs.Runs.{Leaves};
@@ -93,9 +95,9 @@ impl<D: Disk> Session<D> {
     ) -> Result<Session<D>, (D, JournalRefusal)>
         requires tables { O.piece_limit oracle.now ≡ s.pieces }
         requires depth { s.depth ≤ 12 }
-        requires budget { s.budget ≤ 1000000 }
+        requires budget { s.budget ≤ MOST_WORK }
         requires lasts { 1 ≤ s.lease }
-        requires lease { s.lease ≤ 1000000000 }
+        requires lease { s.lease ≤ MOST_LEASE }
         ensures pieces { IfOk result (λ session. session.core.state.settings.pieces ≡ s.pieces) }
         ensures attached { IfOk result
             (λ session. IsAttachedTo D.TELLS D.reads D.moment D.faults s disk session) }
@@ -182,7 +184,7 @@ impl<D: Disk> Session<D> {
         requires { O.piece_limit oracle.now ≡ self.old.core.state.settings.pieces }
         ensures unfailed { OnOk result (is_failed self.old.line ≡ false) }
         ensures few { OnOk result (length (with_roots
-            (root_positions self.old.core.state.forest) positions.now) ≤ 65536) }
+            (root_positions self.old.core.state.forest) positions.now) ≤ MOST_ROOTS) }
         ensures begun { IfOk result
             (λ receipt. HasBegun self.old positions.now receipt.moment self.new) }
         ensures stands { OnOk result (IsCoreOf self.new.line self.new.core) }
@@ -248,6 +250,23 @@ impl<D: Disk> Session<D> {
         ensures turn { Stages self.old.line self.new.line lease.now outcome result }
     {
         self.joined.stage(lease, outcome)
+    }
+
+    /// Stages a result that is made already, as `stage` does. It copies no certificate and encodes nothing.
+    pub fn stage_result(&mut self, found: LeaseResult) -> Result<(), StageRefusal>
+        ensures appends { OnOk result
+            (Appends self.old (entry.Put (record_of found.lease found.outcome)) self.new) }
+        ensures unfailed { OnOk result (is_failed self.old.line ≡ false) }
+        ensures live { OnOk result
+            (Contains self.old.core.state.leases.rows (unkept found.lease)) }
+        ensures disk { self.new.disk ≡ self.old.disk }
+        ensures refused { IfErr result
+            (RefusesStage self.old.line self.old.core.state found.lease) }
+        ensures unchanged { OnErr result (self.new ≡ self.old) }
+        ensures grows { GrowsByTurns self.old.line self.new.line }
+        ensures turn { Stages self.old.line self.new.line found.lease found.outcome result }
+    {
+        self.joined.stage_result(found)
     }
 
     /// Makes all that is staged durable, and applies it. It takes no memory.

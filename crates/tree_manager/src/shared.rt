@@ -14,7 +14,7 @@ ghost use Rattle.tree_manager.specs.Turns.{GrowsByTurns, InOneTurn, AsksForSearc
 use crate::counting::RootCounts;
 use crate::refusals::{CommitRefusal, StageRefusal};
 use crate::session::Session;
-use bench_core::LeaseRefusal;
+use bench_core::{LeaseRefusal, LeaseResult};
 use bench_disk::Disk;
 use certificate_checker::Outcome;
 use disk_journal::Receipt;
@@ -40,6 +40,7 @@ pub struct SharedBench<D: Disk> {
     commits: AtomicU64,
     /// Passes slept when the last of them ended: it took them long to wait for it.
     is_slow: AtomicBool,
+    alloc: Global,
 }
 
 impl<D: Disk> Model for SharedBench<D> {
@@ -71,6 +72,7 @@ impl<D: Disk> SharedBench<D> {
                     lock,
                     commits: AtomicU64::new(0),
                     is_slow: AtomicBool::new(false),
+                    alloc,
                 };
                 Ok((shared, pass))
             }
@@ -102,6 +104,8 @@ impl<D: Disk> SharedBench<D> {
 
     /// Stages the result of a lease's search, in one turn, and keeps the lease for it. The answer is the number of its record
     /// in the journal, from 1. A refusal drops the outcome. `Stale` comes where the lease does not live, or has its result.
+    ///
+    /// The record is encoded before the turn. Where there is no memory for it, no turn is taken.
     pub fn stage<R: Wait>(
         &self,
         rt: &R,
@@ -116,9 +120,10 @@ impl<D: Disk> SharedBench<D> {
         ensures turn { InOneTurn pass.old.front pass.new.front
             (λ found new. StagesNumbered found new lease.now outcome result) }
     {
+        let found = LeaseResult::new(self.alloc, lease, outcome)?;
         let mut session = self.lock.enter(rt, pass);
         let before = session.count();
-        let answer = stage_numbered(&mut session, lease, outcome);
+        let answer = stage_numbered(&mut session, found);
         self.leave(pass, session, before);
         answer
     }
@@ -312,13 +317,12 @@ impl<D: Disk> SharedBench<D> {
 /// Stages in a turn, and tells the number of the record.
 fn stage_numbered<D: Disk>(
     session: &mut Session<D>,
-    lease: &Lease,
-    outcome: Outcome,
+    found: LeaseResult,
 ) -> Result<u64, StageRefusal>
-    requires { IsOutcomeOf lease.now outcome }
     ensures grows { GrowsByTurns session.old.line session.new.line }
-    ensures turn { StagesNumbered session.old.line session.new.line lease.now outcome result }
+    ensures turn { StagesNumbered session.old.line session.new.line
+        found.lease found.outcome result }
 {
-    session.stage(lease, outcome)?;
+    session.stage_result(found)?;
     Ok(session.recorded())
 }

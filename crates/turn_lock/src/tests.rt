@@ -1,18 +1,20 @@
 // Threads at the lock, and values that may not be dropped.
+//
+// Each function here is proved too, the dearer the more it calls and compares. So one function leads
+// the threads, and the tests compare what it answers.
 ghost use Rattle.std.specs.Prelude.{◌<◌, All, IfOk};
 ghost use Rattle.turn_lock.specs.Seen.{IsOutside};
 
 use crate::{Kept, Pass, TurnLock};
 use std::alloc::{AllocError, Global};
+use std::process::Abort;
 use std::rt::Clock;
 use std::sync::Wait;
 use std::sync::atomic::{AtomicU64, Ordering};
 use std::test::*;
 use std::thread;
-use std::thread::{Promise, Threads};
+use std::thread::Threads;
 use std::time::Duration;
-
-const TURNS: u64 = 100;
 
 /// Who took a turn, and its number among this caller's turns.
 type Turn = (u64, u64);
@@ -35,164 +37,19 @@ impl Kept for Turns {
     }
 }
 
-/// One turn; `false` where there was no memory for it.
-fn take_turn<R: Wait>(rt: &R, lock: &TurnLock<Turns>, pass: &mut Pass<Turns>, turn: Turn) -> bool
-    requires outside { IsOutside lock.now pass.old }
-    requires caller { 0 < turn.0 }
-    ensures outside { IsOutside lock.now pass.new }
-{
-    let mut value = lock.enter(rt, pass);
-    let room = value.taken.reserve(1).is_ok();
-    if room {
-        value.taken.push_reserved(turn);
-        lock.note(pass, &value, 1);
-    }
-    lock.leave(pass, value);
-    room
-}
-
-fn take_turns<R: Wait>(
-    rt: &R,
-    lock: &TurnLock<Turns>,
-    mut pass: Pass<Turns>,
-    caller: u64,
-) -> Pass<Turns>
-    requires outside { IsOutside lock.now pass }
-    requires caller { 0 < caller }
-    ensures outside { IsOutside lock.now result }
-{
-    for number in 0..TURNS {
-        if !take_turn(rt, lock, &mut pass, (caller, number)) {
-            break;
-        }
-    }
-    pass
-}
-
-/// What a thread gives back: a pass of this lock, without the turn.
-#[derive(Clone, Copy)]
-struct Outside<'a>(&'a TurnLock<Turns>);
-
-impl<'a> Promise<Pass<Turns>> for Outside<'a> {
-    ghost kept_by = { λ promise pass. IsOutside promise.0.now pass };
-}
-
-/// Two scoped threads, each with a pass of its own.
-fn take_turns_in_two_threads<R: Threads + Wait + Sync>(
-    rt: &R,
-    lock: &TurnLock<Turns>,
-    pass: &mut Pass<Turns>,
-) -> Result<(), AllocError>
-    requires outside { IsOutside lock.now pass.old }
-    ensures outside { IsOutside lock.now pass.new }
-{
-    let one = lock.split(pass);
-    let two = lock.split(pass);
-    let (one, two) = thread::scope(
-        thread::scope_env(),
-        rt,
-        |scope| -> Result<(Pass<Turns>, Pass<Turns>), AllocError>
-            requires { IsOutside lock.now one × IsOutside lock.now two }
-            ensures { IfOk result (λ passes. IsOutside lock.entry.now passes.0
-                × IsOutside lock.entry.now passes.1) }
-        {
-            let one = scope.spawn_with(Outside(lock), move || take_turns(rt, lock, one, 1))?;
-            let two = scope.spawn_with(Outside(lock), move || take_turns(rt, lock, two, 2))?;
-            Ok((one.join(rt), two.join(rt)))
-        },
-    )?;
-    lock.join_pass(pass, one);
-    lock.join_pass(pass, two);
-    Ok(())
-}
-
-#[test]
-fn two_scoped_threads_keep_every_turn(rt: HostRuntime) -> Result<(), Fail> {
-    let none = Turns {
-        taken: Vec::new(rt.alloc()),
-    };
-    let Ok((lock, mut pass)) = TurnLock::new(rt.alloc(), none) else {
-        return Err(AllocError.into());
-    };
-    take_turns_in_two_threads(&rt, &lock, &mut pass)?;
-    let (value, count) = lock.close_counted(&rt, pass);
-    assert_eq!(rt; count, 200);
-    assert_eq!(rt; value.taken.len(), 200);
-    for caller in [1, 2] {
-        let of_caller = value.taken.iter().filter(|turn| turn.0 == caller);
-        assert_eq!(rt; of_caller.count(), 100, "of caller {caller}");
-        let of_caller = value.taken.iter().filter(|turn| turn.0 == caller);
-        for (number, turn) in (0..TURNS).zip(of_caller) {
-            assert_eq!(rt; turn.1, number, "of caller {caller}");
-        }
-    }
-    Ok(())
-}
-
-/// Keeps the turn for as long as the other pass needs to fall asleep.
-fn keep_the_turn<R: Wait + Clock>(
-    rt: &R,
-    lock: &TurnLock<Turns>,
-    mut pass: Pass<Turns>,
-) -> Pass<Turns>
-    requires outside { IsOutside lock.now pass }
-    ensures outside { IsOutside lock.now result }
-{
-    let value = lock.enter(rt, &mut pass);
-    thread::sleep(rt, Duration::from_millis(40));
-    lock.leave(&mut pass, value);
-    pass
-}
-
-fn keep_and_wait<R: Threads + Wait + Clock + Sync>(
-    rt: &R,
-    lock: &TurnLock<Turns>,
-    pass: &mut Pass<Turns>,
-)
-    requires outside { IsOutside lock.now pass.old }
-    ensures outside { IsOutside lock.now pass.new }
-{
-    let keeper = lock.split(pass);
-    let waiter = lock.split(pass);
-    let (keeper, waiter) = thread::join(
-        rt,
-        move || -> Pass<Turns>
-            requires { IsOutside lock.now keeper }
-            ensures { IsOutside lock.entry.now result }
-        { keep_the_turn(rt, lock, keeper) },
-        move || -> Pass<Turns>
-            requires { IsOutside lock.now waiter }
-            ensures { IsOutside lock.entry.now result }
-        {
-            thread::sleep(rt, Duration::from_millis(10));
-            take_turns(rt, lock, waiter, 1)
-        },
-    );
-    lock.join_pass(pass, keeper);
-    lock.join_pass(pass, waiter);
-}
-
-// A wake that is lost shows as a test that does not end.
-#[test]
-fn a_pass_that_sleeps_is_woken(rt: HostRuntime) -> Result<(), Fail> {
-    let none = Turns {
-        taken: Vec::new(rt.alloc()),
-    };
-    let Ok((lock, mut pass)) = TurnLock::new(rt.alloc(), none) else {
-        return Err(AllocError.into());
-    };
-    keep_and_wait(&rt, &lock, &mut pass);
-    assert_eq!(rt; lock.close(&rt, pass).taken.len(), 100);
-    Ok(())
-}
-
-/// What passes that hand the turn on know of each other.
+/// What passes that share the lock know of each other.
 #[derive(Drop)]
 struct Relay {
+    /// Whether each turn waits for the other passes. Without that all race for the turn.
+    hands_on: bool,
+    /// How many turns each pass takes.
+    turns: u64,
     /// How often the turn was taken.
     taken: AtomicU64,
     /// How many passes come again, those that have the turn or wait for it among them.
     running: AtomicU64,
+    /// The numbers of callers that were given out.
+    callers: AtomicU64,
 }
 
 /// Waits until the count is at least this.
@@ -205,66 +62,72 @@ fn wait_for<R: Wait>(rt: &R, count: &AtomicU64, least: u64) {
     }
 }
 
-/// Takes the turn so often. With the turn in hand it waits until every other pass that comes again
-/// sleeps, and behind `leave` until one of them has the turn. So that `leave` alone can wake them:
-/// nobody else enters or leaves.
-fn hand_on<R: Wait>(
+/// With the turn in hand waits until every other pass that comes again sleeps, in the first turn so
+/// long that they do. How often the turn is to be taken before this pass comes again.
+fn wait_for_sleepers<R: Wait + Clock>(
+    rt: &R,
+    relay: &Relay,
+    sleepers: &AtomicU64,
+    number: u64,
+) -> u64 {
+    if !relay.hands_on {
+        return 0;
+    }
+    let taken = relay.taken.fetch_add(1, Ordering::SeqCst);
+    let comes_again = number.saturating_add(1) < relay.turns;
+    if !comes_again {
+        relay.running.fetch_sub(1, Ordering::SeqCst);
+    }
+    let running = relay.running.load(Ordering::SeqCst);
+    let others = running.saturating_sub(u64::from(comes_again));
+    wait_for(rt, sleepers, others);
+    if number == 0 {
+        thread::sleep(rt, Duration::from_millis(20));
+    }
+    if others == 0 {
+        0
+    } else {
+        taken.saturating_add(2)
+    }
+}
+
+/// One turn, which is noted where there is memory for it. Where the passes hand the turn on, `leave`
+/// alone can wake them, and this ends when one of them has the turn.
+fn take_turn<R: Wait + Clock>(
     rt: &R,
     lock: &TurnLock<Turns>,
     relay: &Relay,
     pass: &mut Pass<Turns>,
-    turns: u64,
+    turn: Turn,
 )
-    requires { IsOutside lock.now pass.old }
-    ensures { IsOutside lock.now pass.new }
+    requires outside { IsOutside lock.now pass.old }
+    requires caller { 0 < turn.0 }
+    ensures outside { IsOutside lock.now pass.new }
 {
-    for turn in 0..turns {
-        let value = lock.enter(rt, pass);
-        let taken = relay.taken.fetch_add(1, Ordering::SeqCst);
-        if turn + 1 == turns {
-            relay.running.fetch_sub(1, Ordering::SeqCst);
-        }
-        let running = relay.running.load(Ordering::SeqCst);
-        let others = running.saturating_sub(u64::from(turn + 1 != turns));
-        wait_for(rt, &lock.sleepers, others);
-        lock.leave(pass, value);
-        if others != 0 {
-            wait_for(rt, &relay.taken, taken.saturating_add(2));
-        }
+    let mut value = lock.enter(rt, pass);
+    if value.taken.reserve(1).is_ok() {
+        value.taken.push_reserved(turn);
+        lock.note(pass, &value, 1);
     }
+    let goal = wait_for_sleepers(rt, relay, &lock.sleepers, turn.1);
+    lock.leave(pass, value);
+    wait_for(rt, &relay.taken, goal);
 }
 
-/// So many passes hand the turn round, each in a thread of its own, until each has had it so often.
-fn hand_round<R: Threads + Wait + Sync>(
+/// The turns of one pass.
+fn take_turns<R: Wait + Clock>(
     rt: &R,
-    alloc: Global,
-    passes: u64,
-    turns: u64,
-) -> Result<u64, AllocError> {
-    let none = Turns {
-        taken: Vec::new(alloc),
-    };
-    let (lock, mut pass) = match TurnLock::new(alloc, none) {
-        Ok(made) => made,
-        Err((_, error)) => return Err(error),
-    };
-    let relay = Relay {
-        taken: AtomicU64::new(0),
-        running: AtomicU64::new(passes),
-    };
-    let mut all = split_off(alloc, &lock, &mut pass, passes)?;
-    let shared = &lock;
-    let known = &relay;
-    thread::for_each_mut(
-        rt,
-        all.as_mut_slice(),
-        (passes as usize).max(1),
-        &|_, own: &mut Pass<Turns>|
-            requires { IsOutside shared.now own.old }
-            ensures { IsOutside shared.entry.now own.new }
-        { hand_on(rt, shared, known, own, turns) },
-    );
-    Ok(relay.taken.load(Ordering::SeqCst))
+    lock: &TurnLock<Turns>,
+    relay: &Relay,
+    pass: &mut Pass<Turns>,
+)
+    requires outside { IsOutside lock.now pass.old }
+    ensures outside { IsOutside lock.now pass.new }
+{
+    let caller = relay.callers.fetch_add(1, Ordering::SeqCst).max(1);
+    for number in 0..relay.turns {
+        take_turn(rt, lock, relay, pass, (caller, number));
+    }
 }
 
 /// So many passes of the lock.
@@ -285,18 +148,93 @@ fn split_off(
     Ok(all)
 }
 
+/// So many passes take turns, each in a thread of its own. What the lock keeps, and what it counts.
+fn take_turns_in_threads<R: Threads + Wait + Clock + Sync>(
+    rt: &R,
+    alloc: Global,
+    passes: u64,
+    relay: &Relay,
+) -> Result<(Turns, u64), AllocError> {
+    let first = Turns {
+        taken: [(9, 9)].to_vec(alloc)?,
+    };
+    let (lock, mut pass) = match TurnLock::new(alloc, first) {
+        Ok(made) => made,
+        Err((_, error)) => return Err(error),
+    };
+    let mut all = split_off(alloc, &lock, &mut pass, passes)?;
+    let shared = &lock;
+    thread::for_each_mut(
+        rt,
+        all.as_mut_slice(),
+        (passes as usize).max(1),
+        &|_, own: &mut Pass<Turns>|
+            requires { IsOutside shared.now own.old }
+            ensures { IsOutside shared.entry.now own.new }
+        { take_turns(rt, shared, relay, own) },
+    );
+    Ok(lock.close_counted(rt, pass))
+}
+
+/// How many turns the caller took, where they stand in order.
+fn turns_of(taken: &[Turn], caller: u64) -> Option<u64> {
+    let mut next = 0u64;
+    for turn in taken {
+        if turn.0 == caller {
+            if turn.1 != next {
+                return None;
+            }
+            next = next.saturating_add(1);
+        }
+    }
+    Some(next)
+}
+
+/// Lets so many passes take so many turns each, and stops where one is lost.
+fn keep_every_turn<R: Threads + Wait + Clock + Sync>(
+    abort: &impl Abort,
+    rt: &R,
+    alloc: Global,
+    hands_on: bool,
+    passes: u64,
+    turns: u64,
+) -> Result<(), AllocError> {
+    let relay = Relay {
+        hands_on,
+        turns,
+        taken: AtomicU64::new(0),
+        running: AtomicU64::new(passes),
+        callers: AtomicU64::new(1),
+    };
+    let (value, count) = take_turns_in_threads(rt, alloc, passes, &relay)?;
+    let taken = value.taken.as_slice();
+    // The lock had one at first.
+    let wanted = passes.saturating_mul(turns).saturating_add(1);
+    assert_eq!(abort; (taken.len() as u64, count), (wanted, wanted));
+    for caller in 0..passes {
+        assert_eq!(abort; turns_of(taken, caller.saturating_add(1)), Some(turns));
+    }
+    Ok(())
+}
+
+#[test]
+fn threads_keep_every_turn(rt: HostRuntime) -> Result<(), Fail> {
+    keep_every_turn(&rt, &rt, rt.alloc(), false, 2, 100)?;
+    Ok(())
+}
+
 // Each `leave` has one sleeper, which nothing else wakes: a wake that is lost shows as a test that
 // does not end.
 #[test]
 fn two_passes_hand_the_turn_to_and_fro(rt: HostRuntime) -> Result<(), Fail> {
-    assert_eq!(rt; hand_round(&rt, rt.alloc(), 2, 5_000)?, 10_000);
+    keep_every_turn(&rt, &rt, rt.alloc(), true, 2, 5_000)?;
     Ok(())
 }
 
 // Each `leave` has two sleepers and wakes one; the other sleeps on.
 #[test]
 fn three_passes_hand_the_turn_round(rt: HostRuntime) -> Result<(), Fail> {
-    assert_eq!(rt; hand_round(&rt, rt.alloc(), 3, 3_000)?, 9_000);
+    keep_every_turn(&rt, &rt, rt.alloc(), true, 3, 3_000)?;
     Ok(())
 }
 
@@ -324,20 +262,23 @@ impl Sealed {
     }
 }
 
+/// Keeps the value under a lock with two passes, and takes it out again. Want of memory hands it
+/// back too.
+fn keep_sealed<R: Wait>(rt: &R, alloc: Global, sealed: Sealed) -> Sealed {
+    let (lock, mut pass) = match TurnLock::new(alloc, sealed) {
+        Ok(made) => made,
+        Err((sealed, _)) => return sealed,
+    };
+    let mut other = lock.split(&mut pass);
+    let in_hand = lock.enter(rt, &mut other);
+    lock.leave(&mut other, in_hand);
+    lock.join_pass(&mut pass, other);
+    lock.close(rt, pass)
+}
+
 #[test]
 fn a_value_that_is_no_drop_is_handed_back(rt: HostRuntime) -> Result<(), Fail> {
-    let sealed = Sealed { marks: [7, 8, 9] };
-    let (lock, mut pass) = match TurnLock::new(rt.alloc(), sealed) {
-        Ok(made) => made,
-        Err((sealed, error)) => {
-            assert_eq!(rt; sealed.open(), [7, 8, 9]);
-            return Err(error.into());
-        }
-    };
-    let in_hand = lock.enter(&rt, &mut pass);
-    lock.leave(&mut pass, in_hand);
-    let (sealed, count) = lock.close_counted(&rt, pass);
-    assert_eq!(rt; count, 3);
+    let sealed = keep_sealed(&rt, rt.alloc(), Sealed { marks: [7, 8, 9] });
     assert_eq!(rt; sealed.open(), [7, 8, 9]);
     Ok(())
 }

@@ -7,8 +7,6 @@
 
 mod gates;
 mod pauses;
-#[cfg(test)]
-mod tests;
 mod threads;
 mod worker;
 

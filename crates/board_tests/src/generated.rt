@@ -1,0 +1,180 @@
+//! Openings against those that another program makes by the rule alone.
+ghost use Rattle.std.specs.Prelude.{◌≤◌};
+
+use capture_positions::capture_positions;
+use draughts_board::{Position, Side, Square};
+use std::alloc::Global;
+use std::process::Abort;
+use std::test::Fail;
+
+/// The squares of Black's kings and of White's.
+type Kings = (&'static [u8], &'static [u8]);
+
+/// A seed, how many of its first 2,000 openings have two White kings and how many a Black king on
+/// 32, and its first opening, its hundredth and its last.
+type Row = (u32, usize, usize, Kings, Kings, Kings);
+
+const ROWS: [Row; 10] = [
+    (
+        0,
+        1001,
+        61,
+        (&[1], &[2, 6]),
+        (&[27], &[23, 25]),
+        (&[10], &[5, 15]),
+    ),
+    (
+        1,
+        999,
+        63,
+        (&[24, 32], &[27]),
+        (&[26], &[17, 23]),
+        (&[21, 24], &[19]),
+    ),
+    (
+        2,
+        997,
+        63,
+        (&[17, 31], &[27]),
+        (&[26], &[11, 22]),
+        (&[14, 21], &[18]),
+    ),
+    (
+        7,
+        1002,
+        61,
+        (&[28], &[16, 24]),
+        (&[10, 23], &[26]),
+        (&[30], &[24, 26]),
+    ),
+    (
+        42,
+        999,
+        62,
+        (&[11, 15], &[10]),
+        (&[11], &[3, 16]),
+        (&[6, 20], &[16]),
+    ),
+    (
+        101,
+        998,
+        62,
+        (&[2, 19], &[16]),
+        (&[16, 28], &[11]),
+        (&[15], &[10, 30]),
+    ),
+    (
+        4_176,
+        1001,
+        61,
+        (&[1], &[2, 6]),
+        (&[27], &[23, 25]),
+        (&[10], &[5, 15]),
+    ),
+    (
+        65_535,
+        998,
+        62,
+        (&[19, 23], &[27]),
+        (&[21], &[13, 17]),
+        (&[15], &[3, 18]),
+    ),
+    (
+        1_000_000_007,
+        1003,
+        61,
+        (&[2, 22], &[6]),
+        (&[27], &[12, 24]),
+        (&[15, 16], &[11]),
+    ),
+    (
+        4_294_967_295,
+        1002,
+        62,
+        (&[15], &[7, 19]),
+        (&[1, 13], &[9]),
+        (&[6], &[9, 16]),
+    ),
+];
+
+/// The mask of the squares with these numbers.
+fn mask_of(numbers: &[u8]) -> u32 {
+    let mut mask = 0;
+    for number in numbers {
+        if let Some(square) = Square::new(*number) {
+            mask |= square.bit();
+        }
+    }
+    mask
+}
+
+/// The position has these kings and no other piece, and Black is to move.
+fn expect_kings(rt: &impl Abort, position: Option<&Position>, kings: &Kings) {
+    let expected = [0, mask_of(kings.0), 0, mask_of(kings.1)];
+    assert_eq!(rt; position.map(|p| p.masks()), Some(expected));
+    assert_eq!(rt; position.map(|p| p.to_move()), Some(Side::Black));
+}
+
+fn has_two_white(position: &Position) -> bool {
+    position.count(Side::White) == 2
+}
+
+fn has_black_on_32(position: &Position) -> bool {
+    position.masks()[1] >= 1 << 31
+}
+
+/// How many of the positions have two White kings, and how many a Black king on 32.
+fn counts(positions: &[Position]) -> (usize, usize) {
+    let mut with_two = 0usize;
+    let mut on_32 = 0usize;
+    for position in positions {
+        if has_two_white(position) {
+            with_two = with_two.saturating_add(1);
+        }
+        if has_black_on_32(position) {
+            on_32 = on_32.saturating_add(1);
+        }
+    }
+    (with_two, on_32)
+}
+
+fn expect_row(rt: &impl Abort, alloc: Global, row: &Row) -> Result<(), Fail> {
+    let (seed, two_white, black_on_32, first, hundredth, last) = row;
+    let positions = capture_positions(alloc, *seed, 2_000)?;
+    assert_eq!(rt; positions.len(), 2_000);
+    expect_kings(rt, positions.get_index(0), first);
+    expect_kings(rt, positions.get_index(99), hundredth);
+    expect_kings(rt, positions.get_index(1_999), last);
+    assert_eq!(rt;
+        counts(positions.as_slice()),
+        (*two_white, *black_on_32),
+        "seed {seed}"
+    );
+    Ok(())
+}
+
+#[test]
+fn openings_are_those_of_another_program(rt: HostRuntime) -> Result<(), Fail> {
+    for row in &ROWS {
+        expect_row(&rt, rt.alloc(), row)?;
+    }
+    Ok(())
+}
+
+/// So many openings of seed 1 are the first ones of these.
+fn expect_front(rt: &impl Abort, alloc: Global, all: &[Position], count: u32) -> Result<(), Fail>
+    requires { count ≤ 500 }
+{
+    let some = capture_positions(alloc, 1, count)?;
+    assert_eq!(rt; Some(some.as_slice()), all.get(..count as usize));
+    Ok(())
+}
+
+#[test]
+fn fewer_openings_are_the_first_ones(rt: HostRuntime) -> Result<(), Fail> {
+    let all = capture_positions(rt.alloc(), 1, 500)?;
+    expect_front(&rt, rt.alloc(), all.as_slice(), 0)?;
+    expect_front(&rt, rt.alloc(), all.as_slice(), 1)?;
+    expect_front(&rt, rt.alloc(), all.as_slice(), 17)?;
+    expect_front(&rt, rt.alloc(), all.as_slice(), 499)
+}

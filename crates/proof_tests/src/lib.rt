@@ -1,0 +1,15 @@
+//! Tests of the public calls on certificates, tables, trees and searches, one file for each crate.
+#![tactic(auto)]
+
+#[cfg(test)]
+mod joining;
+#[cfg(test)]
+mod parts;
+#[cfg(test)]
+mod searches;
+#[cfg(test)]
+mod table_bytes;
+#[cfg(test)]
+mod tables;
+#[cfg(test)]
+mod trees;

@@ -1,0 +1,20 @@
+//! Tests of the public calls that read and write words, games, certificates and records, and of what warns of games,
+//! one file for each crate.
+#![tactic(auto)]
+
+#[cfg(test)]
+mod certificates;
+#[cfg(test)]
+mod fens;
+#[cfg(test)]
+mod games;
+#[cfg(test)]
+mod openings;
+#[cfg(test)]
+mod records;
+#[cfg(test)]
+mod terminals;
+#[cfg(test)]
+mod warnings;
+#[cfg(test)]
+mod words;

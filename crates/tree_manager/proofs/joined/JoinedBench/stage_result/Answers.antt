@@ -1,0 +1,52 @@
+use Rattle.std.proofs.Common.{◌≡◌, ◌≤◌, ◌<◌, [], length, sym, ap, ◌∙◌, subst, arith, false}
+use Rattle.std.specs.Vec.{vec_capacity}
+use Rattle.bench_records.specs.declared.records.BenchRecord.{BenchRecord}
+use Rattle.bench_records.specs.Texts.{IsText}
+use Rattle.bench_core.specs.Cores.{Core, IsForgotten, record_of}
+use Rattle.tree_manager.proofs.ForgetLemmas.{forgotten_back}
+use Rattle.tree_manager.proofs.KeptLemmas.{line_put}
+use Rattle.tree_manager.proofs.CallLemmas.{appends_from, keeps_back, kept_result, outcome_result, seen_back, text_some}
+use Rattle.tree_manager.proofs.joined.JoinedBench.stage_result.Goals as goal
+
+pub stage-requires-clause-some : goal.stage-requires-clause-some
+stage-requires-clause-some g c =
+    let text : c.deref.result.now ≡ c.in_ok-text.text.items = c.deref.ensures.value in
+    subst (λ t. 0 < length t) (sym text) (text_some c.self.inside.bench.state.settings.pieces (record_of c.args.found.lease c.args.found.outcome) c.in_ok-text.text.items (c.in_ok-text.ensures.text []))
+
+pub invariant_of-self-in-Err : goal.invariant_of-self-in-Err
+invariant_of-self-in-Err g c =
+    let core : Core = c.self.inside.bench in
+    let r : BenchRecord = record_of c.args.found.lease c.args.found.outcome in
+    let back : c.forget_ready.new.self ≡ core = forgotten_back _ core c.forget_ready.new.self r c.self.invariant.history c.in_ok-text.ensures.may (subst (λ x. IsForgotten x c.forget_ready.new.self) c.in_ok-text.ensures.staged c.forget_ready.ensures) in
+    keeps_back g.D.Disk.TELLS g.D.Disk.reads g.D.Disk.images g.D.Disk.images_since g.D.Disk.moment g.D.Disk.faults
+    c.self.inside.marks.items (vec_capacity c.self.inside.marks) c.self.inside.due core c.forget_ready.new.self c.self.inside.journal c.stage.new.self back c.in-Err.ensures.err c.self.invariant
+
+pub returns-in-Err-clause-unchanged : goal.returns-in-Err-clause-unchanged
+returns-in-Err-clause-unchanged g c =
+    let core : Core = c.self.inside.bench in
+    let r : BenchRecord = record_of c.args.found.lease c.args.found.outcome in
+    let back : c.forget_ready.new.self ≡ core = forgotten_back _ core c.forget_ready.new.self r c.self.invariant.history c.in_ok-text.ensures.may (subst (λ x. IsForgotten x c.forget_ready.new.self) c.in_ok-text.ensures.staged c.forget_ready.ensures) in
+    seen_back c.self.inside.marks.items core c.forget_ready.new.self c.self.inside.journal c.stage.new.self back c.in-Err.ensures.err ∙ c.self.view_is
+
+pub invariant_of-self-2 : goal.invariant_of-self-2
+invariant_of-self-2 g c =
+    let unfailed : c.self.inside.journal.failed ≡ false = cc (c.if-is_failed.false, c.is_failed.ensures) in
+    let core : Core = c.self.inside.bench in
+    let r : BenchRecord = record_of c.args.found.lease c.args.found.outcome in
+    let text : c.deref.result.now ≡ c.in_ok-text.text.items = c.deref.ensures.value in
+    let more : vec_capacity c.self.inside.marks ≤ vec_capacity c.push_reserved.new.self = omega (arith, c.push_reserved.ensures.capacity) in
+    kept_result g.D.Disk.TELLS g.D.Disk.reads g.D.Disk.images g.D.Disk.images_since g.D.Disk.moment g.D.Disk.faults
+    c.self.inside.marks.items c.push_reserved.new.self.items (vec_capacity c.self.inside.marks) (vec_capacity c.push_reserved.new.self) c.self.inside.due core c.ready_result.new.self r c.deref.result.now c.self.inside.journal c.stage.new.self
+    c.self.invariant unfailed c.push_reserved.ensures.items c.in_ok-text.ensures.may (outcome_result core c.args.found.lease c.args.found.outcome c.in_ok-text.ensures.may)
+    (λ before. subst (λ t. IsText core.state.settings.pieces before r t) (sym text) (c.in_ok-text.ensures.text before))
+    c.in_ok-text.ensures.staged c.in_ok-text.ensures.grows c.in_default.ensures.ok more
+
+pub returns-clause-appends : goal.returns-clause-appends
+returns-clause-appends g c =
+    let core : Core = c.self.inside.bench in
+    let r : BenchRecord = record_of c.args.found.lease c.args.found.outcome in
+    appends_from _ _ _ _ c.self.view_is (record {
+      line = line_put c.self.inside.marks.items c.push_reserved.new.self.items core c.ready_result.new.self r c.self.invariant.filled c.push_reserved.ensures.items
+          (ap (λ (x : Core). x.records) c.in_ok-text.ensures.staged) (ap (λ (x : Core). x.staged) c.in_ok-text.ensures.staged);
+      enters = (c.in_ok-text.ensures.may, c.in_ok-text.ensures.staged);
+    })
