@@ -1,7 +1,7 @@
 // Threads at the lock, and values that may not be dropped.
 //
-// Each function here is proved too, the dearer the more it calls and compares. So one function leads
-// the threads, and the tests compare what it answers.
+// Each function here is proved too, the dearer the more it calls and compares. So one function
+// leads the threads, and one compares what they leave.
 ghost use Rattle.std.specs.Prelude.{◌<◌, All, IfOk};
 ghost use Rattle.turn_lock.specs.Seen.{IsOutside};
 
@@ -91,8 +91,8 @@ fn wait_for_sleepers<R: Wait + Clock>(
     }
 }
 
-/// One turn, which is noted where there is memory for it. Where the passes hand the turn on, `leave`
-/// alone can wake them, and this ends when one of them has the turn.
+/// One turn, which is noted where there is memory for it. Where the passes hand the turn on,
+/// `leave` alone can wake them, and this ends when one of them has the turn.
 fn take_turn<R: Wait + Clock>(
     rt: &R,
     lock: &TurnLock<Turns>,
