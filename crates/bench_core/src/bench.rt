@@ -296,7 +296,8 @@ impl Bench {
         ensures may { OnOk result (MayStage self.old (record_of lease.now outcome)) }
         ensures grows { OnOk result (CanApplyAll self.new) }
         ensures text { IfOk result (λ text. (before : List Record)
-            → IsText self.old.state.settings.pieces before (record_of lease.now outcome) text.items) }
+            → IsText self.old.state.settings.pieces before
+            (record_of lease.now outcome) text.items) }
         ensures refused { IfErr result (RefusesReady self.old.state lease.now) }
         ensures unchanged { OnErr result (self.new ≡ self.old) }
     {
@@ -415,7 +416,8 @@ impl Bench {
         requires there { root ≤ length (nodes self.now.state.forest) }
         requires settled { IfSome (slice_get (nodes self.now.state.forest) (root - 1)) (λ x.
             IsSome (value_of x)) }
-        ensures { IfOk result (λ c. IfSome (slice_get (nodes self.now.state.forest) (root - 1)) (λ x.
+        ensures { IfOk result (λ c.
+            IfSome (slice_get (nodes self.now.state.forest) (root - 1)) (λ x.
             IfSome (value_of x) (λ v.
             IsJoined self.now.state.settings.pieces x.own.position (claim_for v) c))) }
     {

@@ -31,12 +31,10 @@ use std::alloc::{AllocError, Global};
 use strategy_certificate::{Certificate, MOST_FOUND_RANK, Oracle, Part};
 
 /// A root may begin at the position: none has it, and there is room for one more.
-fn may_begin(tree: &Tree, p: &Position) -> bool
-    ensures { IsTrue result ↔ MayBegin p.now (root_positions tree.now.forest) }
+fn may_begin(tree: &Tree, p: Position) -> bool
+    ensures { IsTrue result ↔ MayBegin p (root_positions tree.now.forest) }
 {
-    // each position keeps the rule on pieces
-    let _mover = p.to_move();
-    tree.find_root(p).is_none() && (tree.roots() as usize) < MOST_ROOTS
+    tree.find_root(&p).is_none() && (tree.roots() as usize) < MOST_ROOTS
 }
 
 /// Begins a root.
@@ -53,7 +51,7 @@ pub(crate) fn replay_begin<O: Oracle>(
     ensures forest { OnErr result (grown.new.forest ≡ grown.old.forest) }
     ensures records { OnErr result (grown.new.records ≡ grown.old.records) }
 {
-    if !may_begin(grown.tree(), &p) {
+    if !may_begin(grown.tree(), p) {
         return Err(ReplayRefusal::Unlawful);
     }
     let root = child_at_sight(alloc, &p, oracle)?;
@@ -203,7 +201,8 @@ pub(crate) fn replay_solve<O: Oracle>(
     requires certified { AreCertified (O.piece_limit oracle.now) (batches_shown grown.old.records)
         grown.old.forest }
     ensures ok { OnOk result
-        (IsReplayed (O.piece_limit oracle.now) grown.old (records.Solve node position shown) grown.new) }
+        (IsReplayed (O.piece_limit oracle.now) grown.old
+        (records.Solve node position shown) grown.new) }
     ensures refused { IfErr result
         (RefusesRecord (O.piece_limit oracle.now) grown.old (records.Solve node position shown)) }
     ensures forest { OnErr result (grown.new.forest ≡ grown.old.forest) }

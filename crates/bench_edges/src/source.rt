@@ -128,6 +128,7 @@ mod tests {
     use crate::MemorySource;
     use std::test::Fail;
 
+    /// So many bytes, each a seven.
     fn sevens(alloc: Global, count: usize) -> Result<Vec<u8>, AllocError> {
         vec![in alloc; 7; count]
     }

@@ -346,6 +346,7 @@ mod tests {
     use super::*;
     use std::process::Abort;
 
+    /// The words are `solve` with these three options and the others where none is given.
     fn expect_solve(rt: &impl Abort, words: &[&str], depth: u8, pieces: u8, plies: u8) {
         let solve = Command::Solve(Options {
             workers: 1,
@@ -358,6 +359,7 @@ mod tests {
         assert_eq!(rt; read_words(words), Ok(solve), "{words:?}");
     }
 
+    /// The words are `solve` with this budget and lease and the others where none is given.
     fn expect_budget(rt: &impl Abort, words: &[&str], budget: u32, lease: u32) {
         let solve = Command::Solve(Options {
             workers: 1,
@@ -370,6 +372,7 @@ mod tests {
         assert_eq!(rt; read_words(words), Ok(solve), "{words:?}");
     }
 
+    /// The words are `solve` with these workers and depth and the others where none is given.
     fn expect_workers(rt: &impl Abort, words: &[&str], workers: u8, depth: u8) {
         let solve = Command::Solve(Options {
             workers,
@@ -382,6 +385,7 @@ mod tests {
         assert_eq!(rt; read_words(words), Ok(solve), "{words:?}");
     }
 
+    /// `generate` with these two words has this seed and count.
     fn expect_generate(rt: &impl Abort, seed_word: &str, count_word: &str, seed: u32, count: u32) {
         expect_command(
             rt,
@@ -390,10 +394,12 @@ mod tests {
         );
     }
 
+    /// The words are this command.
     fn expect_command(rt: &impl Abort, words: &[&str], command: Command) {
         assert_eq!(rt; read_words(words), Ok(command), "{words:?}");
     }
 
+    /// The words are refused at this one.
     fn expect_refused(rt: &impl Abort, words: &[&str], at: usize) {
         assert_eq!(rt; read_words(words), Err(WordsRefusal { at }), "{words:?}");
     }

@@ -115,10 +115,12 @@ fn expect_kings(rt: &impl Abort, position: Option<&Position>, kings: &Kings) {
     assert_eq!(rt; position.map(|p| p.to_move()), Some(Side::Black));
 }
 
+/// Two of its kings are White.
 fn has_two_white(position: &Position) -> bool {
     position.count(Side::White) == 2
 }
 
+/// A Black king stands on 32.
 fn has_black_on_32(position: &Position) -> bool {
     position.masks()[1] >= 1 << 31
 }
@@ -138,6 +140,7 @@ fn counts(positions: &[Position]) -> (usize, usize) {
     (with_two, on_32)
 }
 
+/// The 2,000 openings of the seed are as the row says.
 fn expect_row(rt: &impl Abort, alloc: Global, row: &Row) -> Result<(), Fail> {
     let (seed, two_white, black_on_32, first, hundredth, last) = row;
     let positions = capture_positions(alloc, *seed, 2_000)?;

@@ -31,7 +31,8 @@ fn part_for(
     requires pieces { quest.pieces ≤ 3 }
     requires valid { IsTreeState tree.now }
     requires there { IsNamed tree.now.forest n }
-    requires due { IsDueNode quest.pieces shelf.now.puts quest.aim quest.side [] (named tree.now.forest n) }
+    requires due { IsDueNode quest.pieces shelf.now.puts quest.aim quest.side []
+        (named tree.now.forest n) }
     ensures claim { IfOk result (λ one. claim_of one ≡ claim_sought quest.aim quest.side) }
     ensures good { IfOk result (λ one. ByEachTable quest.pieces (λ answer.
         IsGoodPart answer (named tree.now.forest n).own.position one)) }

@@ -55,7 +55,8 @@ pub(crate) fn due_child(tree: &Tree, n: NodeId, quest: Quest) -> Option<NodeId>
     requires there { IsNamed tree.now.forest n }
     requires sound { IsSoundForest tree.now.forest }
     ensures { MatchOption result
-        (All (λ x. is_due quest.aim quest.side x ≡ false) (nodes (named tree.now.forest n).children))
+        (All (λ x. is_due quest.aim quest.side x ≡ false)
+        (nodes (named tree.now.forest n).children))
         (λ c. IsNamed tree.now.forest c
         × (first_due quest.aim quest.side (nodes (named tree.now.forest n).children)
         ≡ named tree.now.forest c ∷ [])) }

@@ -20,8 +20,9 @@ use std::alloc::{AllocError, Global};
 fn known_reason<'a>(p: &Position, shelf: &'a PartShelf, n: NodeId, quest: Quest) -> Reason<'a>
     requires { quest.pieces ≤ 3 }
     ensures usable { IsUsable quest.side result }
-    ensures shows { IsKnown quest.pieces quest.aim quest.side p.now (certificates_of n shelf.now.puts)
-        → (before later : List Board) → ShowsBy quest.aim quest.pieces quest.side before later p.now result }
+    ensures shows { IsKnown quest.pieces quest.aim quest.side p.now
+        (certificates_of n shelf.now.puts) → (before later : List Board)
+        → ShowsBy quest.aim quest.pieces quest.side before later p.now result }
 {
     if p.count(Side::Black) + p.count(Side::White) <= quest.pieces {
         return Reason::Table;
@@ -44,7 +45,8 @@ pub(crate) fn step_at<'a>(
     requires there { IsNamed tree.now.forest n }
     requires sound { IsSoundForest tree.now.forest }
     requires due { (path : List Board)
-        × IsDueNode quest.pieces shelf.now.puts quest.aim quest.side path (named tree.now.forest n) }
+        × IsDueNode quest.pieces shelf.now.puts quest.aim quest.side path
+        (named tree.now.forest n) }
     ensures { IfOk result (λ step. StrategyGoesOn quest.pieces shelf.now.puts quest.aim quest.side
         (named tree.now.forest n) step (due_nodes quest.aim quest.side (named tree.now.forest n))) }
 {

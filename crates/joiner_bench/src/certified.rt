@@ -93,7 +93,8 @@ impl<'a> CertifiedTree<'a> {
     /// Adds what a certificate tells of a leaf to its facts, and puts the certificate on the shelf for it.
     fn learn(&mut self, alloc: Global, n: NodeId, proved: Proved) -> Result<(), AllocError>
         requires sound { IsSoundForest self.old.tree.forest }
-        requires leaf { IsSomeAnd (node_at n self.old.tree.forest) (λ x. x.own.mark ≡ Mark.Unexpanded) }
+        requires leaf { IsSomeAnd (node_at n self.old.tree.forest)
+            (λ x. x.own.mark ≡ Mark.Unexpanded) }
         requires finding { IfSome (node_at n self.old.tree.forest) (λ x.
             IsFinding self.old.pieces x.own.position proved) }
         ensures pieces { self.new.pieces ≡ self.old.pieces }
@@ -111,7 +112,8 @@ impl<'a> CertifiedTree<'a> {
     /// Adds what each of these certificates tells of a leaf.
     fn learn_all(&mut self, alloc: Global, n: NodeId, found: Vec<Proved>) -> Result<(), AllocError>
         requires sound { IsSoundForest self.old.tree.forest }
-        requires leaf { IsSomeAnd (node_at n self.old.tree.forest) (λ x. x.own.mark ≡ Mark.Unexpanded) }
+        requires leaf { IsSomeAnd (node_at n self.old.tree.forest)
+            (λ x. x.own.mark ≡ Mark.Unexpanded) }
         requires finding { IfSome (node_at n self.old.tree.forest) (λ x.
             All (IsFinding self.old.pieces x.own.position) found.items) }
     {
@@ -131,7 +133,8 @@ impl<'a> CertifiedTree<'a> {
         goal: Side,
         depth: u8,
     ) -> Result<bool, AllocError>
-        requires leaf { IsSomeAnd (node_at n self.old.tree.forest) (λ x. x.own.mark ≡ Mark.Unexpanded) }
+        requires leaf { IsSomeAnd (node_at n self.old.tree.forest)
+            (λ x. x.own.mark ≡ Mark.Unexpanded) }
         requires depth { depth ≤ MOST_DEPTH }
     {
         let p = self.tree.position(n);

@@ -25,7 +25,8 @@ fn accept<O: Oracle>(
     part: HoldPart,
     oracle: &O,
 ) -> Result<Option<Proved>, AllocError>
-    ensures { IfOk result (λ found. IfSome found (Proves (O.piece_limit oracle.now) p.now (claim.Hold side))) }
+    ensures { IfOk result (λ found. IfSome found
+        (Proves (O.piece_limit oracle.now) p.now (claim.Hold side))) }
 {
     let mut parts = Vec::new(alloc);
     parts.push(Part::Hold(part))?;
@@ -51,7 +52,8 @@ pub fn prove_fortress<O: Oracle>(
     most: usize,
     oracle: &O,
 ) -> Result<Option<Proved>, AllocError>
-    ensures { IfOk result (λ found. IfSome found (Proves (O.piece_limit oracle.now) p.now (claim.Hold side))) }
+    ensures { IfOk result (λ found. IfSome found
+        (Proves (O.piece_limit oracle.now) p.now (claim.Hold side))) }
 {
     for corner_weight in &CORNER_WEIGHTS {
         let mut growth = Growth::new(alloc, side, *corner_weight);

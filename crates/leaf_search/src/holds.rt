@@ -24,8 +24,11 @@ pub(crate) fn find_hold<O: Oracle>(
     oracle: &O,
     part: &mut HoldPart,
 ) -> Result<bool, AllocError>
-    ensures found { IfOk result (λ found. MatchBool found (Continues (O.answer_at oracle.now) part.old part.new) (part.new ≡ part.old)) }
-    ensures held { IfOk result (λ found. MatchBool found (IsHeld part.new (O.answer_at oracle.now) p.now) (HoldFails (O.piece_limit oracle.now) depth part.old p.now)) }
+    ensures found { IfOk result (λ found. MatchBool found
+        (Continues (O.answer_at oracle.now) part.old part.new) (part.new ≡ part.old)) }
+    ensures held { IfOk result (λ found. MatchBool found
+        (IsHeld part.new (O.answer_at oracle.now) p.now)
+        (HoldFails (O.piece_limit oracle.now) depth part.old p.now)) }
 {
     if is_held(part, oracle, p) {
         return Ok(true);
@@ -73,8 +76,10 @@ fn try_moves<O: Oracle>(
     requires mine { p.now.to_move ≡ part.old.side }
     requires new { HasEntry part.old.entries p.now → ⊥ }
     requires legal { All (IsLegal p.now) moves.now }
-    ensures found { IfOk result (λ found. MatchBool found (Continues (O.answer_at oracle.now) part.old part.new) (part.new ≡ part.old)) }
-    ensures held { IfOk result (λ found. MatchBool found (HasEntry part.new.entries p.now) (All (MoveFails (O.piece_limit oracle.now) depth part.old p.now) moves.now)) }
+    ensures found { IfOk result (λ found. MatchBool found
+        (Continues (O.answer_at oracle.now) part.old part.new) (part.new ≡ part.old)) }
+    ensures held { IfOk result (λ found. MatchBool found (HasEntry part.new.entries p.now)
+        (All (MoveFails (O.piece_limit oracle.now) depth part.old p.now) moves.now)) }
 {
     for m in moves {
         let held = try_move(alloc, p, m, depth, oracle, part)?;
@@ -99,8 +104,10 @@ fn try_move<O: Oracle>(
     requires mine { p.now.to_move ≡ part.old.side }
     requires new { HasEntry part.old.entries p.now → ⊥ }
     requires legal { IsLegal p.now m.now }
-    ensures found { IfOk result (λ found. MatchBool found (Continues (O.answer_at oracle.now) part.old part.new) (part.new ≡ part.old)) }
-    ensures held { IfOk result (λ found. MatchBool found (HasEntry part.new.entries p.now) (MoveFails (O.piece_limit oracle.now) depth part.old p.now m.now)) }
+    ensures found { IfOk result (λ found. MatchBool found
+        (Continues (O.answer_at oracle.now) part.old part.new) (part.new ≡ part.old)) }
+    ensures held { IfOk result (λ found. MatchBool found (HasEntry part.new.entries p.now)
+        (MoveFails (O.piece_limit oracle.now) depth part.old p.now m.now)) }
 {
     let mark = part.len();
     part.add(*p, Some(*m))?;
@@ -124,10 +131,12 @@ fn hold_all<O: Oracle>(
     part: &mut HoldPart,
 ) -> Result<bool, AllocError>
     requires legal { All (IsLegal p.now) moves.now }
-    ensures found { IfOk result (λ found. OnTrue found (Continues (O.answer_at oracle.now) part.old part.new)) }
+    ensures found { IfOk result (λ found. OnTrue found
+        (Continues (O.answer_at oracle.now) part.old part.new)) }
     ensures held { IfOk result (λ found. MatchBool found
         (All (λ m. IsHeld part.new (O.answer_at oracle.now) (after p.now m)) moves.now)
-        (Any (λ m. HoldFails (O.piece_limit oracle.now) depth part.old (after p.now m)) moves.now)) }
+        (Any (λ m. HoldFails (O.piece_limit oracle.now) depth part.old (after p.now m))
+        moves.now)) }
     ensures kept { IfOk result (λ found. OnFalse found (KeepsEntries part.old part.new)) }
 {
     for m in moves {

@@ -23,7 +23,8 @@ fn shown_rank<O: Oracle>(part: &WinPart, oracle: &O, p: &Position) -> Option<u64
     requires { IsSteady (O.answer_at oracle.now) part.now }
     ensures { MatchOption result
         ((r : ℕ) → IsReached part.now (O.answer_at oracle.now) r p.now → ⊥)
-        (λ r. IsReached part.now (O.answer_at oracle.now) r p.now × IsLowFor (length part.now.entries) r) }
+        (λ r. IsReached part.now (O.answer_at oracle.now) r p.now
+        × IsLowFor (length part.now.entries) r) }
 {
     match part.find(p) {
         Some(entry) => Some(entry.rank),
@@ -42,7 +43,8 @@ fn enter<O: Oracle>(
     requires steady { IsSteady (O.answer_at oracle.now) part.old }
     requires lawful { IsLawful p.now }
     requires due { HasDueMove part.old.side p.now chosen }
-    requires below { All (IsReachedBelow part.old (O.answer_at oracle.now) rank) (due_positions p.now chosen) }
+    requires below { All (IsReachedBelow part.old (O.answer_at oracle.now) rank)
+        (due_positions p.now chosen) }
     requires low { rank ≤ 2 ^ 32 + length part.old.entries }
     ensures { IfOk result (λ rank. Finds (O.answer_at oracle.now) part.old part.new p.now rank) }
 {
@@ -155,7 +157,8 @@ fn win_by_move<O: Oracle>(
     requires legal { All (IsLegal p.now) moves.now }
     ensures memo { memo.new ≡ memo.old }
     ensures found { IfOk result (λ found. MatchOption found
-        ((part.new ≡ part.old) × All (λ m. WinFails (O.piece_limit oracle.now) part.old.side depth (after p.now m)) moves.now)
+        ((part.new ≡ part.old) × All (λ m. WinFails (O.piece_limit oracle.now) part.old.side depth
+        (after p.now m)) moves.now)
         (λ rank. Finds (O.answer_at oracle.now) part.old part.new p.now rank)) }
 {
     for m in moves {
@@ -185,7 +188,8 @@ fn win_all<O: Oracle>(
     requires legal { All (IsLegal p.now) moves.now }
     ensures memo { memo.new ≡ memo.old }
     ensures found { IfOk result (λ found. MatchOption found
-        (KeepsWins part.old part.new × Any (λ m. WinFails (O.piece_limit oracle.now) part.old.side depth (after p.now m)) moves.now)
+        (KeepsWins part.old part.new × Any (λ m. WinFails (O.piece_limit oracle.now)
+        part.old.side depth (after p.now m)) moves.now)
         (λ above. FindsAll (O.answer_at oracle.now) part.old part.new p.now moves.now above)) }
 {
     let mut above = 0;

@@ -19,8 +19,10 @@ use turn_lock::Kept;
 /// The number of a lease and its node, or why there is none.
 type Answer = Result<(u128, u64), LeaseRefusal>;
 
+/// Compiles where threads may share the value.
 fn is_sync<T: Sync>(_: &T) {}
 
+/// Compiles where the value may go to another thread.
 fn is_send<T: Send>(_: &T) {}
 
 /// White's man on 16 to move against a man on 12, whose value a table of two pieces has.

@@ -31,7 +31,8 @@ fn stands_in(mask: u32, square: Square) -> bool
 #[inline]
 fn kind_in(kings: u32, white: u32, square: Square) -> u32
     ensures value { result
-        ≡ (if stands_in kings square then 1 else 0) + 2 * (if stands_in white square then 1 else 0) }
+        ≡ (if stands_in kings square then 1 else 0)
+        + 2 * (if stands_in white square then 1 else 0) }
     ensures square { IsSquare square }
 {
     u32::from(stands_in(kings, square)) + 2 * u32::from(stands_in(white, square))

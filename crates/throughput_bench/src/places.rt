@@ -20,6 +20,7 @@ pub(crate) enum Place<'a> {
 }
 
 impl<'a> Place<'a> {
+    /// Its name, as it is printed.
     pub(crate) fn name(&self) -> &'static str {
         match self {
             Place::Memory => "memory",

@@ -191,6 +191,7 @@ impl<V: Kept> TurnLock<V> {
 }
 
 impl<V: Kept> Pass<V> {
+    /// Its seat at the table.
     fn into_seat(self) -> LockSeat<V>
         ensures view { seen result.table_id result.me ≡ self }
         ensures between { IsBetweenCalls result.me }
@@ -200,7 +201,7 @@ impl<V: Kept> Pass<V> {
     }
 }
 
-// The one slot of a table, with the value.
+/// The one slot of a table, with the value.
 fn filled_slot<V>(alloc: Global, value: V) -> Result<Vec<Option<V>>, (V, AllocError)>
     ensures ok { IfOk result (λ slots. slots.items ≡ Some value ∷ []) }
     ensures err { IfErr result (λ refused. refused.0 ≡ value) }
@@ -218,7 +219,7 @@ fn filled_slot<V>(alloc: Global, value: V) -> Result<Vec<Option<V>>, (V, AllocEr
     }
 }
 
-// The value of the one slot.
+/// The value of the one slot.
 fn value_of<V>(mut slots: Vec<Option<V>>) -> V
     requires { (value : V) × (slots.items ≡ Some value ∷ []) }
     ensures { slots.items ≡ Some result ∷ [] }

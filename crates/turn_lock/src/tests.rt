@@ -256,6 +256,7 @@ impl Kept for Sealed {
 }
 
 impl Sealed {
+    /// Its marks.
     fn open(self) -> [u8; 3] {
         let Self { marks } = self;
         marks

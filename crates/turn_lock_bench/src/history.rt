@@ -41,6 +41,7 @@ impl Kept for History {
 }
 
 impl History {
+    /// A history without turns.
     pub fn new(alloc: Global) -> Self
         ensures { result ≡ [] }
     {
@@ -49,6 +50,7 @@ impl History {
         }
     }
 
+    /// How many turns it has.
     pub fn len(&self) -> usize
         ensures { result ≡ length self.now }
     {

@@ -9,6 +9,7 @@ pub enum Keeper {
 }
 
 impl Keeper {
+    /// The word for it.
     pub fn name(self) -> &'static str {
         match self {
             Keeper::Lock => "lock",

@@ -21,6 +21,7 @@ use std::thread::Threads;
 
 const THREADS: [u32; 3] = [1, 2, 4];
 
+/// Runs the job, and prints what it came to.
 fn run<R: Threads + Wait + Print + Sync>(rt: &R, alloc: Global, job: Job) -> Result<()> {
     let history = match job.keeper {
         Keeper::Lock => under_lock::run(rt, alloc, job)?,

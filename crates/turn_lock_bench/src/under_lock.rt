@@ -67,6 +67,7 @@ fn passes(
     Ok(all)
 }
 
+/// Ends the passes, and takes what they have seen into this one.
 fn join_all(lock: &TurnLock<History>, pass: &mut Pass<History>, mut all: Vec<Pass<History>>)
     requires outside { IsOutside lock.now pass.old }
     requires each { All (λ p. IsOutside lock.now p) all.items }

@@ -51,6 +51,7 @@ const REFUTED: Pair = Pair {
     disproof: Some(0),
 };
 
+/// The lesser number; `None` is infinite.
 fn lesser(a: Option<u64>, b: Option<u64>) -> Option<u64> {
     match (a, b) {
         (Some(x), Some(y)) => Some(x.min(y)),
@@ -59,10 +60,12 @@ fn lesser(a: Option<u64>, b: Option<u64>) -> Option<u64> {
     }
 }
 
+/// The sum; `None` is infinite.
 fn sum(a: Option<u64>, b: Option<u64>) -> Option<u64> {
     a?.checked_add(b?)
 }
 
+/// The two are one number.
 fn is_same(number: Number, plain: Option<u64>) -> bool {
     match (number, plain) {
         (Number::Finite(n), Some(m)) => n == m as u128,
@@ -72,10 +75,12 @@ fn is_same(number: Number, plain: Option<u64>) -> bool {
 }
 
 impl Pair {
+    /// One of the two numbers is 0.
     fn is_resolved(&self) -> bool {
         self.proof == Some(0) || self.disproof == Some(0)
     }
 
+    /// The tree keeps these numbers.
     fn is_kept(&self, numbers: Numbers) -> bool {
         is_same(numbers.proof, self.proof) && is_same(numbers.disproof, self.disproof)
     }
@@ -100,6 +105,7 @@ pub(crate) struct PlainTree {
 }
 
 impl PlainTree {
+    /// The tree of this root alone.
     pub(crate) fn new(alloc: Global, root: &Child) -> Result<PlainTree, AllocError> {
         let mut nodes = Vec::new(alloc);
         nodes.push(PlainNode {
@@ -115,6 +121,7 @@ impl PlainTree {
         Ok(PlainTree { nodes })
     }
 
+    /// The position stands at this node, or above it.
     fn stands_above(&self, p: &Position, from: usize) -> bool {
         let mut at = Some(from);
         for _ in 0..self.nodes.len() {
@@ -129,6 +136,7 @@ impl PlainTree {
         false
     }
 
+    /// Gives the node these children, where there is such a node.
     pub(crate) fn expand(&mut self, at: usize, children: &[Child]) -> Result<(), AllocError> {
         let first = self.nodes.len();
         for child in children {
@@ -152,6 +160,7 @@ impl PlainTree {
         Ok(())
     }
 
+    /// Gives the node these facts, where there is such a node.
     pub(crate) fn bound(&mut self, at: usize, facts: Facts) {
         if let Some(node) = self.nodes.get_mut(at) {
             node.facts = facts;
@@ -199,6 +208,7 @@ impl PlainTree {
         }
     }
 
+    /// The numbers of each node for the goal, made anew from the last node to the first.
     fn fold(&self, alloc: Global, goal: Side) -> Result<Vec<Pair>, AllocError> {
         let mut folded = Vec::new(alloc);
         folded.resize(self.nodes.len(), REFUTED)?;
