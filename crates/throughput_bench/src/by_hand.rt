@@ -29,18 +29,16 @@ const REMEMBERED: usize = 65_536;
 /// How many nanoseconds the calls took by the clock.
 #[derive(Clone, Copy, PartialEq, Eq, Debug, Default)]
 pub(crate) struct Spent {
-    pub(crate) lease: u128,
     pub(crate) search: u128,
     pub(crate) stage: u128,
+    /// What committing and leasing the next leaf took, which is one turn.
     pub(crate) commit: u128,
 }
 
 impl Spent {
     /// How many of them the worker had the turn, or encoded a record before its turn, as `stage` does.
     pub(crate) fn in_turns(&self) -> u128 {
-        self.lease
-            .saturating_add(self.stage)
-            .saturating_add(self.commit)
+        self.stage.saturating_add(self.commit)
     }
 
     /// How many there were.
@@ -56,20 +54,8 @@ pub(crate) struct ByHand {
     pub(crate) spent: Spent,
 }
 
-/// A lease, and none where all roots are settled.
-fn take_lease<R: Wait, D: Disk>(
-    waiting: &R,
-    rt: &HostRuntime,
-    shared: &SharedBench<D>,
-    pass: &mut BenchPass<D>,
-    spent: &mut Spent,
-) -> Result<Option<Lease>>
-    requires { IsOutside shared.now pass.old }
-    ensures { IsOutside shared.now pass.new }
-{
-    let start = Instant::now(rt)?;
-    let answer = shared.lease(waiting, pass, WORKER);
-    spent.lease = spent.lease.saturating_add(start.elapsed(rt)?.as_nanos());
+/// The next lease, and none where all roots are settled.
+fn next_of(answer: Result<Lease, LeaseRefusal>) -> Result<Option<Lease>> {
     match answer {
         Ok(lease) => Ok(Some(lease)),
         Err(LeaseRefusal::Done) => Ok(None),
@@ -104,7 +90,7 @@ fn search_leased(
     Ok(outcome)
 }
 
-/// Stages what was found, and commits it.
+/// Stages what was found, commits it, and leases the next leaf.
 fn hand_in<R: Wait, D: Disk>(
     waiting: &R,
     rt: &HostRuntime,
@@ -113,7 +99,7 @@ fn hand_in<R: Wait, D: Disk>(
     lease: &Lease,
     outcome: Outcome,
     spent: &mut Spent,
-) -> Result<()>
+) -> Result<Option<Lease>>
     requires outside { IsOutside shared.now pass.old }
     requires outcome { IsOutcomeOf lease.now outcome }
     ensures { IsOutside shared.now pass.new }
@@ -123,10 +109,9 @@ fn hand_in<R: Wait, D: Disk>(
     spent.stage = spent.stage.saturating_add(start.elapsed(rt)?.as_nanos());
     let number = staged?;
     let start = Instant::now(rt)?;
-    let committed = shared.commit_together(waiting, pass, number);
+    let committed = shared.commit_and_lease(waiting, pass, number, WORKER);
     spent.commit = spent.commit.saturating_add(start.elapsed(rt)?.as_nanos());
-    let _receipt = committed?;
-    Ok(())
+    next_of(committed?)
 }
 
 /// Leases, searches, stages and commits until all roots are settled.
@@ -142,12 +127,13 @@ fn work_off<R: Wait, D: Disk>(
 {
     let mut memo = Memo::new(rt.alloc(), table.pieces(), REMEMBERED)?;
     let mut spent = Spent::default();
+    let mut next = next_of(shared.lease(waiting, pass, WORKER))?;
     for _ in 0..MOST_ASKED {
-        let Some(lease) = take_lease(waiting, rt, shared, pass, &mut spent)? else {
+        let Some(lease) = next else {
             break;
         };
         let outcome = search_leased(rt, &lease, table, &mut memo, &mut spent)?;
-        hand_in(waiting, rt, shared, pass, &lease, outcome, &mut spent)?;
+        next = hand_in(waiting, rt, shared, pass, &lease, outcome, &mut spent)?;
     }
     Ok(spent)
 }

@@ -48,10 +48,9 @@ fn print_turns(rt: &impl Print, place: Place, work: u64, spent: &Spent) -> Resul
     let name = place.name();
     let percent = spent.in_turns().saturating_mul(100) / spent.in_all().max(1);
     let work = u128::from(work.max(1));
-    let (lease, search) = (spent.lease / work, spent.search / work);
-    let (stage, commit) = (spent.stage / work, spent.commit / work);
+    let (search, stage, commit) = (spent.search / work, spent.stage / work, spent.commit / work);
     print!(rt; "{name}: in turns and encoding {percent} % of a worker's time, for a record ")?;
-    println!(rt; "lease {lease} ns, search {search} ns, stage {stage} ns, commit {commit} ns")?;
+    println!(rt; "search {search} ns, stage {stage} ns, commit and next lease {commit} ns")?;
     Ok(())
 }
 

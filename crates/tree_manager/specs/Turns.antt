@@ -128,7 +128,7 @@ module _ (found new : List Entry) where
   Commits (Err commit.Failed) = (new ≡ found) × EndsBroken new
   Commits (Err commit.Disk) = ((faults : ℕ) × AddsEntry (Broken faults)) × EndsBroken new
 
-  -- `commit_together`: nothing where another pass has committed, and else what `commit` does
+  -- nothing where another pass has committed, and else what `commit` does
   abbrev pub CommitsUnlessDone : Result (Option Receipt) CommitRefusal → Type 0
   CommitsUnlessDone (Ok None) = new ≡ found
   CommitsUnlessDone (Ok (Some receipt)) = AllAcknowledged receipt
@@ -137,3 +137,20 @@ module _ (found new : List Entry) where
   -- `count_roots`
   abbrev pub Counts : RootCounts → Type 0
   Counts counts = (new ≡ found) × InStateOf new (λ s. AreRootCounts counts s.forest)
+
+-- ---- two calls in one turn
+
+-- What was staged is committed, unless another pass has done it, and a leaf of what this leaves is
+-- leased, or refused.
+pub record CommitsThenLeases (found new : List Entry) (worker : ℕ)
+    (next : Result Lease LeaseRefusal) : Type 0 where
+  pub committed : List Entry
+  pub receipt : Option Receipt
+  pub commits : CommitsUnlessDone found committed (Ok receipt)
+  pub leases : Leases committed new worker next
+
+-- `commit_and_lease`
+abbrev pub CommitsAndLeases : List Entry → List Entry → ℕ
+    → Result (Result Lease LeaseRefusal) CommitRefusal → Type 0
+CommitsAndLeases found new worker (Ok next) = CommitsThenLeases found new worker next
+CommitsAndLeases found new worker (Err refusal) = Commits found new (Err refusal)

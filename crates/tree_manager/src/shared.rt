@@ -9,7 +9,7 @@ ghost use Rattle.turn_lock.specs.Seen.{IsOutside};
 ghost use Rattle.bench_core.specs.Cores.{IsOutcomeOf};
 ghost use Rattle.tree_manager.specs.Lines.{recorded, applied_in};
 ghost use Rattle.tree_manager.specs.Receipts.{acknowledgements};
-ghost use Rattle.tree_manager.specs.Turns.{GrowsByTurns, InOneTurn, AsksForSearch, Leases, StagesNumbered, Commits, CommitsUnlessDone, Releases, Counts};
+ghost use Rattle.tree_manager.specs.Turns.{GrowsByTurns, InOneTurn, AsksForSearch, Leases, StagesNumbered, Commits, CommitsUnlessDone, CommitsAndLeases, Releases, Counts};
 
 use crate::counting::RootCounts;
 use crate::refusals::{CommitRefusal, StageRefusal};
@@ -146,29 +146,32 @@ impl<D: Disk> SharedBench<D> {
         answer
     }
 
-    /// Sees to it that the record of this number, which the pass staged, is durable and applied. `None` comes where a commit
-    /// of another pass has done it, and else it commits as `commit` does.
+    /// Sees to it that the record of this number, which the pass staged, is durable and applied, and then leases the next leaf
+    /// to a worker, all in one turn. It commits as `commit` does, unless a commit of another pass has done it; the inner
+    /// answer is that of `lease`.
     ///
     /// Where passes fell asleep over the last commit, it first lets those that wake stage what they have, for a short time, so
     /// that one commit does for all of them. No clause speaks of this waiting.
-    pub fn commit_together<R: Wait>(
+    pub fn commit_and_lease<R: Wait>(
         &self,
         rt: &R,
         pass: &mut BenchPass<D>,
         number: u64,
-    ) -> Result<Option<Receipt>, CommitRefusal>
+        worker: u32,
+    ) -> Result<Result<Lease, LeaseRefusal>, CommitRefusal>
         requires outside { IsOutside self.now pass.old }
         requires number { number ≤ length (recorded pass.old.front) }
         ensures outside { IsOutside self.now pass.new }
         ensures grows { GrowsByTurns pass.old.front pass.new.front }
         ensures applied { OnOk result (number ≤ length (applied_in pass.new.front)) }
         ensures turn { InOneTurn pass.old.front pass.new.front
-            (λ found new. CommitsUnlessDone found new result) }
+            (λ found new. CommitsAndLeases found new worker result) }
+        ensures settings { IfOk result (λ next. IfOk next (AsksForSearch pass.old.front)) }
     {
         self.wait_for_commit();
         let mut session = self.lock.enter(rt, pass);
         let before = session.count();
-        let answer = self.commit_unless_applied(&mut session, number);
+        let answer = self.commit_then_lease(&mut session, number, worker);
         self.leave(pass, session, before);
         answer
     }
@@ -223,6 +226,23 @@ impl<D: Disk> SharedBench<D> {
             return Ok(None);
         }
         Ok(Some(self.commit_session(session)?))
+    }
+
+    /// Commits in a turn, unless the record of this number is applied, and then leases the next leaf.
+    fn commit_then_lease(
+        &self,
+        session: &mut Session<D>,
+        number: u64,
+        worker: u32,
+    ) -> Result<Result<Lease, LeaseRefusal>, CommitRefusal>
+        requires { number ≤ length (recorded session.old.line) }
+        ensures grows { GrowsByTurns session.old.line session.new.line }
+        ensures applied { OnOk result (number ≤ length (applied_in session.new.line)) }
+        ensures turn { CommitsAndLeases session.old.line session.new.line worker result }
+        ensures settings { IfOk result (λ next. IfOk next (AsksForSearch session.old.line)) }
+    {
+        let _receipt = self.commit_unless_applied(session, number)?;
+        Ok(session.lease(worker))
     }
 
     /// Ends a lease without a result, in one turn. It takes no memory. `Stale` comes where the lease does not live or has its

@@ -1,10 +1,10 @@
 //! The work of one worker.
-ghost use Rattle.std.specs.Prelude.{◌≡◌, ◌≤◌, length, OnOk, IfErr};
+ghost use Rattle.std.specs.Prelude.{◌≡◌, ◌≤◌, length, OnOk, IfOk, IfErr, IsErr};
 ghost use Rattle.turn_lock.specs.Seen.{IsOutside};
 ghost use Rattle.bench_core.specs.Cores.{IsOutcomeOf};
 ghost use Rattle.tree_manager.specs.Lines.{recorded, applied_in};
 ghost use Rattle.tree_manager.specs.Turns.{GrowsByTurns};
-ghost use Rattle.worker_gate.specs.Work.{CanSearch, CanSearchLeaf, ShowsEnd};
+ghost use Rattle.worker_gate.specs.Work.{CanSearch, CanSearchLeaf, IsAnswered, ShowsEnd};
 
 use crate::gates::Gate;
 use crate::pauses::Pause;
@@ -34,18 +34,14 @@ pub enum Ended {
     Memory,
 }
 
-/// What came of asking for a leaf, where the work goes on.
-enum Step {
-    /// A leaf was searched. Its result is committed, or came too late.
-    Searched,
-    /// Every open leaf is leased.
-    NoLeaf,
-}
+/// What a worker is answered who asks for its next leaf.
+type Next = Result<Lease, LeaseRefusal>;
 
 /// Leases, searches, stages and commits, leaf after leaf, until every root is settled or the budget is spent.
 ///
-/// While every open leaf is leased it waits, and takes next to no time of a processor. A result that comes too late is
-/// dropped. A lease for whose search or result there is no memory is released, and the work ends.
+/// A result is staged in one turn; in another it is committed, and the next leaf is leased. While every open leaf is leased
+/// the worker waits, and takes next to no time of a processor. A result that comes too late is dropped. A lease for whose
+/// search or result there is no memory is released, and the work ends.
 #[tactic(auto, using(tree_manager::proofs::TurnLemmas::grows_then, crate::proofs::SearchingLemmas::can_search_on))]
 pub fn work<R: Wait, D: Disk, O: Oracle, G: Gate>(
     rt: &R,
@@ -67,48 +63,30 @@ pub fn work<R: Wait, D: Disk, O: Oracle, G: Gate>(
         Err(AllocError) => return Ended::Memory,
     };
     let mut pause = Pause::new();
+    let mut next = shared.lease(rt, pass, worker);
     for _ in rt.forever() {
-        match take_leaf(rt, alloc, shared, pass, worker, oracle, gate, &mut memo) {
-            Ok(Step::Searched) => pause = Pause::new(),
-            Ok(Step::NoLeaf) => pause.rest(rt),
-            Err(ended) => return ended,
-        }
+        next = match next {
+            Ok(lease) => {
+                pause = Pause::new();
+                match search_leaf(rt, alloc, shared, pass, &lease, oracle, gate, &mut memo) {
+                    Ok(next) => next,
+                    Err(ended) => return ended,
+                }
+            }
+            Err(LeaseRefusal::NoLeaf { .. }) => {
+                pause.rest(rt);
+                shared.lease(rt, pass, worker)
+            }
+            Err(LeaseRefusal::Done) => return Ended::Done,
+            Err(LeaseRefusal::Spent { .. }) => return Ended::Spent,
+            Err(LeaseRefusal::Failed) => return Ended::Failed,
+            Err(LeaseRefusal::Memory(_)) => return Ended::Memory,
+        };
     }
     unreachable!()
 }
 
-/// Leases a leaf and searches it, if one is open.
-#[tactic(auto, using(tree_manager::proofs::TurnLemmas::grows_then, crate::proofs::SearchingLemmas::leaf_can_be))]
-fn take_leaf<R: Wait, D: Disk, O: Oracle, G: Gate>(
-    rt: &R,
-    alloc: Global,
-    shared: &SharedBench<D>,
-    pass: &mut BenchPass<D>,
-    worker: u32,
-    oracle: &O,
-    gate: &G,
-    memo: &mut Memo,
-) -> Result<Step, Ended>
-    requires outside { IsOutside shared.now pass.old }
-    requires settings { CanSearch (O.piece_limit oracle.now) pass.old.front }
-    requires memo { memo.old ≡ O.piece_limit oracle.now }
-    ensures outside { IsOutside shared.now pass.new }
-    ensures grows { GrowsByTurns pass.old.front pass.new.front }
-    ensures memo { memo.new ≡ memo.old }
-    ensures ended { IfErr result (λ ended. ShowsEnd ended pass.new.front) }
-{
-    let lease = match shared.lease(rt, pass, worker) {
-        Ok(lease) => lease,
-        Err(LeaseRefusal::NoLeaf { .. }) => return Ok(Step::NoLeaf),
-        Err(LeaseRefusal::Done) => return Err(Ended::Done),
-        Err(LeaseRefusal::Spent { .. }) => return Err(Ended::Spent),
-        Err(LeaseRefusal::Failed) => return Err(Ended::Failed),
-        Err(LeaseRefusal::Memory(_)) => return Err(Ended::Memory),
-    };
-    search_leaf(rt, alloc, shared, pass, &lease, oracle, gate, memo)
-}
-
-/// Searches a leaf that was leased, and commits its result.
+/// Searches a leaf that was leased, commits its result, and leases the next one.
 #[tactic(auto, using(tree_manager::proofs::TurnLemmas::grows_then, crate::proofs::SearchingLemmas::outcome_is))]
 fn search_leaf<R: Wait, D: Disk, O: Oracle, G: Gate>(
     rt: &R,
@@ -119,13 +97,14 @@ fn search_leaf<R: Wait, D: Disk, O: Oracle, G: Gate>(
     oracle: &O,
     gate: &G,
     memo: &mut Memo,
-) -> Result<Step, Ended>
+) -> Result<Next, Ended>
     requires outside { IsOutside shared.now pass.old }
     requires settings { CanSearchLeaf (O.piece_limit oracle.now) lease.now }
     requires memo { memo.old ≡ O.piece_limit oracle.now }
     ensures outside { IsOutside shared.now pass.new }
     ensures grows { GrowsByTurns pass.old.front pass.new.front }
     ensures memo { memo.new ≡ memo.old }
+    ensures next { IfOk result (IsAnswered pass.new.front) }
     ensures ended { IfErr result (λ ended. ShowsEnd ended pass.new.front) }
 {
     pass_gate(rt, shared, pass, lease.worker, gate);
@@ -160,7 +139,7 @@ fn pass_gate<R: Wait, D: Disk, G: Gate>(
     }
 }
 
-/// Stages what a search found, and commits it.
+/// Stages what a search found, commits it, and leases the next leaf.
 #[tactic(auto, using(tree_manager::proofs::TurnLemmas::grows_then))]
 fn put_result<R: Wait, D: Disk>(
     rt: &R,
@@ -168,37 +147,40 @@ fn put_result<R: Wait, D: Disk>(
     pass: &mut BenchPass<D>,
     lease: &Lease,
     outcome: Outcome,
-) -> Result<Step, Ended>
+) -> Result<Next, Ended>
     requires outside { IsOutside shared.now pass.old }
     requires outcome { IsOutcomeOf lease.now outcome }
     ensures outside { IsOutside shared.now pass.new }
     ensures grows { GrowsByTurns pass.old.front pass.new.front }
+    ensures next { IfOk result (IsAnswered pass.new.front) }
     ensures ended { IfErr result (λ ended. ShowsEnd ended pass.new.front) }
 {
     match shared.stage(rt, pass, lease, outcome) {
-        Ok(number) => commit_result(rt, shared, pass, number),
-        Err(StageRefusal::Stale(_)) => Ok(Step::Searched),
+        Ok(number) => commit_result(rt, shared, pass, number, lease.worker),
+        Err(StageRefusal::Stale(_)) => Ok(shared.lease(rt, pass, lease.worker)),
         Err(StageRefusal::Failed) => Err(Ended::Failed),
         Err(StageRefusal::Memory(_)) => give_back(rt, shared, pass, lease.id),
     }
 }
 
-/// Sees to it that the record of this number is durable, by a commit of this worker or of another.
+/// Sees to it that the record of this number is durable, by a commit of this worker or of another, and leases the next leaf.
 fn commit_result<R: Wait, D: Disk>(
     rt: &R,
     shared: &SharedBench<D>,
     pass: &mut BenchPass<D>,
     number: u64,
-) -> Result<Step, Ended>
+    worker: u32,
+) -> Result<Next, Ended>
     requires outside { IsOutside shared.now pass.old }
     requires number { number ≤ length (recorded pass.old.front) }
     ensures outside { IsOutside shared.now pass.new }
     ensures grows { GrowsByTurns pass.old.front pass.new.front }
     ensures applied { OnOk result (number ≤ length (applied_in pass.new.front)) }
+    ensures next { IfOk result (IsAnswered pass.new.front) }
     ensures ended { IfErr result (λ ended. ShowsEnd ended pass.new.front) }
 {
-    match shared.commit_together(rt, pass, number) {
-        Ok(_) => Ok(Step::Searched),
+    match shared.commit_and_lease(rt, pass, number, worker) {
+        Ok(next) => Ok(next),
         Err(CommitRefusal::Failed | CommitRefusal::Disk) => Err(Ended::Failed),
     }
 }
@@ -209,10 +191,11 @@ fn give_back<R: Wait, D: Disk>(
     shared: &SharedBench<D>,
     pass: &mut BenchPass<D>,
     id: LeaseId,
-) -> Result<Step, Ended>
+) -> Result<Next, Ended>
     requires outside { IsOutside shared.now pass.old }
     ensures outside { IsOutside shared.now pass.new }
     ensures grows { GrowsByTurns pass.old.front pass.new.front }
+    ensures none { IsErr result }
     ensures ended { IfErr result (λ ended. ShowsEnd ended pass.new.front) }
 {
     let _ = shared.release(rt, pass, id);
