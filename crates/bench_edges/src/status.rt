@@ -33,26 +33,3 @@ impl Status {
         self as u8
     }
 }
-
-#[cfg(test)]
-mod tests {
-    use super::*;
-
-    #[test]
-    fn numbers_are_the_exit_statuses(rt: HostRuntime) {
-        let statuses = [
-            (Status::Done, 0),
-            (Status::Unsolved, 1),
-            (Status::Words, 2),
-            (Status::Input, 3),
-            (Status::Disk, 4),
-            (Status::Journal, 5),
-            (Status::Memory, 6),
-            (Status::Read, 7),
-            (Status::Write, 8),
-        ];
-        for (status, number) in statuses {
-            assert_eq!(rt; status.number(), number, "{status:?}");
-        }
-    }
-}
