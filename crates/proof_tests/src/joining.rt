@@ -1,25 +1,18 @@
-//! What stands on a shelf. Tests of `join` stand in `joiner_bench`: they need a search, a table and the checker.
+//! What stands on a shelf. Tests of `join` stand in `joiner_bench`: they need a search, a table and
+//! the checker.
+use crate::trees::{grow_at, planted};
 use certificate_joiner::PartShelf;
 use draughts_board::{Position, Side};
-use proof_numbers::{Child, Facts, mobility};
-use proof_tree::{MOST_ROOTS, NodeId, Tree};
+use proof_tree::NodeId;
 use std::alloc::{AllocError, Global};
 use std::test::Fail;
 use strategy_certificate::{Certificate, Claim, PartList};
 
-/// Adds a root of which nothing is known, unless the position is one already.
-fn add_root(alloc: Global, tree: &mut Tree, p: Position) -> Result<(), AllocError> {
-    if tree.find_root(&p).is_some() || tree.roots() as usize >= MOST_ROOTS {
-        return Ok(());
-    }
-    let next = draughts_rules::successors(alloc, &p)?;
-    tree.reserve(1)?;
-    tree.add_root(Child {
-        position: p,
-        facts: Facts::none(),
-        moves: mobility(next.len()),
-    });
-    Ok(())
+/// Two nodes of a tree.
+fn two_nodes(alloc: Global) -> Result<Option<(NodeId, NodeId)>, AllocError> {
+    let mut tree = planted(alloc, Position::start())?;
+    grow_at(alloc, &mut tree, 0)?;
+    Ok(tree.node(0).zip(tree.node(1)))
 }
 
 /// A certificate of the start with this claim, and no part.
@@ -58,47 +51,51 @@ fn claims_of(shelf: &PartShelf, n: NodeId, batch: usize) -> Option<(Claim, Claim
     }
 }
 
-#[test]
-fn keeps_batches_in_order(rt: HostRuntime) -> Result<(), Fail> {
-    let mut tree = Tree::new(rt.alloc());
-    add_root(rt.alloc(), &mut tree, Position::start())?;
-    add_root(rt.alloc(), &mut tree, Position::bare(Side::White))?;
-    let (Some(first), Some(second)) = (tree.node(0), tree.node(1)) else {
-        return Err(Fail::from("no node"));
-    };
-    let mut shelf = PartShelf::new(rt.alloc());
-    assert_eq!(rt; shelf.batches(first), 0);
+/// Those of the first three batches of a node.
+fn first_claims(shelf: &PartShelf, n: NodeId) -> [Option<(Claim, Claim)>; 3] {
+    [
+        claims_of(shelf, n, 0),
+        claims_of(shelf, n, 1),
+        claims_of(shelf, n, 2),
+    ]
+}
+
+/// Whether batches that are put on a shelf stand there by their nodes and in their order.
+fn keeps_order(alloc: Global, first: NodeId, second: NodeId) -> Result<bool, AllocError> {
+    let mut shelf = PartShelf::new(alloc);
     let win = (Claim::Win(Side::Black), Claim::Hold(Side::Black));
     let hold = (Claim::Hold(Side::White), Claim::Draw);
     let draw = (Claim::Draw, Claim::Win(Side::White));
-    put_two(rt.alloc(), &mut shelf, first, win)?;
-    put_two(rt.alloc(), &mut shelf, second, hold)?;
-    put_two(rt.alloc(), &mut shelf, first, draw)?;
-    assert_eq!(rt; shelf.batches(first), 2);
-    assert_eq!(rt; shelf.batches(second), 1);
-    assert_eq!(rt; claims_of(&shelf, first, 0), Some(win));
-    assert_eq!(rt; claims_of(&shelf, first, 1), Some(draw));
-    assert_eq!(rt; claims_of(&shelf, second, 0), Some(hold));
-    assert_eq!(rt; claims_of(&shelf, second, 1), None);
-    Ok(())
+    put_two(alloc, &mut shelf, first, win)?;
+    put_two(alloc, &mut shelf, second, hold)?;
+    put_two(alloc, &mut shelf, first, draw)?;
+    Ok(
+        first_claims(&shelf, first) == [Some(win), Some(draw), None]
+            && first_claims(&shelf, second) == [Some(hold), None, None],
+    )
 }
 
 #[test]
-fn keeps_room(rt: HostRuntime) -> Result<(), Fail> {
-    let mut shelf = PartShelf::new(rt.alloc());
-    assert_eq!(rt; shelf.spare(), 0);
-    shelf.reserve(5)?;
-    assert!(rt; shelf.spare() >= 5);
-    let mut tree = Tree::new(rt.alloc());
-    add_root(rt.alloc(), &mut tree, Position::start())?;
-    let Some(n) = tree.node(0) else {
-        return Err(Fail::from("no node"));
-    };
-    let before = shelf.spare();
-    put_two(rt.alloc(), &mut shelf, n, (Claim::Draw, Claim::Draw))?;
-    assert_eq!(rt; shelf.spare().saturating_add(1), before);
-    // More than a machine can address.
-    assert!(rt; shelf.reserve(usize::MAX).is_err());
-    assert_eq!(rt; shelf.batches(n), 1);
+fn keeps_batches_in_order(rt: HostRuntime) -> Result<(), Fail> {
+    let (first, second) = two_nodes(rt.alloc())?.ok_or("no node")?;
+    assert!(rt; keeps_order(rt.alloc(), first, second)?);
     Ok(())
+}
+
+/// Whether there is room for so many batches where it is made; none where it is not made, and the
+/// shelf is as it was.
+fn has_made_room(alloc: Global, count: usize) -> Option<bool> {
+    let mut shelf = PartShelf::new(alloc);
+    match shelf.reserve(count) {
+        Ok(()) => Some(shelf.spare() >= count),
+        Err(_) if shelf.spare() == 0 => None,
+        Err(_) => Some(false),
+    }
+}
+
+#[test]
+fn makes_room(rt: HostRuntime) {
+    assert_eq!(rt; has_made_room(rt.alloc(), 5), Some(true));
+    // More than a machine can address.
+    assert_eq!(rt; has_made_room(rt.alloc(), usize::MAX), None);
 }

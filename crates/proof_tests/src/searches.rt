@@ -1,8 +1,9 @@
 //! Searches of positions of three pieces, whose values were worked out by hand, and by a program that solves
 //! backwards from the end and is not kept here.
+use crate::tables::filled;
 use certificate_checker::Outcome;
 use draughts_board::{Position, Side};
-use endgame_table::{Table, fill};
+use endgame_table::Table;
 use fen_text::read_fen;
 use leaf_search::{MOST_DEPTH, Memo, is_undecided, prove_fortress, search};
 use std::alloc::Global;
@@ -51,72 +52,125 @@ fn claim_of(outcome: &Option<Outcome>) -> Option<Claim> {
     }
 }
 
+/// The claim that comes so many plies ahead.
+fn solved(
+    alloc: Global,
+    text: &str,
+    depth: u8,
+    table: &Table,
+    memo: &mut Memo,
+) -> Result<Option<Claim>, Fail> {
+    Ok(claim_of(&ask(alloc, text, depth, table, memo)?))
+}
+
+/// Positions, and the claim that comes one ply ahead and no sooner.
+const SOLVED: [(&str, Claim); 3] = [
+    (WHITE_BLOCKS, Claim::Win(Side::White)),
+    (BLACK_BLOCKS, Claim::Win(Side::Black)),
+    (FORCED_DRAW, Claim::Draw),
+];
+
+/// The first position for which another claim comes, or sooner.
+fn first_wrong_claim(alloc: Global, table: &Table) -> Result<Option<&'static str>, Fail> {
+    let mut memo = Memo::new(alloc, 2, 65_536)?;
+    for &(text, due) in &SOLVED {
+        let sooner = solved(alloc, text, 0, table, &mut memo)?;
+        let found = solved(alloc, text, 1, table, &mut memo)?;
+        if (sooner, found) != (None, Some(due)) {
+            return Ok(Some(text));
+        }
+    }
+    Ok(None)
+}
+
 #[test]
 fn solves_three_pieces(rt: HostRuntime) -> Result<(), Fail> {
-    let table = fill(rt.alloc(), 2)?;
-    let mut memo = Memo::new(rt.alloc(), 2, 65_536)?;
-    let rows = [
-        (WHITE_BLOCKS, Claim::Win(Side::White)),
-        (BLACK_BLOCKS, Claim::Win(Side::Black)),
-        (FORCED_DRAW, Claim::Draw),
-    ];
-    for (text, due) in rows {
-        let sooner = ask(rt.alloc(), text, 0, &table, &mut memo)?;
-        assert_eq!(rt; claim_of(&sooner), None, "{text}");
-        let found = ask(rt.alloc(), text, 1, &table, &mut memo)?;
-        assert_eq!(rt; claim_of(&found), Some(due), "{text}");
-    }
+    let table = filled(rt.alloc(), false)?;
+    assert_eq!(rt; first_wrong_claim(rt.alloc(), &table)?, None);
     Ok(())
+}
+
+const ALL: [&str; 5] = [
+    WHITE_BLOCKS,
+    BLACK_BLOCKS,
+    FORCED_DRAW,
+    KING_EACH,
+    LONE_KING,
+];
+
+/// The first position and depth at which another claim comes with a memory of one position.
+fn first_difference(alloc: Global, table: &Table) -> Result<Option<(&'static str, u8)>, Fail> {
+    let mut wide = Memo::new(alloc, 2, 65_536)?;
+    let mut narrow = Memo::new(alloc, 2, 1)?;
+    for text in ALL {
+        for depth in 0..5 {
+            let found = solved(alloc, text, depth, table, &mut wide)?;
+            if solved(alloc, text, depth, table, &mut narrow)? != found {
+                return Ok(Some((text, depth)));
+            }
+        }
+    }
+    Ok(None)
 }
 
 #[test]
 fn solves_the_same_with_a_memory_of_one_position(rt: HostRuntime) -> Result<(), Fail> {
-    let table = fill(rt.alloc(), 2)?;
-    let mut wide = Memo::new(rt.alloc(), 2, 65_536)?;
-    let mut narrow = Memo::new(rt.alloc(), 2, 1)?;
-    for text in [
-        WHITE_BLOCKS,
-        BLACK_BLOCKS,
-        FORCED_DRAW,
-        KING_EACH,
-        LONE_KING,
-    ] {
-        for depth in 0..5 {
-            let found = ask(rt.alloc(), text, depth, &table, &mut wide)?;
-            let again = ask(rt.alloc(), text, depth, &table, &mut narrow)?;
-            assert_eq!(rt; claim_of(&found), claim_of(&again), "{text} at {depth}");
-        }
-    }
+    let table = filled(rt.alloc(), false)?;
+    assert_eq!(rt; first_difference(rt.alloc(), &table)?, None);
     Ok(())
+}
+
+/// How many positions come behind an exhausted one, the depth and the goal; none of a solved one.
+fn exhausted(outcome: &Option<Outcome>) -> Option<(usize, u8, Side)> {
+    match outcome {
+        Some(Outcome::Exhausted(found)) => {
+            Some((found.children.as_slice().len(), found.depth, found.goal))
+        }
+        _ => None,
+    }
+}
+
+/// What a search that looks no ply ahead leaves of the position.
+fn left_by_a_search(alloc: Global, text: &str) -> Result<Option<(usize, u8, Side)>, Fail> {
+    let table = filled(alloc, false)?;
+    let mut memo = Memo::new(alloc, 2, 16)?;
+    Ok(exhausted(&ask(alloc, text, 0, &table, &mut memo)?))
 }
 
 #[test]
 fn gives_the_positions_after_an_exhausted_one(rt: HostRuntime) -> Result<(), Fail> {
-    let table = fill(rt.alloc(), 2)?;
-    let mut memo = Memo::new(rt.alloc(), 2, 16)?;
-    let found = ask(rt.alloc(), WHITE_BLOCKS, 0, &table, &mut memo)?;
-    let Some(Outcome::Exhausted(exhausted)) = found else {
-        return Err(Fail::from("solved"));
-    };
     // 16-11, 23-18 and 23-19, where Black is blocked.
-    assert_eq!(rt; exhausted.children.as_slice().len(), 3);
-    assert_eq!(rt; exhausted.depth, 0);
-    assert!(rt; exhausted.goal == Side::Black);
+    let due = Some((3, 0, Side::Black));
+    assert_eq!(rt; left_by_a_search(rt.alloc(), WHITE_BLOCKS)?, due);
     Ok(())
+}
+
+/// Whether a closed set of at most so many positions shows that White holds.
+fn is_held(alloc: Global, text: &str, most: usize, table: &Table) -> Result<bool, Fail> {
+    let p = read_fen(text.as_bytes())?;
+    Ok(prove_fortress(alloc, &p, Side::White, most, table)?.is_some())
+}
+
+/// The first position that no search solves as a draw, or for which no set is closed, or one of a
+/// single position.
+fn first_open_set(alloc: Global, table: &Table) -> Result<Option<&'static str>, Fail> {
+    let mut memo = Memo::new(alloc, 2, 1_024)?;
+    for text in [KING_EACH, LONE_KING] {
+        let found = solved(alloc, text, 6, table, &mut memo)?;
+        let held = (
+            is_held(alloc, text, 400, table)?,
+            is_held(alloc, text, 1, table)?,
+        );
+        if found != Some(Claim::Draw) || held != (true, false) {
+            return Ok(Some(text));
+        }
+    }
+    Ok(None)
 }
 
 #[test]
 fn closes_sets(rt: HostRuntime) -> Result<(), Fail> {
-    let table = fill(rt.alloc(), 2)?;
-    let mut memo = Memo::new(rt.alloc(), 2, 1_024)?;
-    for text in [KING_EACH, LONE_KING] {
-        let found = ask(rt.alloc(), text, 6, &table, &mut memo)?;
-        assert_eq!(rt; claim_of(&found), Some(Claim::Draw), "{text}");
-        let p = read_fen(text.as_bytes())?;
-        let held = prove_fortress(rt.alloc(), &p, Side::White, 400, &table)?;
-        assert!(rt; held.is_some(), "{text}");
-        let too_few = prove_fortress(rt.alloc(), &p, Side::White, 1, &table)?;
-        assert!(rt; too_few.is_none(), "{text}");
-    }
+    let table = filled(rt.alloc(), false)?;
+    assert_eq!(rt; first_open_set(rt.alloc(), &table)?, None);
     Ok(())
 }

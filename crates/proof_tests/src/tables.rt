@@ -1,32 +1,21 @@
 //! Counts from outside, the published numbers of positions with two and three pieces, and answers worked out by hand.
-ghost use Rattle.std.specs.Prelude.{◌<◌};
-
-use draughts_board::{Cell, PlaceRefusal, Position, Side};
+use draughts_board::Position;
 use endgame_table::{NO_POSITION, Table, answer_of, fill, table_bytes};
+use fen_text::read_fen;
+use std::alloc::{AllocError, Global};
 use std::test::Fail;
 use strategy_certificate::{Answer, Oracle};
 
-const BLACK_KING: Cell = Cell::King(Side::Black);
-
-const WHITE_KING: Cell = Cell::King(Side::White);
-
-/// A Black king on square 1, and a White king on this place, counted from 0.
-fn two_kings(place: usize, to_move: Side) -> Result<Position, PlaceRefusal>
-    requires { place < 32 }
-{
-    let mut cells = [Cell::Empty; 32];
-    cells[0] = BLACK_KING;
-    cells[place] = WHITE_KING;
-    Position::place(cells, to_move)
+/// The table of two or three pieces.
+pub(crate) fn filled(alloc: Global, three: bool) -> Result<Table, AllocError> {
+    fill(alloc, if three { 3 } else { 2 })
 }
 
-/// How many indices are positions.
-fn positions(table: &Table) -> usize {
-    table
-        .numbers()
-        .iter()
-        .filter(|n| **n != NO_POSITION)
-        .count()
+/// How many pieces a table has at most, how many indices, and how many of them are positions.
+fn counts(table: &Table) -> (u8, usize, usize) {
+    let numbers = table.numbers();
+    let positions = numbers.iter().filter(|n| **n != NO_POSITION).count();
+    (table.pieces(), table.len(), positions)
 }
 
 /// What an oracle answers, through its bound.
@@ -34,91 +23,82 @@ fn asked<O: Oracle>(oracle: &O, p: &Position) -> (u8, Option<Answer>) {
     (oracle.pieces(), oracle.answer(p))
 }
 
+/// Positions of at most three pieces, and their answers by the table of two.
+const ANSWERS: [(&str, Option<Answer>); 5] = [
+    ("B:WK32:BK1", Some(Answer::Draw)),
+    // Black captures the White king on 6, and White has no piece left.
+    ("B:WK6:BK1", Some(Answer::Win(1))),
+    // A side without pieces has lost.
+    ("W:W:BK7", Some(Answer::Loss(0))),
+    // More pieces than the table has.
+    ("B:WK6,K32:BK1", None),
+    (
+        "B:W21,22,23,24,25,26,27,28,29,30,31,32:B1,2,3,4,5,6,7,8,9,10,11,12",
+        None,
+    ),
+];
+
+/// The first position whose answer is another one.
+fn first_wrong_answer(table: &Table) -> Result<Option<&'static str>, Fail> {
+    for (text, due) in &ANSWERS {
+        let p = read_fen(text.as_bytes())?;
+        if table.probe(&p) != *due || asked(table, &p) != (2, *due) {
+            return Ok(Some(text));
+        }
+    }
+    Ok(None)
+}
+
+/// How many bytes are written of a table, its head, and the bytes of the entry of B:WK32:BK1 in a
+/// table of two pieces.
+fn written(
+    alloc: Global,
+    table: &Table,
+) -> Result<(usize, Option<[u8; 8]>, Option<[u8; 4]>), AllocError> {
+    let bytes = table_bytes(alloc, table)?;
+    let entry = bytes
+        .get(8 + 4 * 1232..)
+        .and_then(|rest| rest.first_chunk());
+    Ok((bytes.len(), bytes.first_chunk().copied(), entry.copied()))
+}
+
 #[test]
 fn fills_a_table_of_two_pieces(rt: HostRuntime) -> Result<(), Fail> {
-    let table = fill(rt.alloc(), 2)?;
-    assert_eq!(rt; table.pieces(), 2);
-    assert_eq!(rt; table.len(), 16_130);
-    assert_eq!(rt; positions(&table), 14_186);
-    // B:WK32:BK1 and W:WK27:BK1.
-    assert_eq!(rt; table.numbers().get(1232).copied(), Some(0));
-    assert_eq!(rt; table.numbers().get(1073).copied(), Some(0));
-    Ok(())
-}
-
-#[test]
-fn answers_positions_of_two_pieces(rt: HostRuntime) -> Result<(), Fail> {
-    let table = fill(rt.alloc(), 2)?;
-    assert_eq!(rt;
-        table.probe(&two_kings(31, Side::Black)?),
-        Some(Answer::Draw)
-    );
-    // Black captures the White king on 6, and White has no piece left.
-    assert_eq!(rt;
-        table.probe(&two_kings(5, Side::Black)?),
-        Some(Answer::Win(1))
-    );
-    assert_eq!(rt; table.probe(&Position::start()), None);
-    assert_eq!(rt;
-        asked(&table, &two_kings(5, Side::Black)?),
-        (2, Some(Answer::Win(1)))
-    );
-    // A side without pieces has lost.
-    let mut cells = [Cell::Empty; 32];
-    cells[6] = BLACK_KING;
-    assert_eq!(rt;
-        table.probe(&Position::place(cells, Side::White)?),
-        Some(Answer::Loss(0))
-    );
-    Ok(())
-}
-
-#[test]
-fn has_no_answer_for_more_pieces(rt: HostRuntime) -> Result<(), Fail> {
-    let table = fill(rt.alloc(), 2)?;
-    let mut cells = [Cell::Empty; 32];
-    cells[0] = BLACK_KING;
-    cells[5] = WHITE_KING;
-    cells[31] = WHITE_KING;
-    let p = Position::place(cells, Side::Black)?;
-    assert_eq!(rt; table.probe(&p), None);
-    Ok(())
-}
-
-#[test]
-fn writes_the_bytes_of_two_pieces(rt: HostRuntime) -> Result<(), Fail> {
-    let table = fill(rt.alloc(), 2)?;
-    let bytes = table_bytes(rt.alloc(), &table)?;
-    assert_eq!(rt; bytes.len(), 64_528);
-    assert_eq!(rt;
-        &bytes[..8],
-        [0x44, 0x52, 0x54, 0x41, 0x42, 0x4c, 0x45, 0x02].as_slice()
-    );
-    // The draw of B:WK32:BK1.
-    assert_eq!(rt; &bytes[4936..4940], [0, 0, 0, 0].as_slice());
+    let table = filled(rt.alloc(), false)?;
+    assert_eq!(rt; counts(&table), (2, 16_130, 14_186));
+    // B:WK32:BK1 and W:WK27:BK1 are draws.
+    let drawn = (table.numbers().get(1232), table.numbers().get(1073));
+    assert_eq!(rt; drawn, (Some(&0), Some(&0)));
+    assert_eq!(rt; first_wrong_answer(&table)?, None);
+    let bytes = written(rt.alloc(), &table)?;
+    assert_eq!(rt; bytes, (64_528, Some(*b"DRTABLE\x02"), Some([0; 4])));
     Ok(())
 }
 
 #[test]
 fn fills_a_table_of_three_pieces(rt: HostRuntime) -> Result<(), Fail> {
-    let table = fill(rt.alloc(), 3)?;
-    assert_eq!(rt; table.pieces(), 3);
-    assert_eq!(rt; table.len(), 651_010);
-    assert_eq!(rt; positions(&table), 536_634);
-    assert_eq!(rt;
-        table.probe(&two_kings(5, Side::Black)?),
-        Some(Answer::Win(1))
-    );
-    let bytes = table_bytes(rt.alloc(), &table)?;
-    assert_eq!(rt; bytes.len(), 2_604_048);
-    assert_eq!(rt; bytes.get(7).copied(), Some(3));
+    let table = filled(rt.alloc(), true)?;
+    assert_eq!(rt; counts(&table), (3, 651_010, 536_634));
+    let won = read_fen(b"B:WK6:BK1")?;
+    assert_eq!(rt; table.probe(&won), Some(Answer::Win(1)));
+    let (length, head, _) = written(rt.alloc(), &table)?;
+    assert_eq!(rt; (length, head), (2_604_048, Some(*b"DRTABLE\x03")));
     Ok(())
 }
 
 #[test]
 fn numbers_stand_for_answers(rt: HostRuntime) {
-    assert_eq!(rt; answer_of(0), Some(Answer::Draw));
-    assert_eq!(rt; answer_of(1), Some(Answer::Loss(0)));
-    assert_eq!(rt; answer_of(4), Some(Answer::Win(1)));
-    assert_eq!(rt; answer_of(NO_POSITION), None);
+    let answers = [
+        answer_of(0),
+        answer_of(1),
+        answer_of(4),
+        answer_of(NO_POSITION),
+    ];
+    let due = [
+        Some(Answer::Draw),
+        Some(Answer::Loss(0)),
+        Some(Answer::Win(1)),
+        None,
+    ];
+    assert_eq!(rt; answers, due);
 }
