@@ -1,10 +1,15 @@
-//! The start and its first moves, a repetition, and facts. What is due was worked out by hand.
+//! The start and its first moves, a repetition and facts, worked out by hand, and trees of 300
+//! expansions beside a plain fold that the tests write down by themselves.
 use draughts_board::{Position, Side, Value};
 use fen_text::read_fen;
 use proof_numbers::{Child, Facts, Number, Numbers};
 use proof_tree::{Free, Mark, NodeId, Taken, Tree, unknown_child, unknown_children};
 use std::alloc::{AllocError, Global};
 use std::test::Fail;
+
+mod plain;
+
+use plain::{Dice, PlainTree};
 
 /// Each node whose number leaves this rest when divided by 3 is taken.
 #[derive(Clone, Copy)]
@@ -203,5 +208,77 @@ fn settles_roots_by_facts(rt: HostRuntime) -> Result<(), Fail> {
     assert_eq!(rt; white_holds, Some((None, Some((0, Side::White)))));
     let drawn = settled_by(&mut tree, &Facts::of_value(Value::Draw));
     assert_eq!(rt; drawn, Some((Some(Value::Draw), None)));
+    Ok(())
+}
+
+/// One turn: the leaf that is picked is expanded in both trees; with dice, a third of its children
+/// learn facts. False where no leaf is picked.
+fn turn(
+    alloc: Global,
+    tree: &mut Tree,
+    plain: &mut PlainTree,
+    taken: &Third,
+    dice: &mut Option<Dice>,
+) -> Result<bool, AllocError> {
+    let Some((n, _)) = tree.pick(taken) else {
+        return Ok(false);
+    };
+    let made = tree.len();
+    let children = grow(alloc, tree, n)?;
+    plain.expand(n.number() as usize, &children)?;
+    if let Some(dice) = dice {
+        for k in made..tree.len() {
+            let facts = dice.facts();
+            if dice.roll(3) == 0 && learn(tree, k as u64, &facts) {
+                plain.bound(k, facts);
+            }
+        }
+    }
+    Ok(true)
+}
+
+/// The number of turns, at most 300, until no leaf is picked; none where after each tenth one, or
+/// with dice after each, the two trees do not have the same numbers and the same next leaf.
+fn turns(alloc: Global, taken: u64, mut dice: Option<Dice>) -> Result<Option<u32>, AllocError> {
+    let mut tree = planted(alloc, Position::start())?;
+    let mut plain = PlainTree::new(alloc, &unknown_child(alloc, Position::start())?)?;
+    for count in 0..300 {
+        let third = Third { rest: taken };
+        if !turn(alloc, &mut tree, &mut plain, &third, &mut dice)? {
+            return Ok(Some(count));
+        }
+        if dice.is_some() || count % 10 == 9 {
+            if picked(&tree, &third) != plain.pick(alloc, taken)? || !plain.agrees(alloc, &tree)? {
+                return Ok(None);
+            }
+        }
+    }
+    Ok(Some(300))
+}
+
+#[test]
+fn keeps_the_numbers_of_a_plain_fold(rt: HostRuntime) -> Result<(), Fail> {
+    assert_eq!(rt; turns(rt.alloc(), 3, None)?, Some(300));
+    Ok(())
+}
+
+/// The number of turns of forty trees together, where facts come in and leaves are taken; none where
+/// one of them does not agree with its fold.
+fn turns_of_all(alloc: Global) -> Result<Option<u32>, AllocError> {
+    let mut all = 0u32;
+    for seed in 1..=40 {
+        let dice = Dice { state: seed };
+        let Some(count) = turns(alloc, 1 + seed % 2, Some(dice))? else {
+            return Ok(None);
+        };
+        all = all.saturating_add(count);
+    }
+    Ok(Some(all))
+}
+
+#[test]
+fn keeps_them_where_facts_come_in_and_leaves_are_taken(rt: HostRuntime) -> Result<(), Fail> {
+    let all = turns_of_all(rt.alloc())?;
+    assert!(rt; all.is_some_and(|count| count >= 100), "{all:?}");
     Ok(())
 }
