@@ -1,8 +1,7 @@
 //! Runs on journals in memory, one after the other. What is due was worked out by hand from the
 //! rules of play and from the format of journals.
-use crate::tests::run;
-use bench_disk::{FaultDisk, MemoryDisk};
-use bench_edges::{MemorySink, MemorySource, Status};
+use crate::runs_of_tests::{Leaves, NO_FAULTS, RUN, Run, expect_runs, run_bench};
+use bench_edges::Status;
 use std::alloc::Global;
 use std::process::Abort;
 use std::sync::Wait;
@@ -10,10 +9,7 @@ use std::test::Fail;
 use std::thread::Threads;
 use worker_gate::{MeetGate, OpenGate};
 
-/// 23-19 blocks the last man.
-const BLOCKING: &str = "[FEN \"W:W16,23:B12\"] *";
-
-/// The same, and a position that Black wins by 10-14.
+/// 23-19 blocks the last man of the first, and Black wins the second by 10-14.
 const TWO: &str = "[FEN \"W:W16,23:B12\"] * [FEN \"B:W21:B10,17\"] *";
 
 const BLOCKING_WON: &str = "root 1 W:W16,23:B12 white-wins\nroots 1 settled 1 unsolved 0\n";
@@ -25,14 +21,14 @@ const WHOLE: &str = "root 1 W:W16,23:B12 white-wins\nroot 2 B:W21:B10,17 black-w
     roots 2 settled 2 unsolved 0\n";
 
 /// A journal of one root, in which Black is blocked: a head, a frame, and a closed gate.
-const BLOCKED: [u8; 40] = [
+const BLOCKED: &[u8] = &[
     0x44, 0x52, 0x42, 0x45, 0x4e, 0x43, 0x48, 2, 1, 0, 0, 0, 0, 0, 0, 0, 22, 0, 0, 0, 18, 1, 0, 0,
     0, 8, 0, 0, 0, 0, 0, 0, 4, 0x80, 0, 0, 0, 0, 0, 0,
 ];
 
 /// The roots of `TWO`, begun in one frame, and a record that 23-19 wins the first. The frames are of
 /// 44 and of 90 bytes, with their gates at 8 and 61; the closed gate stands at 160.
-const HALF_SOLVED: [u8; 161] = [
+const HALF_SOLVED: &[u8] = &[
     0x44, 0x52, 0x42, 0x45, 0x4e, 0x43, 0x48, 2, // the head
     1, 0, 0, 0, 0, 0, 0, 0, 44, // a gate, and the length of its frame
     0, 0, 0, 18, 1, 1, 0, 0, 8, 0, 0, 0, 0, 0, 0, 0x40, 0x80, 0, 0, 0, 0, 0, // W:W16,23:B12
@@ -48,224 +44,229 @@ const HALF_SOLVED: [u8; 161] = [
     0, // a closed gate
 ];
 
-/// Runs on the disk, compares the status and what was written, and gives the disk back.
-fn on<R: Abort + Threads + Wait + Sync>(
+/// `solve` of two positions with one record of work to spend.
+const SOLVE_ONE: Run = Run {
+    words: &["-", "solve", "--depth", "1", "--budget", "1"],
+    source: TWO,
+    ..RUN
+};
+
+/// `report`, which leaves the disk as it is.
+const REPORT: Run = Run {
+    words: &["-", "report"],
+    leaves: Leaves::Same,
+    ..RUN
+};
+
+/// `certify` of root 1.
+const CERTIFY: Run = Run {
+    words: &["-", "certify", "1"],
+    leaves: Leaves::Same,
+    ..RUN
+};
+
+/// A root that is settled at sight, and then again.
+const SETTLED_AT_SIGHT: &[Run] = &[
+    Run {
+        words: &["-", "solve"],
+        source: "[FEN \"B:W16,19:B12\"] *",
+        written: "root 1 B:W16,19:B12 white-wins\nroots 1 settled 1 unsolved 0\n",
+        leaves: Leaves::Bytes(BLOCKED),
+        ..RUN
+    },
+    Run {
+        words: &["-", "solve"],
+        source: "[FEN \"B:W16,19:B12\"] *",
+        written: "root 1 B:W16,19:B12 white-wins\nroots 1 settled 1 unsolved 0\n",
+        leaves: Leaves::Same,
+        ..RUN
+    },
+    Run {
+        words: &["-", "certify", "2"],
+        status: Status::Input,
+        written: "refused input no-root 2\n",
+        leaves: Leaves::Same,
+        ..RUN
+    },
+    Run {
+        words: &["-", "solve", "--pieces", "3"],
+        status: Status::Journal,
+        written: "refused journal other-table found 2 asked 3\n",
+        leaves: Leaves::Same,
+        ..RUN
+    },
+];
+
+/// A win that is found by looking ahead.
+const WON_BY_SEARCH: &[Run] = &[Run {
+    words: &["-", "solve", "--depth", "1"],
+    source: "[FEN \"W:W16,23:B12\"] *",
+    written: BLOCKING_WON,
+    ..RUN
+}];
+
+/// The same win, whose position is expanded and not searched.
+const WON_BY_EXPANSION: &[Run] = &[Run {
+    words: &["-", "solve", "--depth", "0", "--budget", "1"],
+    source: "[FEN \"W:W16,23:B12\"] *",
+    written: BLOCKING_WON,
+    ..RUN
+}];
+
+/// A draw that is found by looking ahead.
+const DRAWN_BY_SEARCH: &[Run] = &[Run {
+    words: &["-", "solve", "--depth", "1"],
+    source: "[FEN \"B:WK1,K19:BK15\"] *",
+    written: "root 1 B:WK1,K19:BK15 draw\nroots 1 settled 1 unsolved 0\n",
+    ..RUN
+}];
+
+/// A draw by the table, whose certificate has no entry.
+const DRAWN_AT_SIGHT: &[Run] = &[
+    Run {
+        words: &["-", "solve"],
+        source: "[FEN \"B:WK32:BK1\"] *",
+        written: "root 1 B:WK32:BK1 draw\nroots 1 settled 1 unsolved 0\n",
+        ..RUN
+    },
+    Run {
+        written: "certificate 1\ntable 2\nposition B:WK32:BK1\nclaim draw\n\
+            hold black 0\nhold white 0\nend\n",
+        ..CERTIFY
+    },
+];
+
+/// A first run that has one record of work to spend on two roots, and a second that goes on.
+const SECOND_RUN: &[Run] = &[
+    Run {
+        status: Status::Unsolved,
+        written: HALF,
+        ..SOLVE_ONE
+    },
+    Run {
+        status: Status::Unsolved,
+        written: HALF,
+        ..REPORT
+    },
+    Run {
+        words: &["-", "certify", "2"],
+        status: Status::Input,
+        written: "refused input unsettled-root 2\n",
+        leaves: Leaves::Same,
+        ..RUN
+    },
+    Run {
+        written: WHOLE,
+        ..SOLVE_ONE
+    },
+    Run {
+        written: WHOLE,
+        ..REPORT
+    },
+];
+
+/// A journal that was written before.
+const WRITTEN_BEFORE: &[Run] = &[Run {
+    status: Status::Unsolved,
+    written: HALF,
+    ..REPORT
+}];
+
+#[test]
+fn runs_go_on_where_those_before_ended(rt: HostRuntime) -> Result<(), Fail> {
+    for runs in [SETTLED_AT_SIGHT, DRAWN_AT_SIGHT, SECOND_RUN] {
+        expect_runs(&rt, rt.alloc(), &[], runs)?;
+    }
+    Ok(())
+}
+
+/// What `verify` writes of the certificate that `certify` writes of root 1 of a journal of these
+/// bytes, which stays as it is.
+fn verified<R: Abort + Threads + Wait + Sync>(
     rt: &R,
     alloc: Global,
-    disk: MemoryDisk,
-    words: &[&str],
-    text: &str,
-    status: Status,
-    written: &str,
-) -> Result<MemoryDisk, Fail> {
-    let mut source = MemorySource::new(text.as_bytes().to_vec(alloc)?, Vec::new(alloc));
-    let mut sink = MemorySink::new(alloc, Vec::new(alloc));
-    let (ended, disk) = run(rt, alloc, words, &mut source, &mut sink, disk, &OpenGate);
-    assert_eq!(rt; ended, status, "{words:?}");
-    assert_eq!(rt; sink.bytes(), written.as_bytes(), "{words:?}");
-    Ok(disk)
+    disk: &[u8],
+) -> Result<Vec<u8>, Fail> {
+    let certified = run_bench(rt, alloc, CERTIFY.words, &[], disk, NO_FAULTS, &OpenGate)?;
+    assert_eq!(rt; certified.disk.as_slice(), disk);
+    let text = certified.written.as_slice();
+    let seen = run_bench(rt, alloc, &["-", "verify"], text, &[], NO_FAULTS, &OpenGate)?;
+    Ok(seen.written)
 }
 
-/// The disk that a run leaves which settles each root, on a new disk.
-fn solved<R: Abort + Threads + Wait + Sync>(
-    rt: &R,
-    alloc: Global,
-    words: &[&str],
-    text: &str,
-    written: &str,
-) -> Result<MemoryDisk, Fail> {
-    let disk = MemoryDisk::new(alloc);
-    on(rt, alloc, disk, words, text, Status::Done, written)
-}
+/// The first opening that is generated from 1.
+const GENERATED_ALONE: &[Run] = &[Run {
+    words: &["-", "generate", "1", "1"],
+    written: "roots 1 settled 1 unsolved 0\n",
+    ..RUN
+}];
 
-/// The disk that a first run leaves, which has one record of work to spend on two roots.
-fn half_solved<R: Abort + Threads + Wait + Sync>(
-    rt: &R,
-    alloc: Global,
-) -> Result<MemoryDisk, Fail> {
-    let words = ["-", "solve", "--depth", "1", "--budget", "1"];
-    let disk = MemoryDisk::new(alloc);
-    on(rt, alloc, disk, &words, TWO, Status::Unsolved, HALF)
-}
+/// Runs, the bytes of the disk before them, and what `verify` says of the certificate of root 1 that
+/// they leave.
+const CERTIFIED: [(&[Run], &[u8], &[u8]); 5] = [
+    (WON_BY_SEARCH, &[], b"verified W:W16,23:B12 white-wins\n"),
+    (WON_BY_EXPANSION, &[], b"verified W:W16,23:B12 white-wins\n"),
+    (DRAWN_BY_SEARCH, &[], b"verified B:WK1,K19:BK15 draw\n"),
+    (
+        WRITTEN_BEFORE,
+        HALF_SOLVED,
+        b"verified W:W16,23:B12 white-wins\n",
+    ),
+    (
+        GENERATED_ALONE,
+        &[],
+        b"verified B:WK27:BK24,K32 black-wins\n",
+    ),
+];
 
 #[test]
-fn a_root_that_is_settled_at_sight(rt: HostRuntime) -> Result<(), Fail> {
-    let alloc = rt.alloc();
-    let text = "[FEN \"B:W16,19:B12\"] *";
-    let written = "root 1 B:W16,19:B12 white-wins\nroots 1 settled 1 unsolved 0\n";
-    let words = ["-", "solve"];
-    let disk = solved(&rt, alloc, &words, text, written)?;
-    assert_eq!(rt; disk.bytes(), BLOCKED.as_slice());
-    let disk = on(&rt, alloc, disk, &words, text, Status::Done, written)?;
-    assert_eq!(rt; disk.bytes(), BLOCKED.as_slice());
+fn certificates_of_runs_are_verified(rt: HostRuntime) -> Result<(), Fail> {
+    for (runs, disk, line) in CERTIFIED {
+        let left = expect_runs(&rt, rt.alloc(), disk, runs)?;
+        let found = verified(&rt, rt.alloc(), &left)?;
+        assert_eq!(rt; found.as_slice(), line);
+    }
     Ok(())
 }
 
-/// Has root 1 of the disk certified, and the text verified; compares the line, and gives the disk
-/// back, which has the bytes that it had.
-fn expect_certified<R: Abort + Threads + Wait + Sync>(
-    rt: &R,
-    alloc: Global,
-    disk: MemoryDisk,
-    line: &str,
-) -> Result<MemoryDisk, Fail> {
-    let held = disk.bytes().to_vec(alloc)?;
-    let mut source = MemorySource::new(Vec::new(alloc), Vec::new(alloc));
-    let mut sink = MemorySink::new(alloc, Vec::new(alloc));
-    let words = ["-", "certify", "1"];
-    let (ended, disk) = run(rt, alloc, &words, &mut source, &mut sink, disk, &OpenGate);
-    assert_eq!(rt; ended, Status::Done);
-    let mut text = MemorySource::new(sink.bytes().to_vec(alloc)?, Vec::new(alloc));
-    let mut written = MemorySink::new(alloc, Vec::new(alloc));
-    let (verified, disk) = run(
-        rt,
-        alloc,
-        &["-", "verify"],
-        &mut text,
-        &mut written,
-        disk,
-        &OpenGate,
-    );
-    assert_eq!(rt; verified, Status::Done);
-    assert_eq!(rt; written.bytes(), line.as_bytes());
-    assert_eq!(rt; disk.bytes(), held.as_slice());
-    Ok(disk)
-}
+/// A journal that is refused, whatever is asked of it, and stays as it is.
+const NO_JOURNAL: &[Run] = &[
+    Run {
+        status: Status::Journal,
+        written: "refused journal not-a-journal\n",
+        ..REPORT
+    },
+    Run {
+        status: Status::Journal,
+        written: "refused journal not-a-journal\n",
+        leaves: Leaves::Same,
+        ..SOLVE_ONE
+    },
+];
 
-#[test]
-fn a_certificate_of_a_run_is_verified(rt: HostRuntime) -> Result<(), Fail> {
-    let alloc = rt.alloc();
-    let words = ["-", "solve", "--depth", "1"];
-    let disk = solved(&rt, alloc, &words, BLOCKING, BLOCKING_WON)?;
-    let _disk = expect_certified(&rt, alloc, disk, "verified W:W16,23:B12 white-wins\n")?;
-    Ok(())
-}
+/// A gate that is open, and no frame behind it.
+const DAMAGED: &[Run] = &[Run {
+    status: Status::Journal,
+    written: "refused journal damaged byte 8\n",
+    ..REPORT
+}];
 
-#[test]
-fn a_draw_of_a_run_is_verified(rt: HostRuntime) -> Result<(), Fail> {
-    let alloc = rt.alloc();
-    let text = "[FEN \"B:WK1,K19:BK15\"] *";
-    let written = "root 1 B:WK1,K19:BK15 draw\nroots 1 settled 1 unsolved 0\n";
-    let words = ["-", "solve", "--depth", "1"];
-    let disk = solved(&rt, alloc, &words, text, written)?;
-    let _disk = expect_certified(&rt, alloc, disk, "verified B:WK1,K19:BK15 draw\n")?;
-    Ok(())
-}
-
-#[test]
-fn a_draw_by_the_table_has_no_entry(rt: HostRuntime) -> Result<(), Fail> {
-    let alloc = rt.alloc();
-    let text = "[FEN \"B:WK32:BK1\"] *";
-    let written = "root 1 B:WK32:BK1 draw\nroots 1 settled 1 unsolved 0\n";
-    let disk = solved(&rt, alloc, &["-", "solve"], text, written)?;
-    let words = ["-", "certify", "1"];
-    let certificate = "certificate 1\ntable 2\nposition B:WK32:BK1\nclaim draw\n\
-        hold black 0\nhold white 0\nend\n";
-    let _disk = on(&rt, alloc, disk, &words, "", Status::Done, certificate)?;
-    Ok(())
-}
-
-#[test]
-fn a_second_run_goes_on(rt: HostRuntime) -> Result<(), Fail> {
-    let alloc = rt.alloc();
-    let disk = half_solved(&rt, alloc)?;
-    let report = ["-", "report"];
-    let disk = on(&rt, alloc, disk, &report, "", Status::Unsolved, HALF)?;
-    let words = ["-", "solve", "--depth", "1", "--budget", "1"];
-    let disk = on(&rt, alloc, disk, &words, TWO, Status::Done, WHOLE)?;
-    let _disk = on(&rt, alloc, disk, &report, "", Status::Done, WHOLE)?;
-    Ok(())
-}
-
-#[test]
-fn a_journal_that_was_written_before(rt: HostRuntime) -> Result<(), Fail> {
-    let alloc = rt.alloc();
-    let report = ["-", "report"];
-    let disk = MemoryDisk::of(alloc, HALF_SOLVED.to_vec(alloc)?)?;
-    let disk = on(&rt, alloc, disk, &report, "", Status::Unsolved, HALF)?;
-    assert_eq!(rt; disk.bytes(), HALF_SOLVED.as_slice());
-    let _disk = expect_certified(&rt, alloc, disk, "verified W:W16,23:B12 white-wins\n")?;
-    Ok(())
-}
-
-#[test]
-fn a_root_that_is_expanded(rt: HostRuntime) -> Result<(), Fail> {
-    let alloc = rt.alloc();
-    let words = ["-", "solve", "--depth", "0", "--budget", "1"];
-    let disk = solved(&rt, alloc, &words, BLOCKING, BLOCKING_WON)?;
-    let _disk = expect_certified(&rt, alloc, disk, "verified W:W16,23:B12 white-wins\n")?;
-    Ok(())
-}
-
-#[test]
-fn roots_that_are_not_certified(rt: HostRuntime) -> Result<(), Fail> {
-    let alloc = rt.alloc();
-    let disk = MemoryDisk::of(alloc, BLOCKED.to_vec(alloc)?)?;
-    let words = ["-", "certify", "2"];
-    let line = "refused input no-root 2\n";
-    let disk = on(&rt, alloc, disk, &words, "", Status::Input, line)?;
-    assert_eq!(rt; disk.bytes(), BLOCKED.as_slice());
-    let disk = half_solved(&rt, alloc)?;
-    let line = "refused input unsettled-root 2\n";
-    let _disk = on(&rt, alloc, disk, &words, "", Status::Input, line)?;
-    Ok(())
-}
+/// A gate that is closed.
+const EMPTY: &[Run] = &[Run {
+    written: "roots 0 settled 0 unsolved 0\n",
+    ..REPORT
+}];
 
 #[test]
 fn bytes_that_are_no_journal(rt: HostRuntime) -> Result<(), Fail> {
-    let alloc = rt.alloc();
-    let head = *b"DRBENCH\x02";
-    let empty = "roots 0 settled 0 unsolved 0\n";
-    for (ninth, status, line) in [
-        (1, Status::Journal, "refused journal damaged byte 8\n"),
-        (7, Status::Done, empty),
-    ] {
-        let mut bytes = head.to_vec(alloc)?;
-        bytes.push(ninth)?;
-        bytes.push(0)?;
-        let disk = MemoryDisk::of(alloc, bytes.clone()?)?;
-        let disk = on(&rt, alloc, disk, &["-", "report"], "", status, line)?;
-        assert_eq!(rt; disk.bytes(), bytes.as_slice());
+    let rows: [(&[u8], &[Run]); 3] = [
+        (b"hello worl", NO_JOURNAL),
+        (b"DRBENCH\x02\x01\0", DAMAGED),
+        (b"DRBENCH\x02\x07\0", EMPTY),
+    ];
+    for (bytes, runs) in rows {
+        expect_runs(&rt, rt.alloc(), bytes, runs)?;
     }
-    let disk = MemoryDisk::of(alloc, b"hello worl".to_vec(alloc)?)?;
-    let line = "refused journal not-a-journal\n";
-    let disk = on(
-        &rt,
-        alloc,
-        disk,
-        &["-", "report"],
-        "",
-        Status::Journal,
-        line,
-    )?;
-    let disk = on(&rt, alloc, disk, &["-", "solve"], "", Status::Journal, line)?;
-    assert_eq!(rt; disk.bytes(), b"hello worl".as_slice());
-    let disk = MemoryDisk::of(alloc, BLOCKED.to_vec(alloc)?)?;
-    let words = ["-", "solve", "--pieces", "3"];
-    let line = "refused journal other-table found 2 asked 3\n";
-    let disk = on(&rt, alloc, disk, &words, "", Status::Journal, line)?;
-    assert_eq!(rt; disk.bytes(), BLOCKED.as_slice());
-    Ok(())
-}
-
-#[test]
-fn a_disk_that_fails(rt: HostRuntime) -> Result<(), Fail> {
-    let alloc = rt.alloc();
-    let disk = FaultDisk::new(MemoryDisk::new(alloc), vec![in alloc; 0]?);
-    let mut source = MemorySource::new(BLOCKING.as_bytes().to_vec(alloc)?, Vec::new(alloc));
-    let mut sink = MemorySink::new(alloc, Vec::new(alloc));
-    let (ended, disk) = run(
-        &rt,
-        alloc,
-        &["-", "solve"],
-        &mut source,
-        &mut sink,
-        disk,
-        &OpenGate,
-    );
-    assert_eq!(rt; ended, Status::Disk);
-    assert_eq!(rt; sink.bytes(), b"refused disk\n".as_slice());
-    assert_eq!(rt; disk.into_inner().bytes().len(), 0);
     Ok(())
 }
 
@@ -274,27 +275,32 @@ fn two_searches_run_at_once(rt: HostRuntime) -> Result<(), Fail> {
     let alloc = rt.alloc();
     let words = ["-", "solve", "--workers", "4", "--depth", "1"];
     let gate = MeetGate::new();
-    let mut source = MemorySource::new(TWO.as_bytes().to_vec(alloc)?, Vec::new(alloc));
-    let mut sink = MemorySink::new(alloc, Vec::new(alloc));
-    let disk = MemoryDisk::new(alloc);
-    let (ended, disk) = run(&rt, alloc, &words, &mut source, &mut sink, disk, &gate);
-    assert_eq!(rt; ended, Status::Done);
-    assert_eq!(rt; sink.bytes(), WHOLE.as_bytes());
+    let seen = run_bench(&rt, alloc, &words, TWO.as_bytes(), &[], NO_FAULTS, &gate)?;
+    assert!(rt; seen.status == Status::Done && seen.written.as_slice() == WHOLE.as_bytes());
     assert!(rt; gate.met());
-    let _disk = on(&rt, alloc, disk, &["-", "report"], "", Status::Done, WHOLE)?;
     Ok(())
 }
 
+/// 500 openings, each settled by one record of work; nothing is read.
+const GENERATE: Run = Run {
+    words: &["-", "generate", "1", "500"],
+    source: "left",
+    left: 4,
+    written: "roots 500 settled 500 unsolved 0\n",
+    ..RUN
+};
+
+/// The second run adds nothing.
+const GENERATED: &[Run] = &[
+    GENERATE,
+    Run {
+        leaves: Leaves::Same,
+        ..GENERATE
+    },
+];
+
 #[test]
 fn generated_openings_are_settled_once(rt: HostRuntime) -> Result<(), Fail> {
-    let alloc = rt.alloc();
-    let words = ["-", "generate", "1", "500"];
-    let line = "roots 500 settled 500 unsolved 0\n";
-    let disk = MemoryDisk::new(alloc);
-    let disk = on(&rt, alloc, disk, &words, "left", Status::Done, line)?;
-    let held = disk.bytes().to_vec(alloc)?;
-    let disk = on(&rt, alloc, disk, &words, "left", Status::Done, line)?;
-    assert_eq!(rt; disk.bytes(), held.as_slice());
-    let _disk = expect_certified(&rt, alloc, disk, "verified B:WK27:BK24,K32 black-wins\n")?;
+    expect_runs(&rt, rt.alloc(), &[], GENERATED)?;
     Ok(())
 }

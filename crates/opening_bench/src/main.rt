@@ -23,12 +23,14 @@ mod progress;
 mod progress_tests;
 mod quiet;
 mod reading;
+#[cfg(test)]
+mod runs_of_tests;
 mod searching;
+#[cfg(test)]
+mod solve_tests;
 #[cfg(test)]
 mod table_tests;
 mod telling;
-#[cfg(test)]
-mod tests;
 
 pub use bench::bench as run;
 use bench_disk::{Disk, FileDisk, FuseDisk, MemoryDisk};

@@ -1,8 +1,7 @@
-//! Runs of `table` and `table-check` with the objects in memory. What is due comes from the format
-//! of tables: 8 bytes of head and 4 for each of 16,130 or 651,010 indices.
-use crate::tests::run;
-use bench_disk::MemoryDisk;
-use bench_edges::{MemorySink, MemorySource, Status};
+//! Runs of `table` and `table-check`. What is due comes from the format of tables: 8 bytes of head
+//! and 4 for each of 16,130 or 651,010 indices.
+use crate::runs_of_tests::{NO_FAULTS, run_bench};
+use bench_edges::Status;
 use std::alloc::Global;
 use std::process::Abort;
 use std::sync::Wait;
@@ -13,169 +12,101 @@ use worker_gate::OpenGate;
 /// The place of the entry of `B:WK32:BK1`, whose index is 1232.
 const ENTRY: usize = 8 + 4 * 1232;
 
-/// The bytes that `table` writes.
+/// The bytes that `table` writes. Nothing is read.
 fn table<R: Abort + Threads + Wait + Sync>(
     rt: &R,
     alloc: Global,
     pieces: &str,
 ) -> Result<Vec<u8>, Fail> {
-    let mut source = MemorySource::new(Vec::from_slice(alloc, b"left")?, Vec::new(alloc));
-    let mut sink = MemorySink::new(alloc, Vec::new(alloc));
-    let disk = MemoryDisk::new(alloc);
-    let (ended, _disk) = run(
-        rt,
-        alloc,
-        &["-", "table", pieces],
-        &mut source,
-        &mut sink,
-        disk,
-        &OpenGate,
-    );
-    assert_eq!(rt; ended, Status::Done);
-    assert_eq!(rt; source.left(), b"left".as_slice());
-    Ok(Vec::from_slice(alloc, sink.bytes())?)
+    let words = ["-", "table", pieces];
+    let seen = run_bench(rt, alloc, &words, b"left", &[], NO_FAULTS, &OpenGate)?;
+    assert_eq!(rt; (seen.status, seen.left), (Status::Done, 4));
+    Ok(seen.written)
 }
 
-/// Checks the bytes, and compares the status and the line.
+/// Checks the bytes by `table-check`, and compares the status and the line.
 fn expect_checked<R: Abort + Threads + Wait + Sync>(
     rt: &R,
     alloc: Global,
     bytes: &[u8],
     status: Status,
-    line: &[u8],
+    line: &str,
 ) -> Result<(), Fail> {
-    let mut source = MemorySource::new(Vec::from_slice(alloc, bytes)?, Vec::new(alloc));
-    let mut sink = MemorySink::new(alloc, Vec::new(alloc));
-    let disk = MemoryDisk::new(alloc);
-    let (ended, _disk) = run(
+    let seen = run_bench(
         rt,
         alloc,
         &["-", "table-check"],
-        &mut source,
-        &mut sink,
-        disk,
+        bytes,
+        &[],
+        NO_FAULTS,
         &OpenGate,
+    )?;
+    assert_eq!(rt;
+        (seen.status, seen.written.as_slice()),
+        (status, line.as_bytes())
     );
-    assert_eq!(rt; ended, status);
-    assert_eq!(rt; sink.bytes(), line);
     Ok(())
 }
 
-#[test]
-fn a_table_of_two_pieces_is_sound(rt: HostRuntime) -> Result<(), Fail> {
-    let bytes = table(&rt, rt.alloc(), "2")?;
-    assert_eq!(rt; bytes.len(), 64_528);
-    assert_eq!(rt; &bytes[..8], b"DRTABLE\x02".as_slice());
-    assert_eq!(rt; &bytes[ENTRY..ENTRY + 4], [0, 0, 0, 0].as_slice());
-    expect_checked(
-        &rt,
-        rt.alloc(),
-        &bytes,
-        Status::Done,
-        b"sound table 2 entries 16130\n",
-    )
+/// Whether these are so many bytes, which begin with this head.
+fn is_table(bytes: &[u8], length: usize, head: &[u8]) -> bool {
+    bytes.len() == length && bytes.starts_with(head)
 }
 
 #[test]
-fn a_table_of_three_pieces_is_sound(rt: HostRuntime) -> Result<(), Fail> {
-    let bytes = table(&rt, rt.alloc(), "3")?;
-    assert_eq!(rt; bytes.len(), 2_604_048);
-    assert_eq!(rt; &bytes[..8], b"DRTABLE\x03".as_slice());
-    expect_checked(
-        &rt,
-        rt.alloc(),
-        &bytes,
-        Status::Done,
-        b"sound table 3 entries 651010\n",
-    )
-}
-
-#[test]
-fn a_wrong_entry_shows_where_it_is_used(rt: HostRuntime) -> Result<(), Fail> {
-    let mut bytes = table(&rt, rt.alloc(), "2")?;
-    assert_eq!(rt; bytes.len(), 64_528);
-    bytes[ENTRY + 3] = 1;
-    expect_checked(
-        &rt,
-        rt.alloc(),
-        &bytes,
-        Status::Input,
-        b"refused input table bad-entry 1073 kept 0\n",
-    )
-}
-
-#[test]
-fn bytes_that_are_no_table(rt: HostRuntime) -> Result<(), Fail> {
-    let mut bytes = table(&rt, rt.alloc(), "2")?;
-    assert!(rt; bytes.pop().is_some());
-    expect_checked(
-        &rt,
-        rt.alloc(),
-        b"",
-        Status::Input,
-        b"refused input table bad-head\n",
-    )?;
-    expect_checked(
-        &rt,
-        rt.alloc(),
-        &bytes,
-        Status::Input,
-        b"refused input table wrong-length found 64527 due 64528\n",
-    )?;
-    let long: Vec<u8> = vec![in rt.alloc(); 0; 4_194_305]?;
-    expect_checked(
-        &rt,
-        rt.alloc(),
-        &long,
-        Status::Input,
-        b"refused input too-long\n",
-    )
-}
-
-#[test]
-fn words_on_tables(rt: HostRuntime) -> Result<(), Fail> {
-    for (words, line) in [
-        (["-", "table", "4"].as_slice(), b"refused words at 2\n"),
-        (["-", "table"].as_slice(), b"refused words at 2\n"),
-        (["-", "table", "2", "3"].as_slice(), b"refused words at 3\n"),
+fn tables_are_sound(rt: HostRuntime) -> Result<(), Fail> {
+    for (pieces, length, head, line) in [
+        ("2", 64_528, b"DRTABLE\x02", "sound table 2 entries 16130\n"),
         (
-            ["-", "table-check", "2"].as_slice(),
-            b"refused words at 2\n",
+            "3",
+            2_604_048,
+            b"DRTABLE\x03",
+            "sound table 3 entries 651010\n",
         ),
     ] {
-        let mut source = MemorySource::new(Vec::new(rt.alloc()), Vec::new(rt.alloc()));
-        let mut sink = MemorySink::new(rt.alloc(), Vec::new(rt.alloc()));
-        let disk = MemoryDisk::new(rt.alloc());
-        let (ended, _disk) = run(
-            &rt,
-            rt.alloc(),
-            words,
-            &mut source,
-            &mut sink,
-            disk,
-            &OpenGate,
-        );
-        assert_eq!(rt; ended, Status::Words);
-        assert_eq!(rt; sink.bytes(), line.as_slice());
+        let bytes = table(&rt, rt.alloc(), pieces)?;
+        assert!(rt; is_table(&bytes, length, head));
+        expect_checked(&rt, rt.alloc(), &bytes, Status::Done, line)?;
     }
     Ok(())
 }
 
+/// The table of two pieces, which has this byte at this place in place of a 0.
+fn altered<R: Abort + Threads + Wait + Sync>(
+    rt: &R,
+    alloc: Global,
+    at: usize,
+    byte: u8,
+) -> Result<Vec<u8>, Fail> {
+    let mut bytes = table(rt, alloc, "2")?;
+    match bytes.get_mut(at) {
+        Some(found) if *found == 0 => *found = byte,
+        _ => return Err(Fail::from("no 0 stands there")),
+    }
+    Ok(bytes)
+}
+
 #[test]
-fn a_sink_that_fails_at_a_table(rt: HostRuntime) -> Result<(), Fail> {
-    let mut source = MemorySource::new(Vec::new(rt.alloc()), Vec::new(rt.alloc()));
-    let mut sink = MemorySink::new(rt.alloc(), vec![in rt.alloc(); 1]?).at_most(100);
-    let disk = MemoryDisk::new(rt.alloc());
-    let (ended, _disk) = run(
-        &rt,
-        rt.alloc(),
-        &["-", "table", "2"],
-        &mut source,
-        &mut sink,
-        disk,
-        &OpenGate,
-    );
-    assert_eq!(rt; ended, Status::Write);
-    assert_eq!(rt; sink.bytes().len(), 100);
+fn a_wrong_entry_shows_where_it_is_used(rt: HostRuntime) -> Result<(), Fail> {
+    let bytes = altered(&rt, rt.alloc(), ENTRY + 3, 1)?;
+    let line = "refused input table bad-entry 1073 kept 0\n";
+    expect_checked(&rt, rt.alloc(), &bytes, Status::Input, line)
+}
+
+#[test]
+fn bytes_that_are_no_table(rt: HostRuntime) -> Result<(), Fail> {
+    let alloc = rt.alloc();
+    let table = table(&rt, alloc, "2")?;
+    let long: Vec<u8> = vec![in alloc; 0; 4_194_305]?;
+    let short = table.get(..64_527).unwrap_or(&[]);
+    let shorter = "refused input table wrong-length found 64527 due 64528\n";
+    let rows: [(&[u8], &str); 3] = [
+        (b"", "refused input table bad-head\n"),
+        (short, shorter),
+        (&long, "refused input too-long\n"),
+    ];
+    for (bytes, line) in rows {
+        expect_checked(&rt, alloc, bytes, Status::Input, line)?;
+    }
     Ok(())
 }
