@@ -1,10 +1,7 @@
 //! Openings against those that another program makes by the rule alone.
-ghost use Rattle.std.specs.Prelude.{◌≤◌};
-
 use capture_positions::capture_positions;
 use draughts_board::{Position, Side, Square};
-use std::alloc::Global;
-use std::process::Abort;
+use std::alloc::{AllocError, Global};
 use std::test::Fail;
 
 /// The squares of Black's kings and of White's.
@@ -108,13 +105,6 @@ fn mask_of(numbers: &[u8]) -> u32 {
     mask
 }
 
-/// The position has these kings and no other piece, and Black is to move.
-fn expect_kings(rt: &impl Abort, position: Option<&Position>, kings: &Kings) {
-    let expected = [0, mask_of(kings.0), 0, mask_of(kings.1)];
-    assert_eq!(rt; position.map(|p| p.masks()), Some(expected));
-    assert_eq!(rt; position.map(|p| p.to_move()), Some(Side::Black));
-}
-
 /// Two of its kings are White.
 fn has_two_white(position: &Position) -> bool {
     position.count(Side::White) == 2
@@ -140,44 +130,62 @@ fn counts(positions: &[Position]) -> (usize, usize) {
     (with_two, on_32)
 }
 
-/// The 2,000 openings of the seed are as the row says.
-fn expect_row(rt: &impl Abort, alloc: Global, row: &Row) -> Result<(), Fail> {
-    let (seed, two_white, black_on_32, first, hundredth, last) = row;
-    let positions = capture_positions(alloc, *seed, 2_000)?;
-    assert_eq!(rt; positions.len(), 2_000);
-    expect_kings(rt, positions.get_index(0), first);
-    expect_kings(rt, positions.get_index(99), hundredth);
-    expect_kings(rt, positions.get_index(1_999), last);
-    assert_eq!(rt;
-        counts(positions.as_slice()),
-        (*two_white, *black_on_32),
-        "seed {seed}"
-    );
-    Ok(())
+/// The position at this place has these kings and no other piece, and Black is to move.
+fn has_kings(positions: &[Position], place: usize, kings: &Kings) -> bool {
+    match positions.get(place) {
+        Some(p) => {
+            p.to_move() == Side::Black && p.masks() == [0, mask_of(kings.0), 0, mask_of(kings.1)]
+        }
+        None => false,
+    }
+}
+
+/// The positions are as the row says of 2,000 openings.
+fn are_due(positions: &[Position], row: &Row) -> bool {
+    has_kings(positions, 0, &row.3)
+        && has_kings(positions, 99, &row.4)
+        && has_kings(positions, 1_999, &row.5)
+        && positions.len() == 2_000
+        && counts(positions) == (row.1, row.2)
+}
+
+/// The 2,000 openings of the row's seed are as it says.
+fn is_found(alloc: Global, row: &Row) -> Result<bool, AllocError> {
+    Ok(are_due(capture_positions(alloc, row.0, 2_000)?.as_slice(), row))
 }
 
 #[test]
 fn openings_are_those_of_another_program(rt: HostRuntime) -> Result<(), Fail> {
     for row in &ROWS {
-        expect_row(&rt, rt.alloc(), row)?;
+        assert!(rt; is_found(rt.alloc(), row)?, "seed {}", row.0);
     }
     Ok(())
 }
 
-/// So many openings of seed 1 are the first ones of these.
-fn expect_front(rt: &impl Abort, alloc: Global, all: &[Position], count: u32) -> Result<(), Fail>
-    requires { count ≤ 500 }
-{
-    let some = capture_positions(alloc, 1, count)?;
-    assert_eq!(rt; Some(some.as_slice()), all.get(..count as usize));
-    Ok(())
+/// Whether so many openings of seed 1 are the first ones of these.
+fn is_front(alloc: Global, all: &[Position], count: u32) -> Result<bool, AllocError> {
+    let some = capture_positions(alloc, 1, count.min(500))?;
+    Ok(all.get(..count as usize) == Some(some.as_slice()))
+}
+
+/// Whether that holds of 0, of 1, of 17 and of 499 of them.
+fn are_fronts(alloc: Global, all: &[Position]) -> Result<[bool; 4], AllocError> {
+    Ok([
+        is_front(alloc, all, 0)?,
+        is_front(alloc, all, 1)?,
+        is_front(alloc, all, 17)?,
+        is_front(alloc, all, 499)?,
+    ])
+}
+
+/// The same of the first 500 openings of seed 1.
+fn are_first_ones(alloc: Global) -> Result<[bool; 4], AllocError> {
+    let all = capture_positions(alloc, 1, 500)?;
+    are_fronts(alloc, all.as_slice())
 }
 
 #[test]
 fn fewer_openings_are_the_first_ones(rt: HostRuntime) -> Result<(), Fail> {
-    let all = capture_positions(rt.alloc(), 1, 500)?;
-    expect_front(&rt, rt.alloc(), all.as_slice(), 0)?;
-    expect_front(&rt, rt.alloc(), all.as_slice(), 1)?;
-    expect_front(&rt, rt.alloc(), all.as_slice(), 17)?;
-    expect_front(&rt, rt.alloc(), all.as_slice(), 499)
+    assert_eq!(rt; are_first_ones(rt.alloc())?, [true; 4]);
+    Ok(())
 }

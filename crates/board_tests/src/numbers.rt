@@ -11,61 +11,102 @@ fn open(proof: u128, disproof: u128) -> Numbers {
     }
 }
 
+/// Whether facts of values are joined to what they say together.
+fn join() -> [bool; 3] {
+    let black_holds = Facts::of_hold(Side::Black);
+    let both = black_holds.joined(&Facts::of_hold(Side::White));
+    [
+        both == Facts::of_value(Value::Draw),
+        Facts::none().joined(&black_holds) == black_holds,
+        Facts::of_win(Side::White) == Facts::of_value(Value::WhiteWins),
+    ]
+}
+
+/// What a draw decides, includes and knows, and then what a hold of one side does.
+fn decide() -> ([bool; 3], [bool; 3]) {
+    let draw = Facts::of_value(Value::Draw);
+    let (black_holds, white_holds) = (Facts::of_hold(Side::Black), Facts::of_hold(Side::White));
+    (
+        [
+            draw.includes(&white_holds),
+            draw.knows_hold(Side::White),
+            draw.knows_win(Side::White),
+        ],
+        [
+            white_holds.includes(&draw),
+            black_holds.decide(Side::White),
+            black_holds.decide(Side::Black),
+        ],
+    )
+}
+
+/// The value of a draw, and of a hold of one side.
+fn values() -> [Option<Value>; 2] {
+    [
+        Facts::of_value(Value::Draw).value(),
+        Facts::of_hold(Side::Black).value(),
+    ]
+}
+
 #[test]
 fn facts_of_values_join_and_decide(rt: HostRuntime) {
-    let draw = Facts::of_value(Value::Draw);
-    let black_holds = Facts::of_hold(Side::Black);
-    let white_holds = Facts::of_hold(Side::White);
-    assert_eq!(rt; black_holds.joined(&white_holds), draw);
-    assert_eq!(rt; Facts::none().joined(&black_holds), black_holds);
-    assert_eq!(rt;
-        Facts::of_win(Side::White),
-        Facts::of_value(Value::WhiteWins)
-    );
-    assert_eq!(rt; draw.value(), Some(Value::Draw));
-    assert_eq!(rt; black_holds.value(), None);
-    assert!(rt; black_holds.decide(Side::White) && !black_holds.decide(Side::Black));
-    assert!(rt; draw.includes(&white_holds) && !white_holds.includes(&draw));
-    assert!(rt; draw.knows_hold(Side::White) && !draw.knows_win(Side::White));
+    assert_eq!(rt; join(), [true; 3]);
+    assert_eq!(rt; decide(), ([true, true, false], [false, true, false]));
+    assert_eq!(rt; values(), [Some(Value::Draw), None]);
+}
+
+const THREE: Number = Number::Finite(3);
+
+const MOST: Number = Number::Finite(u128::MAX);
+
+/// The least of two numbers, and the total.
+fn joined() -> [Number; 4] {
+    [
+        least(THREE, Number::Infinite),
+        least(MOST, Number::Infinite),
+        total(THREE, Number::Finite(4)),
+        total(Number::Infinite, MOST),
+    ]
 }
 
 #[test]
 fn numbers_have_an_infinity(rt: HostRuntime) {
-    let three = Number::Finite(3);
-    let most = Number::Finite(u128::MAX);
-    assert_eq!(rt; least(three, Number::Infinite), three);
-    assert_eq!(rt; least(most, Number::Infinite), most);
-    assert_eq!(rt; total(three, Number::Finite(4)), Number::Finite(7));
-    assert_eq!(rt; total(Number::Infinite, most), Number::Infinite);
-    assert!(rt; !most.is_zero() && Number::Finite(0).is_zero() && !Number::Infinite.is_zero());
+    assert!(rt; joined() == [THREE, MOST, Number::Finite(7), Number::Infinite]);
+    let zero = [
+        MOST.is_zero(),
+        Number::Finite(0).is_zero(),
+        Number::Infinite.is_zero(),
+    ];
+    assert_eq!(rt; zero, [false, true, false]);
+}
+
+/// The numbers of the start for each side's win: the first mover has seven moves.
+fn of_start() -> [Numbers; 2] {
+    let (nothing, first) = (Facts::none(), Position::start().to_move());
+    [
+        leaf(nothing, false, Side::Black, first, 7),
+        leaf(nothing, false, Side::White, first, 7),
+    ]
+}
+
+/// The proof number of a repeated leaf of which nothing is known, and whether it is resolved.
+fn of_repeated() -> (Number, bool) {
+    let numbers = leaf(Facts::none(), true, Side::Black, Side::Black, 7);
+    (numbers.proof, numbers.is_resolved())
+}
+
+/// Whether a leaf that White wins has no proof left to do for White, and its disproof number.
+fn of_won() -> (bool, Number) {
+    let won = Facts::of_win(Side::White);
+    let numbers = leaf(won, true, Side::White, Side::Black, 1);
+    (numbers.proof.is_zero(), numbers.disproof)
 }
 
 #[test]
 fn leaves_count_by_mobility(rt: HostRuntime) {
-    // The first mover of a game has seven moves, and no player has more than 64 that count.
-    let start = Position::start();
-    let nothing = Facts::none();
-    assert_eq!(rt; mobility(0), 1);
-    assert_eq!(rt; mobility(7), 7);
-    assert_eq!(rt; mobility(100), 64);
-    assert_eq!(rt;
-        leaf(nothing, false, Side::Black, start.to_move(), 7),
-        open(1, 7)
-    );
-    assert_eq!(rt;
-        leaf(nothing, false, Side::White, start.to_move(), 7),
-        open(7, 1)
-    );
-    let repeated = leaf(nothing, true, Side::Black, Side::Black, 7);
-    assert_eq!(rt; repeated.proof, Number::Infinite);
-    assert!(rt; repeated.is_resolved() && !open(1, 7).is_resolved());
-    let won = leaf(
-        Facts::of_win(Side::White),
-        true,
-        Side::White,
-        Side::Black,
-        1,
-    );
-    assert_eq!(rt; won.disproof, Number::Infinite);
-    assert!(rt; won.proof.is_zero());
+    // No player has more than 64 moves that count.
+    assert_eq!(rt; [mobility(0), mobility(7), mobility(100)], [1, 7, 64]);
+    assert!(rt; of_start() == [open(1, 7), open(7, 1)] && !open(1, 7).is_resolved());
+    assert!(rt; of_repeated() == (Number::Infinite, true));
+    assert!(rt; of_won() == (true, Number::Infinite));
 }

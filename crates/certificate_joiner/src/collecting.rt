@@ -21,9 +21,10 @@ pub(crate) fn is_known(tree: &Tree, n: NodeId, quest: Quest) -> bool
     requires { IsNamed tree.now.forest n }
     ensures { result ≡ knows quest.aim quest.side (named tree.now.forest n).own.facts }
 {
+    let facts = tree.facts(n);
     match quest.aim {
-        Aim::Win => tree.facts(n).knows_win(quest.side),
-        Aim::Hold => tree.facts(n).knows_hold(quest.side),
+        Aim::Win => facts.knows_win(quest.side),
+        Aim::Hold => facts.knows_hold(quest.side),
     }
 }
 

@@ -20,7 +20,10 @@ const ASKED: u32 = 3;
 
 /// The settings, where a lease lasts for so many leases given.
 fn settings_of(pieces: u8, lease: u32) -> Settings
-    ensures { result ≡ record { pieces = pieces; depth = 1; budget = 5; lease = lease } }
+    ensures pieces { result.pieces ≡ pieces }
+    ensures depth { result.depth ≡ 1 }
+    ensures budget { result.budget ≡ 5 }
+    ensures lease { result.lease ≡ lease }
 {
     Settings {
         pieces,

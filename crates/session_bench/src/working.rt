@@ -24,7 +24,10 @@ const LEASES: u32 = 3;
 
 /// How a session of so many pieces searches.
 pub(crate) fn settings(pieces: u8) -> Settings
-    ensures { result ≡ record { pieces = pieces; depth = 0; budget = 50; lease = 5 } }
+    ensures pieces { result.pieces ≡ pieces }
+    ensures depth { result.depth ≡ 0 }
+    ensures budget { result.budget ≡ 50 }
+    ensures lease { result.lease ≡ 5 }
 {
     Settings {
         pieces,

@@ -1,11 +1,12 @@
-//! Journals whose bytes are worked out from the format by hand: what is shown of them, and why they
-//! are refused.
+//! Journals whose bytes are worked out from the format by hand: what is shown of them, and why they are refused.
+//!
+//! Each function here is proved too, and dearly while it holds a disk: so a look answers plain values, and the tests
+//! compare those.
 use bench_disk::MemoryDisk;
 use disk_journal::JournalRefusal;
 use draughts_board::Side;
-use journal_looks::{LookRefusal, certify, report};
-use std::alloc::Global;
-use std::process::Abort;
+use journal_looks::{LookRefusal, Looked, certify, report};
+use std::alloc::{AllocError, Global};
 use std::test::Fail;
 use strategy_certificate::Claim;
 
@@ -26,102 +27,105 @@ const SOLVED: [u8; 139] = [
 ];
 
 /// The front of it up to the second gate, which is closed: the root alone.
-fn unsolved(alloc: Global) -> Result<Vec<u8>, Fail> {
-    let mut bytes = SOLVED[..39].to_vec(alloc)?;
-    bytes.push(0)?;
-    Ok(bytes)
+const UNSOLVED: [u8; 40] = [
+    0x44, 0x52, 0x42, 0x45, 0x4e, 0x43, 0x48, 2, 1, 0, 0, 0, 0, 0, 0, 0, 22, 0, 0, 0, 18, 1, 1, 0,
+    0, 8, 0, 0, 0, 0, 0, 0, 0x40, 0x80, 0, 0, 0, 0, 0, 0,
+];
+
+/// Begin of B:W16,19:B12 twice. The second gate stands at 39, and the length field of the second record at 48.
+const TWICE: [u8; 71] = [
+    0x44, 0x52, 0x42, 0x45, 0x4e, 0x43, 0x48, 2, 1, 0, 0, 0, 0, 0, 0, 0, 22, 0, 0, 0, 18, 1, 0, 0,
+    0, 8, 0, 0, 0, 0, 0, 0, 4, 0x80, 0, 0, 0, 0, 0, 1, 0, 0, 0, 0, 0, 0, 0, 22, 0, 0, 0, 18, 1, 0,
+    0, 0, 8, 0, 0, 0, 0, 0, 0, 4, 0x80, 0, 0, 0, 0, 0, 0,
+];
+
+/// Whether what is written is this text, and whether all is settled; or why nothing is written.
+type Told = Result<(bool, bool), LookRefusal>;
+
+/// What a report tells.
+fn told(answer: Result<Looked, LookRefusal>, text: &str) -> Told {
+    let looked = answer?;
+    Ok((looked.text.as_slice() == text.as_bytes(), looked.is_settled))
 }
 
-/// What is written of a disk of these bytes, and whether all is settled; or why it is refused. The
-/// bytes stay.
-fn reported(
-    rt: &impl Abort,
+/// What the report on a disk of these bytes tells, and whether the bytes stay.
+fn reported(alloc: Global, bytes: &[u8], text: &str) -> Result<(Told, bool), AllocError> {
+    let mut disk = MemoryDisk::of(alloc, bytes.to_vec(alloc)?)?;
+    let told = told(report(alloc, &mut disk), text);
+    Ok((told, disk.bytes() == bytes))
+}
+
+/// Journals, what is written of each, and whether all is settled.
+const REPORTED: [(&[u8], &str, bool); 5] = [
+    (&[], "roots 0 settled 0 unsolved 0\n", true),
+    (b"DRBENCH\x02\x07\0", "roots 0 settled 0 unsolved 0\n", true),
+    (
+        &BLOCKED,
+        "root 1 B:W16,19:B12 white-wins\nroots 1 settled 1 unsolved 0\n",
+        true,
+    ),
+    (
+        &UNSOLVED,
+        "root 1 W:W16,23:B12 unsolved\nroots 1 settled 0 unsolved 1\n",
+        false,
+    ),
+    (
+        &SOLVED,
+        "root 1 W:W16,23:B12 white-wins\nroots 1 settled 1 unsolved 0\n",
+        true,
+    ),
+];
+
+#[test]
+fn reports_roots_with_the_values_that_they_have(rt: HostRuntime) -> Result<(), Fail> {
+    for (bytes, text, is_settled) in REPORTED {
+        let due = (Ok((true, is_settled)), true);
+        assert_eq!(rt; reported(rt.alloc(), bytes, text)?, due, "{text}");
+    }
+    Ok(())
+}
+
+/// Bytes that are no journal, and why.
+const REFUSED: [(&[u8], JournalRefusal); 3] = [
+    (b"DRBENCH\x02\x01\0", JournalRefusal::Damaged(8)),
+    (b"hello worl", JournalRefusal::NotAJournal),
+    (&TWICE, JournalRefusal::Damaged(48)),
+];
+
+#[test]
+fn refuses_what_is_no_journal(rt: HostRuntime) -> Result<(), Fail> {
+    for (bytes, refusal) in REFUSED {
+        let due = (Err(LookRefusal::Journal(refusal)), true);
+        assert_eq!(rt; reported(rt.alloc(), bytes, "")?, due, "{refusal}");
+    }
+    Ok(())
+}
+
+/// What the certificate of a root claims, and who is to move in it; or why there is none.
+fn certified(
     alloc: Global,
     bytes: &[u8],
-) -> Result<Result<(Vec<u8>, bool), LookRefusal>, Fail> {
+    root: u32,
+) -> Result<Result<(Claim, Side), LookRefusal>, AllocError> {
     let mut disk = MemoryDisk::of(alloc, bytes.to_vec(alloc)?)?;
-    let answer = report(alloc, &mut disk);
-    assert_eq!(rt; disk.bytes(), bytes);
-    match answer {
-        Ok(looked) => Ok(Ok((looked.text, looked.is_settled))),
+    match certify(alloc, &mut disk, root) {
+        Ok(c) => Ok(Ok((c.claim, c.position.to_move()))),
         Err(refusal) => Ok(Err(refusal)),
     }
 }
 
-/// Asserts what is written of a disk of these bytes, and whether all is settled.
-fn assert_reported(
-    rt: &impl Abort,
-    alloc: Global,
-    bytes: &[u8],
-    text: &str,
-    settled: bool,
-) -> Result<(), Fail> {
-    match reported(rt, alloc, bytes)? {
-        Ok((written, is_settled)) => {
-            assert_eq!(rt; written.as_slice(), text.as_bytes());
-            assert_eq!(rt; is_settled, settled);
-            Ok(())
-        }
-        Err(refusal) => panic!(rt; "refused: {refusal}"),
-    }
-}
-
-/// Why a disk of these bytes is refused, if it is.
-fn refusal_of(rt: &impl Abort, alloc: Global, bytes: &[u8]) -> Result<Option<LookRefusal>, Fail> {
-    match reported(rt, alloc, bytes)? {
-        Ok(_) => Ok(None),
-        Err(refusal) => Ok(Some(refusal)),
-    }
-}
-
-#[test]
-fn reports_roots_with_the_values_that_they_have(rt: HostRuntime) -> Result<(), Fail> {
-    let alloc = rt.alloc();
-    let fresh = "roots 0 settled 0 unsolved 0\n";
-    assert_reported(&rt, alloc, &[], fresh, true)?;
-    let closed = [0x44, 0x52, 0x42, 0x45, 0x4e, 0x43, 0x48, 2, 7, 0];
-    assert_reported(&rt, alloc, &closed, fresh, true)?;
-    let blocked = "root 1 B:W16,19:B12 white-wins\nroots 1 settled 1 unsolved 0\n";
-    assert_reported(&rt, alloc, &BLOCKED, blocked, true)?;
-    let open = "root 1 W:W16,23:B12 unsolved\nroots 1 settled 0 unsolved 1\n";
-    assert_reported(&rt, alloc, &unsolved(alloc)?, open, false)?;
-    let solved = "root 1 W:W16,23:B12 white-wins\nroots 1 settled 1 unsolved 0\n";
-    assert_reported(&rt, alloc, &SOLVED, solved, true)
-}
-
-#[test]
-fn refuses_what_is_no_journal(rt: HostRuntime) -> Result<(), Fail> {
-    let alloc = rt.alloc();
-    let ended = [0x44, 0x52, 0x42, 0x45, 0x4e, 0x43, 0x48, 2, 1, 0];
-    let damaged = Some(LookRefusal::Journal(JournalRefusal::Damaged(8)));
-    assert_eq!(rt; refusal_of(&rt, alloc, &ended)?, damaged);
-    let foreign = Some(LookRefusal::Journal(JournalRefusal::NotAJournal));
-    assert_eq!(rt; refusal_of(&rt, alloc, b"hello worl")?, foreign);
-    let mut twice = BLOCKED.to_vec(alloc)?;
-    let _gate = twice.pop();
-    twice.extend_from_slice(&BLOCKED[8..])?;
-    let again = Some(LookRefusal::Journal(JournalRefusal::Damaged(48)));
-    assert_eq!(rt; refusal_of(&rt, alloc, &twice)?, again);
-    Ok(())
-}
+/// Journals, the number of a root, and what its certificate claims, and who is to move; or why there is none.
+const CERTIFIED: [(&[u8], u32, Result<(Claim, Side), LookRefusal>); 4] = [
+    (&SOLVED, 1, Ok((Claim::Win(Side::White), Side::White))),
+    (&SOLVED, 0, Err(LookRefusal::NoRoot(0))),
+    (&SOLVED, 2, Err(LookRefusal::NoRoot(2))),
+    (&UNSOLVED, 1, Err(LookRefusal::UnsettledRoot(1))),
+];
 
 #[test]
 fn certifies_a_root_that_has_a_value(rt: HostRuntime) -> Result<(), Fail> {
-    let alloc = rt.alloc();
-    let mut disk = MemoryDisk::of(alloc, SOLVED.to_vec(alloc)?)?;
-    match certify(alloc, &mut disk, 1) {
-        Ok(c) => {
-            assert_eq!(rt; c.claim, Claim::Win(Side::White));
-            assert_eq!(rt; c.position.to_move(), Side::White);
-        }
-        Err(refusal) => panic!(rt; "refused: {refusal}"),
+    for (bytes, root, due) in CERTIFIED {
+        assert_eq!(rt; certified(rt.alloc(), bytes, root)?, due, "root {root}");
     }
-    for number in [0, 2] {
-        let refusal = certify(alloc, &mut disk, number).err();
-        assert_eq!(rt; refusal, Some(LookRefusal::NoRoot(number)));
-    }
-    let mut open = MemoryDisk::of(alloc, unsolved(alloc)?)?;
-    let refusal = certify(alloc, &mut open, 1).err();
-    assert_eq!(rt; refusal, Some(LookRefusal::UnsettledRoot(1)));
     Ok(())
 }

@@ -1,36 +1,40 @@
 //! Runs whose texts and disks are worked out from the rules and the format by hand.
+//!
+//! Each function here is proved too, and dearly while it holds a disk: so a run answers plain values beside its disk, and the
+//! tests compare those.
 ghost use Rattle.std.specs.Prelude.{◌≡◌, ◌≤◌};
 
 use bench_core::Settings;
-use bench_disk::{Disk, MemoryDisk};
+use bench_disk::MemoryDisk;
 use draughts_board::Position;
 use endgame_table::{Table, fill};
 use fen_text::read_fen;
 use journal_runs::{Account, JournalFlaw, Ran, RunRefusal, solve};
 use std::alloc::Global;
-use std::process::Abort;
 use std::sync::Wait;
 use std::test::Fail;
 use std::thread::Threads;
 use worker_gate::OpenGate;
 
-/// The position of a FEN.
-fn position(rt: &impl Abort, fen: &[u8]) -> Position {
-    match read_fen(fen) {
-        Ok(position) => position,
-        Err(_) => panic!(rt; "no position"),
-    }
+/// Whether what is written is this text, and whether all is settled; or why nothing is written.
+type Told = Result<(bool, bool), RunRefusal>;
+
+/// What a run tells.
+fn told(answer: Result<Ran, RunRefusal>, text: &str) -> Told {
+    let ran = answer?;
+    Ok((ran.text.as_slice() == text.as_bytes(), ran.is_settled))
 }
 
-/// A run of depth 1 by three workers on this disk, which comes to its output.
-fn run_on<R: Abort + Threads + Wait + Sync, D: Disk + Send>(
+/// A run of depth 1 by three workers on this disk, and what it tells.
+fn run_on<R: Threads + Wait + Sync>(
     rt: &R,
     alloc: Global,
-    disk: D,
+    disk: MemoryDisk,
     budget: u32,
     positions: &[Position],
     table: &Table,
-) -> (D, Ran)
+    text: &str,
+) -> (MemoryDisk, Told)
     requires pieces { table.now.pieces ≡ 2 }
     requires budget { budget ≤ 1000000 }
 {
@@ -51,10 +55,22 @@ fn run_on<R: Abort + Threads + Wait + Sync, D: Disk + Send>(
         &OpenGate,
         Account::Report,
     );
-    match answer {
-        Ok(ran) => (disk, ran),
-        Err(refusal) => panic!(rt; "refused: {refusal}"),
-    }
+    (disk, told(answer, text))
+}
+
+/// What one run on a disk of these bytes tells, and whether the disk then has the others.
+fn run_once<R: Threads + Wait + Sync>(
+    rt: &R,
+    alloc: Global,
+    bytes: &[u8],
+    positions: &[Position],
+    text: &str,
+    left: &[u8],
+) -> Result<(Told, bool), Fail> {
+    let table = fill(alloc, 2)?;
+    let disk = MemoryDisk::of(alloc, bytes.to_vec(alloc)?)?;
+    let (disk, told) = run_on(rt, alloc, disk, 1, positions, &table, text);
+    Ok((told, disk.bytes() == left))
 }
 
 /// Begin of B:W16,19:B12, in which Black is blocked: a frame of 22 bytes, and a record of 18.
@@ -65,73 +81,51 @@ const BLOCKED: [u8; 40] = [
 
 #[test]
 fn reports_a_blocked_root(rt: HostRuntime) -> Result<(), Fail> {
-    let table = fill(rt.alloc(), 2)?;
-    let blocked = position(&rt, b"B:W16,19:B12");
-    let disk = MemoryDisk::new(rt.alloc());
-    let (disk, ran) = run_on(&rt, rt.alloc(), disk, 1, &[blocked], &table);
-    assert_eq!(rt;
-        ran.text.as_slice(),
-        b"root 1 B:W16,19:B12 white-wins\nroots 1 settled 1 unsolved 0\n".as_slice()
-    );
-    assert_eq!(rt; ran.is_settled, true);
-    assert_eq!(rt; disk.bytes(), BLOCKED.as_slice());
+    let blocked = read_fen(b"B:W16,19:B12")?;
+    let text = "root 1 B:W16,19:B12 white-wins\nroots 1 settled 1 unsolved 0\n";
+    let run = run_once(&rt, rt.alloc(), &[], &[blocked], text, &BLOCKED)?;
+    assert_eq!(rt; run, (Ok((true, true)), true));
     Ok(())
+}
+
+/// What is written of a White win, of that and a leaf for which no budget is left, and of that leaf's value too.
+const TEXTS: [&str; 3] = [
+    "root 1 W:W16,23:B12 white-wins\nroots 1 settled 1 unsolved 0\n",
+    "root 1 W:W16,23:B12 white-wins\nroot 2 B:W21:B10,17 unsolved\nroots 2 settled 1 unsolved 1\n",
+    "root 1 W:W16,23:B12 white-wins\nroot 2 B:W21:B10,17 black-wins\nroots 2 settled 2 unsolved 0\n",
+];
+
+/// What three runs on one disk tell: of the first position with the budget 1, of both with none, and of no further one with
+/// the budget 5.
+fn run_on_and_on<R: Threads + Wait + Sync>(
+    rt: &R,
+    alloc: Global,
+    both: &[Position; 2],
+    table: &Table,
+) -> [Told; 3]
+    requires { table.now.pieces ≡ 2 }
+{
+    let disk = MemoryDisk::new(alloc);
+    let (disk, first) = run_on(rt, alloc, disk, 1, &both[..1], table, TEXTS[0]);
+    let (disk, second) = run_on(rt, alloc, disk, 0, both, table, TEXTS[1]);
+    let (_, third) = run_on(rt, alloc, disk, 5, &[], table, TEXTS[2]);
+    [first, second, third]
 }
 
 #[test]
 fn goes_on_where_the_budget_was_spent(rt: HostRuntime) -> Result<(), Fail> {
+    let both = [read_fen(b"W:W16,23:B12")?, read_fen(b"B:W21:B10,17")?];
     let table = fill(rt.alloc(), 2)?;
-    let won = position(&rt, b"W:W16,23:B12");
-    let lost = position(&rt, b"B:W21:B10,17");
-    let disk = MemoryDisk::new(rt.alloc());
-    let (disk, ran) = run_on(&rt, rt.alloc(), disk, 1, &[won], &table);
-    assert_eq!(rt;
-        ran.text.as_slice(),
-        b"root 1 W:W16,23:B12 white-wins\nroots 1 settled 1 unsolved 0\n".as_slice()
-    );
-    assert_eq!(rt; ran.is_settled, true);
-    let (disk, ran) = run_on(&rt, rt.alloc(), disk, 0, &[won, lost], &table);
-    assert_eq!(rt;
-        ran.text.as_slice(),
-        b"root 1 W:W16,23:B12 white-wins\nroot 2 B:W21:B10,17 unsolved\nroots 2 settled 1 unsolved 1\n".as_slice()
-    );
-    assert_eq!(rt; ran.is_settled, false);
-    let (_, ran) = run_on(&rt, rt.alloc(), disk, 5, &[], &table);
-    assert_eq!(rt;
-        ran.text.as_slice(),
-        b"root 1 W:W16,23:B12 white-wins\nroot 2 B:W21:B10,17 black-wins\nroots 2 settled 2 unsolved 0\n".as_slice()
-    );
-    assert_eq!(rt; ran.is_settled, true);
+    let due = [Ok((true, true)), Ok((true, false)), Ok((true, true))];
+    assert_eq!(rt; run_on_and_on(&rt, rt.alloc(), &both, &table), due);
     Ok(())
 }
 
 #[test]
 fn refuses_what_is_no_journal(rt: HostRuntime) -> Result<(), Fail> {
-    let table = fill(rt.alloc(), 2)?;
-    let disk = MemoryDisk::of(rt.alloc(), b"hello worl".to_vec(rt.alloc())?)?;
-    let settings = Settings {
-        pieces: 2,
-        depth: 1,
-        budget: 5,
-        lease: 1,
-    };
-    let (disk, answer) = solve(
-        &rt,
-        rt.alloc(),
-        disk,
-        settings,
-        1,
-        &[],
-        &table,
-        &OpenGate,
-        Account::Report,
-    );
-    match answer {
-        Ok(_) => panic!(rt; "taken as a journal"),
-        Err(refusal) => {
-            assert_eq!(rt; refusal, RunRefusal::Journal(JournalFlaw::NotAJournal));
-        }
-    }
-    assert_eq!(rt; disk.bytes(), b"hello worl".as_slice());
+    let bytes = b"hello worl";
+    let run = run_once(&rt, rt.alloc(), bytes, &[], "", bytes)?;
+    let refusal = RunRefusal::Journal(JournalFlaw::NotAJournal);
+    assert_eq!(rt; run, (Err(refusal), true));
     Ok(())
 }

@@ -1,28 +1,27 @@
 //! Disks whose bytes are worked out from the format by hand, those that are attached and those that are refused; roots that
 //! are begun once, and leases that end.
 //!
-//! Each function here is proved too, and dearly while it holds a session: so a function over any disk makes one or two calls
-//! of it and answers plain values.
+//! Each function here is proved too, and dearly while it holds a session: so what a session does is answered by plain values,
+//! and the tests compare those.
 ghost use Rattle.std.specs.Prelude.{◌≡◌, IfOk};
 
 use bench_core::{LeaseRefusal, Settings};
-use bench_disk::{Disk, MemoryDisk};
+use bench_disk::MemoryDisk;
 use disk_journal::JournalRefusal;
 use draughts_board::{Cell, PlaceRefusal, Position, Side};
 use endgame_table::{Table, fill};
-use lease_table::LeaseId;
-use std::alloc::{AllocError, Global};
-use std::process::Abort;
+use lease_table::{LeaseId, Stale};
+use std::alloc::Global;
 use std::test::Fail;
-use tree_manager::{BeginRefusal, Session};
+use tree_manager::{BeginRefusal, CommitRefusal, Session};
 
 /// A session of depth 1 and budget 5 on this disk, whose leases last for ten leases given, or the disk again and why there is
 /// none.
-fn attach<D: Disk + Drop>(
+fn attach(
     alloc: Global,
-    disk: D,
+    disk: MemoryDisk,
     table: &Table,
-) -> Result<Session<D>, (D, JournalRefusal)>
+) -> Result<Session<MemoryDisk>, (MemoryDisk, JournalRefusal)>
     requires { table.now.pieces ≡ 2 }
     ensures { IfOk result (λ session. session.core.state.settings.pieces ≡ 2) }
 {
@@ -35,28 +34,44 @@ fn attach<D: Disk + Drop>(
     Session::attach(alloc, disk, settings, table)
 }
 
-/// That session, or why there is none; then the disk comes back with these bytes.
-fn attach_to(
-    rt: &impl Abort,
-    alloc: Global,
+/// The number of a lease, or why there is none.
+type Answer = Result<LeaseId, LeaseRefusal>;
+
+/// Leases the next leaf.
+fn lease(session: &mut Session<MemoryDisk>, worker: u32) -> Answer {
+    Ok(session.lease(worker)?.id)
+}
+
+/// How many roots a session has.
+fn roots(session: &Session<MemoryDisk>) -> u32 {
+    session.bench().tree().roots()
+}
+
+/// How many roots a session has, and what its first lease is.
+fn roots_and_lease(session: &mut Session<MemoryDisk>) -> (u32, Answer) {
+    (roots(session), lease(session, 1))
+}
+
+/// How many roots the session on a disk has, and what its first lease is; or why there is none, and whether the disk that
+/// comes back has its bytes still.
+type Attached = Result<(u32, Answer), (JournalRefusal, bool)>;
+
+/// What came of attaching a disk of these bytes.
+fn attached(
+    answer: Result<Session<MemoryDisk>, (MemoryDisk, JournalRefusal)>,
     bytes: &[u8],
-    table: &Table,
-) -> Result<Result<Session<MemoryDisk>, JournalRefusal>, AllocError>
-    requires { table.now.pieces ≡ 2 }
-{
-    let disk = MemoryDisk::of(alloc, bytes.to_vec(alloc)?)?;
-    match attach(alloc, disk, table) {
-        Ok(session) => Ok(Ok(session)),
-        Err((disk, refusal)) => {
-            assert_eq!(rt; disk.bytes(), bytes);
-            Ok(Err(refusal))
-        }
+) -> Attached {
+    match answer {
+        Ok(mut session) => Ok(roots_and_lease(&mut session)),
+        Err((disk, refusal)) => Err((refusal, disk.bytes() == bytes)),
     }
 }
 
-/// Leases the next leaf.
-fn lease<D: Disk>(session: &mut Session<D>, worker: u32) -> Result<LeaseId, LeaseRefusal> {
-    Ok(session.lease(worker)?.id)
+/// What comes of attaching a disk of these bytes.
+fn attach_to(alloc: Global, bytes: &[u8]) -> Result<Attached, Fail> {
+    let table = fill(alloc, 2)?;
+    let disk = MemoryDisk::of(alloc, bytes.to_vec(alloc)?)?;
+    Ok(attached(attach(alloc, disk, &table), bytes))
 }
 
 /// Begin of B:W16,19:B12, in which Black is blocked: a frame of 22 bytes, and a record of 18.
@@ -73,25 +88,24 @@ const ROOTLESS: [u8; 31] = [
 
 #[test]
 fn attaches_a_blocked_root(rt: HostRuntime) -> Result<(), Fail> {
-    let table = fill(rt.alloc(), 2)?;
-    let mut session = attach_to(&rt, rt.alloc(), &BLOCKED, &table)??;
-    assert_eq!(rt; session.bench().tree().roots(), 1);
-    assert_eq!(rt; lease(&mut session, 1), Err(LeaseRefusal::Done));
+    let due = Ok((1, Err(LeaseRefusal::Done)));
+    assert_eq!(rt; attach_to(rt.alloc(), &BLOCKED)?, due);
     Ok(())
 }
 
+/// Disks, and why they are refused, if they are.
+const REFUSED: [(&[u8], Option<JournalRefusal>); 4] = [
+    (b"hello worl", Some(JournalRefusal::NotAJournal)),
+    (b"DRBENCH\x02\x01\0", Some(JournalRefusal::Damaged(8))),
+    (b"DRBENCH\x02\x07\0", None),
+    (&ROOTLESS, Some(JournalRefusal::Damaged(17))),
+];
+
 #[test]
 fn refuses_what_is_no_journal_and_what_is_not_lawful(rt: HostRuntime) -> Result<(), Fail> {
-    let table = fill(rt.alloc(), 2)?;
-    let rows: [(&[u8], Option<JournalRefusal>); 4] = [
-        (b"hello worl", Some(JournalRefusal::NotAJournal)),
-        (b"DRBENCH\x02\x01\0", Some(JournalRefusal::Damaged(8))),
-        (b"DRBENCH\x02\x07\0", None),
-        (&ROOTLESS, Some(JournalRefusal::Damaged(17))),
-    ];
-    for (bytes, wanted) in rows {
-        let refusal = attach_to(&rt, rt.alloc(), bytes, &table)?.err();
-        assert_eq!(rt; refusal, wanted);
+    for (bytes, refusal) in REFUSED {
+        let due = refusal.map(|refusal| (refusal, true));
+        assert_eq!(rt; attach_to(rt.alloc(), bytes)?.err(), due);
     }
     Ok(())
 }
@@ -110,10 +124,7 @@ pub(crate) fn two_against_one(other_on_24: bool) -> Result<Position, PlaceRefusa
 }
 
 /// A session on a fresh disk.
-pub(crate) fn fresh_session(
-    alloc: Global,
-    table: &Table,
-) -> Result<Session<MemoryDisk>, JournalRefusal>
+fn fresh_session(alloc: Global, table: &Table) -> Result<Session<MemoryDisk>, JournalRefusal>
     requires { table.now.pieces ≡ 2 }
     ensures { IfOk result (λ session. session.core.state.settings.pieces ≡ 2) }
 {
@@ -124,39 +135,81 @@ pub(crate) fn fresh_session(
 }
 
 /// Begins these roots: how many records and roots stand then.
-pub(crate) fn begin<D: Disk>(
-    session: &mut Session<D>,
+fn begin(
+    session: &mut Session<MemoryDisk>,
     positions: &[Position],
     table: &Table,
 ) -> Result<(u64, u32), BeginRefusal>
     requires { table.now.pieces ≡ session.old.core.state.settings.pieces }
 {
     let receipt = session.begin(positions, table)?;
-    Ok((receipt.number, session.bench().tree().roots()))
+    Ok((receipt.number, roots(session)))
+}
+
+/// The session, unless its roots were refused.
+fn unless_refused(
+    session: Session<MemoryDisk>,
+    begun: Result<(u64, u32), BeginRefusal>,
+) -> Result<Session<MemoryDisk>, Fail> {
+    match begun {
+        Ok(_) => Ok(session),
+        Err(refusal) => Err(Fail::from(refusal)),
+    }
+}
+
+/// A session on a fresh disk with these roots.
+pub(crate) fn session_with(alloc: Global, roots: &[Position]) -> Result<Session<MemoryDisk>, Fail> {
+    let table = fill(alloc, 2)?;
+    let mut session = fresh_session(alloc, &table)?;
+    let begun = begin(&mut session, roots, &table);
+    unless_refused(session, begun)
 }
 
 /// Commits nothing, and ends all leases.
-fn end_all<D: Disk>(session: &mut Session<D>) -> Result<(), Fail> {
+fn end_all(session: &mut Session<MemoryDisk>) -> Result<(), CommitRefusal> {
     let _idle = session.commit()?;
     session.end_leases();
     Ok(())
 }
 
+/// What a session answers: how many records and roots stand when this root is begun twice, two leases, the end of all
+/// leases, the release of the first, and one more lease.
+type Answers = (
+    Option<(u64, u32)>,
+    [Answer; 2],
+    Result<(), CommitRefusal>,
+    Result<(), Stale>,
+    Answer,
+);
+
+/// Begins a root twice, and leases twice, ends all leases, releases the first and leases again.
+fn begin_and_end(session: &mut Session<MemoryDisk>, p: Position, table: &Table) -> Answers
+    requires { table.now.pieces ≡ session.old.core.state.settings.pieces }
+{
+    let begun = begin(session, &[p, p], table).ok();
+    let leased = [lease(session, 1), lease(session, 2)];
+    let ended = end_all(session);
+    let released = session.release(LeaseId::new(1));
+    (begun, leased, ended, released, lease(session, 2))
+}
+
+/// What a session on a fresh disk answers.
+fn answers(alloc: Global, p: Position) -> Result<Answers, Fail> {
+    let table = fill(alloc, 2)?;
+    let mut session = fresh_session(alloc, &table)?;
+    Ok(begin_and_end(&mut session, p, &table))
+}
+
 #[test]
 fn begins_a_root_once_and_ends_the_leases_that_live(rt: HostRuntime) -> Result<(), Fail> {
-    let table = fill(rt.alloc(), 2)?;
-    let mut session = fresh_session(rt.alloc(), &table)?;
     // A root that is named twice is begun once.
-    let p = two_against_one(false)?;
-    assert_eq!(rt; begin(&mut session, &[p, p], &table).ok(), Some((1, 1)));
-    let first = lease(&mut session, 1)?;
-    assert_eq!(rt; first, LeaseId::new(1));
-    assert_eq!(rt;
-        lease(&mut session, 2),
-        Err(LeaseRefusal::NoLeaf { live: 1 })
+    let due: Answers = (
+        Some((1, 1)),
+        [Ok(LeaseId::new(1)), Err(LeaseRefusal::NoLeaf { live: 1 })],
+        Ok(()),
+        Err(Stale(LeaseId::new(1))),
+        Ok(LeaseId::new(2)),
     );
-    end_all(&mut session)?;
-    assert!(rt; session.release(first).is_err());
-    assert_eq!(rt; lease(&mut session, 2), Ok(LeaseId::new(2)));
+    assert_eq!(rt; answers(rt.alloc(), two_against_one(false)?)?, due);
     Ok(())
 }

@@ -2,11 +2,10 @@
 ghost use Rattle.std.specs.Prelude.{IfOk};
 ghost use Rattle.turn_lock.specs.Seen.{IsOutside};
 
-use crate::sessions::{begin, fresh_session, two_against_one};
+use crate::sessions::{session_with, two_against_one};
 use bench_core::LeaseRefusal;
-use bench_disk::{Disk, MemoryDisk};
+use bench_disk::MemoryDisk;
 use draughts_board::{Cell, PlaceRefusal, Position, Side};
-use endgame_table::fill;
 use lease_table::{LeaseId, Stale};
 use std::alloc::{AllocError, Global};
 use std::sync::Wait;
@@ -19,11 +18,18 @@ use turn_lock::Kept;
 /// The number of a lease and its node, or why there is none.
 type Answer = Result<(u128, u64), LeaseRefusal>;
 
-/// Compiles where threads may share the value.
-fn is_sync<T: Sync>(_: &T) {}
+/// Compiles where threads may share values of the type.
+fn is_sync<T: Sync>() {}
 
-/// Compiles where the value may go to another thread.
-fn is_send<T: Send>(_: &T) {}
+/// Compiles where values of the type may go to another thread.
+fn is_send<T: Send>() {}
+
+#[test]
+fn a_session_goes_to_other_threads() {
+    is_sync::<SharedBench<MemoryDisk>>();
+    is_send::<BenchPass<MemoryDisk>>();
+    is_send::<Session<MemoryDisk>>();
+}
 
 /// White's man on 16 to move against a man on 12, whose value a table of two pieces has.
 fn one_against_one() -> Result<Position, PlaceRefusal> {
@@ -53,18 +59,13 @@ fn shared_on(
 ) -> Result<(SharedBench<MemoryDisk>, BenchPass<MemoryDisk>), Fail>
     ensures { IfOk result (λ made. IsOutside made.0 made.1) }
 {
-    let table = fill(alloc, 2)?;
-    let mut session = fresh_session(alloc, &table)?;
-    begin(&mut session, roots, &table)?;
+    let session = session_with(alloc, roots)?;
     Ok(shared_of(alloc, session)?)
 }
 
-/// A shared bench on a fresh disk with both roots, and its first pass.
-fn shared_on_both(alloc: Global) -> Result<(SharedBench<MemoryDisk>, BenchPass<MemoryDisk>), Fail>
-    ensures { IfOk result (λ made. IsOutside made.0 made.1) }
-{
-    let roots = [two_against_one(false)?, two_against_one(true)?];
-    shared_on(alloc, &roots)
+/// How many entries the line of a session has.
+fn entries(session: &Session<MemoryDisk>) -> u64 {
+    session.count()
 }
 
 /// Ends the sharing: how many entries the line has, by the session and by the lock.
@@ -75,15 +76,15 @@ fn count_at_end<R: Wait>(
 ) -> (u64, u64)
     requires { IsOutside shared pass }
 {
-    let (session, count) = shared.finish_counted(rt, pass);
-    (session.count(), count)
+    let ended = shared.finish_counted(rt, pass);
+    (entries(&ended.0), ended.1)
 }
 
 /// Ends a lease, in one turn.
-fn give_back<R: Wait, D: Disk>(
+fn give_back<R: Wait>(
     rt: &R,
-    shared: &SharedBench<D>,
-    pass: &mut BenchPass<D>,
+    shared: &SharedBench<MemoryDisk>,
+    pass: &mut BenchPass<MemoryDisk>,
     id: LeaseId,
 ) -> Result<(), Stale>
     requires { IsOutside shared.now pass.old }
@@ -93,10 +94,10 @@ fn give_back<R: Wait, D: Disk>(
 }
 
 /// Asks for a lease, in one turn.
-fn ask<R: Wait, D: Disk>(
+fn ask<R: Wait>(
     rt: &R,
-    shared: &SharedBench<D>,
-    pass: &mut BenchPass<D>,
+    shared: &SharedBench<MemoryDisk>,
+    pass: &mut BenchPass<MemoryDisk>,
     worker: u32,
 ) -> Answer
     requires { IsOutside shared.now pass.old }
@@ -107,12 +108,12 @@ fn ask<R: Wait, D: Disk>(
 }
 
 /// The same, by a pass that comes along.
-fn ask_with<R: Wait, D: Disk>(
+fn ask_with<R: Wait>(
     rt: &R,
-    shared: &SharedBench<D>,
-    mut pass: BenchPass<D>,
+    shared: &SharedBench<MemoryDisk>,
+    mut pass: BenchPass<MemoryDisk>,
     worker: u32,
-) -> (BenchPass<D>, Answer)
+) -> (BenchPass<MemoryDisk>, Answer)
     requires { IsOutside shared.now pass }
     ensures { IsOutside shared.now result.0 }
 {
@@ -121,10 +122,10 @@ fn ask_with<R: Wait, D: Disk>(
 }
 
 /// Two threads, each with a pass of its own, ask for a lease.
-fn ask_in_two_threads<R: Threads + Wait + Sync, D: Disk + Send>(
+fn ask_in_two_threads<R: Threads + Wait + Sync>(
     rt: &R,
-    shared: &SharedBench<D>,
-    pass: &mut BenchPass<D>,
+    shared: &SharedBench<MemoryDisk>,
+    pass: &mut BenchPass<MemoryDisk>,
 ) -> (Answer, Answer)
     requires { IsOutside shared.now pass.old }
     ensures { IsOutside shared.now pass.new }
@@ -133,11 +134,11 @@ fn ask_in_two_threads<R: Threads + Wait + Sync, D: Disk + Send>(
     let two = shared.split(pass);
     let (one, two) = thread::join(
         rt,
-        move || -> (BenchPass<D>, Answer)
+        move || -> (BenchPass<MemoryDisk>, Answer)
             requires { IsOutside shared.now one }
             ensures { IsOutside shared.entry.now result.0 }
         { ask_with(rt, shared, one, 1) },
-        move || -> (BenchPass<D>, Answer)
+        move || -> (BenchPass<MemoryDisk>, Answer)
             requires { IsOutside shared.now two }
             ensures { IsOutside shared.entry.now result.0 }
         { ask_with(rt, shared, two, 2) },
@@ -147,46 +148,84 @@ fn ask_in_two_threads<R: Threads + Wait + Sync, D: Disk + Send>(
     (one.1, two.1)
 }
 
-#[test]
-fn a_session_goes_to_other_threads(rt: HostRuntime) -> Result<(), Fail> {
-    let (shared, pass) = shared_on_both(rt.alloc())?;
-    is_sync(&shared);
-    is_send(&pass);
-    is_send(&shared.finish(&rt, pass));
-    Ok(())
+/// The leases of two threads, the answer to a third worker, and how many entries the line has at the end, by the session and
+/// by the lock.
+fn three_ask<R: Threads + Wait + Sync>(
+    rt: &R,
+    alloc: Global,
+    roots: &[Position],
+) -> Result<((Answer, Answer), Answer, (u64, u64)), Fail> {
+    let (shared, mut pass) = shared_on(alloc, roots)?;
+    let both = ask_in_two_threads(rt, &shared, &mut pass);
+    let third = ask(rt, &shared, &mut pass, 3);
+    Ok((both, third, count_at_end(rt, shared, pass)))
+}
+
+/// The nodes of two leases, the lesser first.
+fn nodes(both: (Answer, Answer)) -> Result<(u64, u64), LeaseRefusal> {
+    let ((_, one), (_, two)) = (both.0?, both.1?);
+    Ok((one.min(two), one.max(two)))
 }
 
 #[test]
 fn two_threads_lease_a_root_each(rt: HostRuntime) -> Result<(), Fail> {
-    let (shared, mut pass) = shared_on_both(rt.alloc())?;
-    let nodes = match ask_in_two_threads(&rt, &shared, &mut pass) {
-        (Ok((_, one)), Ok((_, two))) => (one, two),
-        _ => return Err(Fail::from("no lease")),
-    };
-    assert!(rt; nodes == (0, 1) || nodes == (1, 0));
+    let roots = [two_against_one(false)?, two_against_one(true)?];
+    let (both, third, counts) = three_ask(&rt, rt.alloc(), &roots)?;
     let none: Answer = Err(LeaseRefusal::NoLeaf { live: 2 });
-    assert_eq!(rt; ask(&rt, &shared, &mut pass, 3), none);
     // an Attached, two Puts and their Acked, and two leases
-    assert_eq!(rt; count_at_end(&rt, shared, pass), (6, 6));
+    assert_eq!(rt; (nodes(both), third, counts), (Ok((0, 1)), none, (6, 6)));
     Ok(())
+}
+
+/// What is answered to two passes: to the other, which gives back lease 1; to this and to the other, which lease; to the
+/// other, which gives back lease 1; and to this, which leases. Then how many entries the line has, by the session and by the
+/// lock.
+type Answers = (
+    Result<(), Stale>,
+    [Answer; 2],
+    Result<(), Stale>,
+    Answer,
+    (u64, u64),
+);
+
+/// Lets two passes do that.
+fn two_passes<R: Wait>(rt: &R, alloc: Global, roots: &[Position]) -> Result<Answers, Fail> {
+    let (shared, mut pass) = shared_on(alloc, roots)?;
+    let mut other = shared.split(&mut pass);
+    let first = LeaseId::new(1);
+    let early = give_back(rt, &shared, &mut other, first);
+    let one = ask(rt, &shared, &mut pass, 1);
+    let two = ask(rt, &shared, &mut other, 2);
+    let given_back = give_back(rt, &shared, &mut other, first);
+    let third = ask(rt, &shared, &mut pass, 1);
+    shared.join_pass(&mut pass, other);
+    let counts = count_at_end(rt, shared, pass);
+    Ok((early, [one, two], given_back, third, counts))
 }
 
 #[test]
 fn a_lease_of_one_pass_is_not_given_to_another(rt: HostRuntime) -> Result<(), Fail> {
-    let (shared, mut pass) = shared_on_both(rt.alloc())?;
-    let mut other = shared.split(&mut pass);
-    let first = LeaseId::new(1);
-    assert_eq!(rt;
-        give_back(&rt, &shared, &mut other, first),
-        Err(Stale(first))
+    let roots = [two_against_one(false)?, two_against_one(true)?];
+    let due: Answers = (
+        Err(Stale(LeaseId::new(1))),
+        [Ok((1, 0)), Ok((2, 1))],
+        Ok(()),
+        Ok((3, 0)),
+        (8, 8),
     );
-    assert_eq!(rt; ask(&rt, &shared, &mut pass, 1), Ok((1, 0)));
-    assert_eq!(rt; ask(&rt, &shared, &mut other, 2), Ok((2, 1)));
-    assert_eq!(rt; give_back(&rt, &shared, &mut other, first), Ok(()));
-    assert_eq!(rt; ask(&rt, &shared, &mut pass, 1), Ok((3, 0)));
-    shared.join_pass(&mut pass, other);
-    assert_eq!(rt; count_at_end(&rt, shared, pass), (8, 8));
+    assert_eq!(rt; two_passes(&rt, rt.alloc(), &roots)?, due);
     Ok(())
+}
+
+/// How many roots there are and are settled, and how many entries the line has at the end, by the session and by the lock.
+fn counted<R: Wait>(
+    rt: &R,
+    alloc: Global,
+    roots: &[Position],
+) -> Result<(RootCounts, (u64, u64)), Fail> {
+    let (shared, mut pass) = shared_on(alloc, roots)?;
+    let counts = shared.count_roots(rt, &mut pass);
+    Ok((counts, count_at_end(rt, shared, pass)))
 }
 
 #[test]
@@ -196,10 +235,8 @@ fn roots_are_counted(rt: HostRuntime) -> Result<(), Fail> {
         one_against_one()?,
         two_against_one(true)?,
     ];
-    let (shared, mut pass) = shared_on(rt.alloc(), &roots)?;
-    let counts = shared.count_roots(&rt, &mut pass);
-    assert_eq!(rt; counts, RootCounts { all: 3, settled: 1 });
     // an Attached, three Puts and their Acked, and nothing by the count
-    assert_eq!(rt; count_at_end(&rt, shared, pass), (5, 5));
+    let due = (RootCounts { all: 3, settled: 1 }, (5, 5));
+    assert_eq!(rt; counted(&rt, rt.alloc(), &roots)?, due);
     Ok(())
 }

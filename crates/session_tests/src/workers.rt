@@ -3,13 +3,14 @@ ghost use Rattle.std.specs.Prelude.{◌≡◌, ◌≤◌, IfOk};
 ghost use Rattle.turn_lock.specs.Seen.{IsOutside};
 ghost use Rattle.worker_gate.specs.Work.{CanSearch};
 
+use crate::sessions::session_with;
 use bench_core::Settings;
 use bench_disk::{Disk, FuseDisk, MemoryDisk};
-use draughts_board::Value;
+use draughts_board::{Position, Value};
 use endgame_table::{Table, fill};
-use fen_text::read_fen;
+use fen_text::{FenRefusal, read_fen};
 use proof_tree::Tree;
-use std::alloc::Global;
+use std::alloc::{AllocError, Global};
 use std::sync::Wait;
 use std::sync::atomic::{AtomicU64, Ordering};
 use std::test::*;
@@ -35,20 +36,15 @@ fn settings(budget: u32) -> Settings
     }
 }
 
-/// A disk whose journal has the first root, and the second.
-fn disk_with_roots(alloc: Global, table: &Table, has_second: bool) -> Result<MemoryDisk, Fail>
-    requires { table.now.pieces ≡ 2 }
-{
-    let first = read_fen(b"W:W16,23:B12")?;
-    let second = read_fen(b"B:W21:B10,17")?;
-    let Ok(mut session) = Session::attach(alloc, MemoryDisk::new(alloc), settings(0), table) else {
-        return Err(Fail::from("not attached"));
-    };
-    if has_second {
-        session.begin(&[first, second], table)?;
-    } else {
-        session.begin(&[first], table)?;
-    }
+/// The two roots.
+fn both_roots() -> Result<[Position; 2], FenRefusal> {
+    Ok([read_fen(b"W:W16,23:B12")?, read_fen(b"B:W21:B10,17")?])
+}
+
+/// A disk whose journal has the first root, and the second where that is asked for.
+fn disk_with_roots(alloc: Global, has_second: bool) -> Result<MemoryDisk, Fail> {
+    let both = both_roots()?;
+    let session = session_with(alloc, if has_second { &both } else { &both[..1] })?;
     Ok(session.into_disk())
 }
 
@@ -146,44 +142,69 @@ fn work_on<R: Wait, D: Disk>(
     (disk, Some(end))
 }
 
+/// One work record settles the first root, a White win, and there is no second.
+const WON: End = (Ended::Done, 1, Some(Value::WhiteWins), None);
+
+/// The budget is spent with no work record: the first root is not settled, and there is no second.
+const SPENT: End = (Ended::Spent, 0, None, None);
+
+/// Two work records settle both roots, a White win and a Black win.
+const BOTH_WON: End = (
+    Ended::Done,
+    2,
+    Some(Value::WhiteWins),
+    Some(Value::BlackWins),
+);
+
+/// The ends of the work of one worker on a disk with the first root: alone, and in a thread.
+fn ends_of_one<R: Threads + Wait + Sync>(
+    rt: &R,
+    alloc: Global,
+    budget: u32,
+) -> Result<[Option<End>; 2], Fail>
+    requires { budget ≤ 5 }
+{
+    let table = fill(alloc, 2)?;
+    let disk = disk_with_roots(alloc, false)?;
+    let (_, alone) = work_on(rt, alloc, disk, &table, budget);
+    let disk = disk_with_roots(alloc, false)?;
+    let (_, in_thread) = run_on(rt, alloc, disk, &table, budget, 1, &OpenGate);
+    Ok([alone, in_thread])
+}
+
 #[test]
 fn one_leaf_takes_one_work_record(rt: HostRuntime) -> Result<(), Fail> {
-    let table = fill(rt.alloc(), 2)?;
-    let disk = disk_with_roots(rt.alloc(), &table, false)?;
-    let won: Option<End> = Some((Ended::Done, 1, Some(Value::WhiteWins), None));
-    let (_, alone) = work_on(&rt, rt.alloc(), disk.crash(1)?, &table, 5);
-    assert_eq!(rt; alone, won);
-    let (_, in_threads) = run_on(&rt, rt.alloc(), disk, &table, 5, 1, &OpenGate);
-    assert_eq!(rt; in_threads, won);
+    assert_eq!(rt; ends_of_one(&rt, rt.alloc(), 5)?, [Some(WON), Some(WON)]);
     Ok(())
 }
 
 #[test]
 fn no_budget_leaves_no_work_record(rt: HostRuntime) -> Result<(), Fail> {
-    let table = fill(rt.alloc(), 2)?;
-    let disk = disk_with_roots(rt.alloc(), &table, false)?;
-    let spent: Option<End> = Some((Ended::Spent, 0, None, None));
-    let (_, alone) = work_on(&rt, rt.alloc(), disk.crash(1)?, &table, 0);
-    assert_eq!(rt; alone, spent);
-    let (_, in_threads) = run_on(&rt, rt.alloc(), disk, &table, 0, 1, &OpenGate);
-    assert_eq!(rt; in_threads, spent);
+    assert_eq!(rt;
+        ends_of_one(&rt, rt.alloc(), 0)?,
+        [Some(SPENT), Some(SPENT)]
+    );
     Ok(())
+}
+
+/// The end of the work of so many workers on a disk with both roots.
+fn end_of<R: Threads + Wait + Sync, G: Gate + Sync>(
+    rt: &R,
+    alloc: Global,
+    workers: u8,
+    gate: &G,
+) -> Result<Option<End>, Fail> {
+    let table = fill(alloc, 2)?;
+    let disk = disk_with_roots(alloc, true)?;
+    let (_, end) = run_on(rt, alloc, disk, &table, 5, workers, gate);
+    Ok(end)
 }
 
 #[test]
 fn searches_run_at_the_same_time(rt: HostRuntime) -> Result<(), Fail> {
-    let table = fill(rt.alloc(), 2)?;
-    let disk = disk_with_roots(rt.alloc(), &table, true)?;
     let gate = MeetGate::new();
-    let (_, end) = run_on(&rt, rt.alloc(), disk, &table, 5, 4, &gate);
-    let both: Option<End> = Some((
-        Ended::Done,
-        2,
-        Some(Value::WhiteWins),
-        Some(Value::BlackWins),
-    ));
-    assert_eq!(rt; end, both);
-    assert!(rt; gate.met());
+    let end = end_of(&rt, rt.alloc(), 4, &gate)?;
+    assert_eq!(rt; (end, gate.met()), (Some(BOTH_WON), true));
     Ok(())
 }
 
@@ -235,61 +256,86 @@ impl Gate for AddingGate {
 
 #[test]
 fn a_gate_sees_how_many_roots_are_settled(rt: HostRuntime) -> Result<(), Fail> {
-    let table = fill(rt.alloc(), 2)?;
-    let disk = disk_with_roots(rt.alloc(), &table, true)?;
     let gate = AddingGate::new();
-    let (_, end) = run_on(&rt, rt.alloc(), disk, &table, 5, 1, &gate);
-    let both: Option<End> = Some((
-        Ended::Done,
-        2,
-        Some(Value::WhiteWins),
-        Some(Value::BlackWins),
-    ));
-    assert_eq!(rt; end, both);
+    let end = end_of(&rt, rt.alloc(), 1, &gate)?;
     // before the first search 0 of 2, before the second 1 of 2
-    assert_eq!(rt; gate.sums(), (2, 4, 1));
+    assert_eq!(rt; (end, gate.sums()), (Some(BOTH_WON), (2, 4, 1)));
     Ok(())
 }
 
+/// Whether the journal on a disk is attached.
+fn attaches(alloc: Global, disk: MemoryDisk, table: &Table) -> bool
+    requires { table.now.pieces ≡ 2 }
+{
+    Session::attach(alloc, disk, settings(5), table).is_ok()
+}
+
 /// Whether each image that a crash now may leave, of the first eight choices, is attached.
-fn images_attach(alloc: Global, disk: &MemoryDisk, table: &Table) -> Result<bool, Fail>
+fn images_attach(alloc: Global, disk: &MemoryDisk, table: &Table) -> Result<bool, AllocError>
     requires { table.now.pieces ≡ 2 }
 {
     for choice in 0..8 {
-        if Session::attach(alloc, disk.crash(choice)?, settings(5), table).is_err() {
+        if !attaches(alloc, disk.crash(choice)?, table) {
             return Ok(false);
         }
     }
     Ok(true)
 }
 
+/// The end of the work of four workers on a disk with both roots that fails behind so many calls, and whether each image of
+/// it is attached then.
+fn end_on_fuse<R: Threads + Wait + Sync>(
+    rt: &R,
+    alloc: Global,
+    table: &Table,
+    pass: u64,
+) -> Result<(Option<End>, bool), Fail>
+    requires { table.now.pieces ≡ 2 }
+{
+    let fuse = FuseDisk::new(disk_with_roots(alloc, true)?, pass);
+    let (fuse, end) = run_on(rt, alloc, fuse, table, 5, 4, &OpenGate);
+    Ok((end, images_attach(alloc, &fuse.into_inner(), table)?))
+}
+
+/// Whether work on a disk that fails may end so.
+fn may_end(end: Option<End>) -> bool {
+    match end {
+        None => true,
+        Some((Ended::Failed, work, _, _)) => work < 2,
+        Some(end) => end == BOTH_WON,
+    }
+}
+
+/// Whether the disk refused a commit of the work, and whether the work was done.
+fn failed_or_done(end: Option<End>) -> (bool, bool) {
+    match end {
+        None => (false, false),
+        Some((ended, _, _, _)) => (ended == Ended::Failed, ended == Ended::Done),
+    }
+}
+
 /// How many of a session's calls of the disk pass at most, before each later one fails.
 const MOST_CALLS: u64 = 40;
 
+/// Whether work on each such disk ends as it may and leaves images that are attached; and whether any failed, and any was
+/// done.
+fn ends_on_fuses<R: Threads + Wait + Sync>(
+    rt: &R,
+    alloc: Global,
+) -> Result<(bool, bool, bool), Fail> {
+    let table = fill(alloc, 2)?;
+    let mut found = (true, false, false);
+    for pass in 0..MOST_CALLS {
+        let (end, attach) = end_on_fuse(rt, alloc, &table, pass)?;
+        let (failed, done) = failed_or_done(end);
+        found.0 = found.0 && attach && may_end(end);
+        found = (found.0, found.1 || failed, found.2 || done);
+    }
+    Ok(found)
+}
+
 #[test]
 fn a_disk_that_fails_ends_all_workers(rt: HostRuntime) -> Result<(), Fail> {
-    let table = fill(rt.alloc(), 2)?;
-    let mut failed = 0u32;
-    let mut done = 0u32;
-    for pass in 0..MOST_CALLS {
-        let fuse = FuseDisk::new(disk_with_roots(rt.alloc(), &table, true)?, pass);
-        let (fuse, end) = run_on(&rt, rt.alloc(), fuse, &table, 5, 4, &OpenGate);
-        match end {
-            None => {}
-            Some((Ended::Failed, work, _, _)) => {
-                assert!(rt; work < 2);
-                failed = failed.saturating_add(1);
-            }
-            Some((ended, work, first, second)) => {
-                assert_eq!(rt; ended, Ended::Done);
-                assert_eq!(rt; work, 2);
-                assert_eq!(rt; first, Some(Value::WhiteWins));
-                assert_eq!(rt; second, Some(Value::BlackWins));
-                done = done.saturating_add(1);
-            }
-        }
-        assert!(rt; images_attach(rt.alloc(), &fuse.into_inner(), &table)?);
-    }
-    assert!(rt; failed > 0 && done > 0);
+    assert_eq!(rt; ends_on_fuses(&rt, rt.alloc())?, (true, true, true));
     Ok(())
 }

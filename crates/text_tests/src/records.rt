@@ -2,12 +2,13 @@
 //! 2^(n - 1).
 ghost use Rattle.std.specs.Prelude.{IfOk};
 
+use RecordRefusal::*;
 use bench_records::{BenchRecord, RecordRefusal, decode, encode};
 use draughts_board::{Cell, Move, PlaceRefusal, Position, Side, Square};
 use std::alloc::{AllocError, Global};
 use std::process::Abort;
 use std::test::Fail;
-use strategy_certificate::{Claim, Part, WinEntry};
+use strategy_certificate::{Certificate, Claim, Part, WinEntry, WinPart};
 
 /// A root begins: B:W16,19:B12, a Black man on bit 11 and White men on bits 15 and 18.
 const BEGIN: [u8; 18] = [1, 0, 0, 0, 8, 0, 0, 0, 0, 0, 0, 4, 128, 0, 0, 0, 0, 0];
@@ -58,35 +59,28 @@ fn blocked() -> Result<Position, PlaceRefusal> {
     Position::place(cells, Side::Black)
 }
 
+/// What is read of the bytes.
+fn read(alloc: Global, bytes: &[u8], pieces: u8) -> Result<BenchRecord, RecordRefusal> {
+    decode(alloc, bytes, pieces)
+}
+
 /// The refusal of the bytes, if they are refused.
 fn refusal(alloc: Global, bytes: &[u8]) -> Option<RecordRefusal> {
-    match decode(alloc, bytes, 2) {
+    match read(alloc, bytes, 2) {
         Ok(_) => None,
         Err(refusal) => Some(refusal),
     }
-}
-
-/// The bytes with this one in place of theirs.
-fn with_byte(alloc: Global, bytes: &[u8], at: usize, value: u8) -> Result<Vec<u8>, AllocError> {
-    let mut changed = Vec::new(alloc);
-    for (place, byte) in bytes.iter().enumerate() {
-        changed.push(if place == at { value } else { *byte })?;
-    }
-    Ok(changed)
-}
-
-/// The bytes with this one behind them.
-fn and_byte(alloc: Global, bytes: &[u8], value: u8) -> Result<Vec<u8>, AllocError> {
-    let mut longer = Vec::new(alloc);
-    longer.extend_from_slice(bytes)?;
-    longer.push(value)?;
-    Ok(longer)
 }
 
 /// What is read of the bytes, written again.
 fn written_again(alloc: Global, bytes: &[u8]) -> Result<Vec<u8>, RecordRefusal> {
     let record = decode(alloc, bytes, 2)?;
     Ok(encode(alloc, &record)?)
+}
+
+/// Whether it is written again as these bytes.
+fn is_written_again(alloc: Global, bytes: &[u8]) -> Result<bool, RecordRefusal> {
+    Ok(written_again(alloc, bytes)?.as_slice() == bytes)
 }
 
 /// The text by which a root begins.
@@ -99,313 +93,402 @@ fn expand_text(alloc: Global, node: u64) -> Result<Vec<u8>, AllocError> {
     encode(alloc, &BenchRecord::Expand { node })
 }
 
+/// The position with which the bytes say that a root begins.
+fn begun(alloc: Global, bytes: &[u8]) -> Result<Option<Position>, RecordRefusal> {
+    match read(alloc, bytes, 2)? {
+        BenchRecord::Begin(p) => Ok(Some(p)),
+        _ => Ok(None),
+    }
+}
+
+/// Whether a root begins with the position by this text.
+fn is_begun_by(alloc: Global, p: Position, text: &[u8]) -> Result<bool, AllocError> {
+    Ok(begin_text(alloc, p)?.as_slice() == text)
+}
+
 #[test]
 fn a_root_begins_with_18_bytes(rt: HostRuntime) -> Result<(), Fail> {
-    let text = begin_text(rt.alloc(), blocked()?)?;
-    assert_eq!(rt; text.as_slice(), BEGIN.as_slice());
-    match decode(rt.alloc(), &BEGIN, 2)? {
-        BenchRecord::Begin(p) => assert!(rt; p == blocked()?),
-        _ => assert!(rt; false, "another record"),
-    }
-    let held = &JOURNAL[21..39];
-    assert_eq!(rt; held, BEGIN.as_slice());
+    let p = blocked()?;
+    assert!(rt; is_begun_by(rt.alloc(), p, &BEGIN)?);
+    assert!(rt; begun(rt.alloc(), &BEGIN)? == Some(p));
     Ok(())
+}
+
+#[test]
+fn a_journal_holds_the_record(rt: HostRuntime) {
+    assert!(rt; JOURNAL.get(21..39) == Some(BEGIN.as_slice()));
+}
+
+/// The node that the bytes say is expanded.
+fn expanded(alloc: Global, bytes: &[u8]) -> Result<Option<u64>, RecordRefusal> {
+    match read(alloc, bytes, 3)? {
+        BenchRecord::Expand { node } => Ok(Some(node)),
+        _ => Ok(None),
+    }
+}
+
+/// The last node is expanded.
+const EXPAND_LAST: [u8; 9] = [3, 255, 255, 255, 255, 255, 255, 255, 255];
+
+/// Whether the node is expanded by this text.
+fn is_expanded_by(alloc: Global, node: u64, text: &[u8]) -> Result<bool, AllocError> {
+    Ok(expand_text(alloc, node)?.as_slice() == text)
 }
 
 #[test]
 fn a_node_is_expanded_with_9_bytes(rt: HostRuntime) -> Result<(), Fail> {
-    assert_eq!(rt; expand_text(rt.alloc(), 1)?.as_slice(), EXPAND.as_slice());
-    match decode(rt.alloc(), &EXPAND, 3)? {
-        BenchRecord::Expand { node } => assert_eq!(rt; node, 1),
-        _ => assert!(rt; false, "another record"),
-    }
-    let last = expand_text(rt.alloc(), u64::MAX)?;
-    assert_eq!(rt;
-        last.as_slice(),
-        [3, 255, 255, 255, 255, 255, 255, 255, 255].as_slice()
-    );
+    let written = [
+        is_expanded_by(rt.alloc(), 1, &EXPAND)?,
+        is_expanded_by(rt.alloc(), u64::MAX, &EXPAND_LAST)?,
+    ];
+    assert!(rt; written == [true, true]);
+    assert!(rt; expanded(rt.alloc(), &EXPAND)? == Some(1));
     Ok(())
 }
 
-/// Whether the part is the win in one.
-fn is_win_in_one(part: &Part) -> Result<bool, PlaceRefusal> {
-    let Part::Win(part) = part else {
-        return Ok(false);
-    };
-    if part.side() != Side::White || part.len() != 2 {
-        return Ok(false);
+/// The step 23-19.
+fn step() -> Option<Move> {
+    Move::of(&[Square::new(23)?, Square::new(19)?])
+}
+
+/// The side of a win part with two entries, and these.
+type TwoEntries = (Side, (Position, WinEntry), (Position, WinEntry));
+
+/// What the win part says, where it has two entries.
+fn two_entries(part: &WinPart) -> Option<TwoEntries> {
+    if part.len() != 2 {
+        return None;
     }
-    let (Some(from), Some(to)) = (Square::new(23), Square::new(19)) else {
-        return Ok(false);
+    Some((part.side(), part.entry(0), part.entry(1)))
+}
+
+/// What the only part of the certificate says.
+fn only_win(c: &Certificate) -> Option<TwoEntries> {
+    match c.parts.as_slice() {
+        [Part::Win(part)] => two_entries(part),
+        _ => None,
+    }
+}
+
+/// What a certificate says beside its parts: its position and its claim, and how many pieces the
+/// table has.
+type Head = (Position, Claim, u8);
+
+/// What the certificate says beside its parts.
+fn head(c: &Certificate) -> Head {
+    (c.position, c.claim, c.pieces)
+}
+
+/// A node and its position, and of its one certificate the head and the only part.
+type SolvedByOne = (u64, Position, Head, TwoEntries);
+
+/// A node and its position, and the heads of its two certificates.
+type SolvedByTwo = (u64, Position, Head, Head);
+
+/// What the record says of a solved node with one certificate.
+fn solved_by_one(record: &BenchRecord) -> Option<SolvedByOne> {
+    let BenchRecord::Solve {
+        node,
+        position,
+        shown,
+    } = record
+    else {
+        return None;
     };
+    match shown.as_slice() {
+        [c] => Some((*node, *position, head(c), only_win(c)?)),
+        _ => None,
+    }
+}
+
+/// What the record says of a solved node with two certificates.
+fn solved_by_two(record: &BenchRecord) -> Option<SolvedByTwo> {
+    let BenchRecord::Solve {
+        node,
+        position,
+        shown,
+    } = record
+    else {
+        return None;
+    };
+    match shown.as_slice() {
+        [a, b] => Some((*node, *position, head(a), head(b))),
+        _ => None,
+    }
+}
+
+/// What the bytes say of a solved node with one certificate.
+fn read_by_one(alloc: Global, bytes: &[u8]) -> Result<Option<SolvedByOne>, RecordRefusal> {
+    Ok(solved_by_one(&read(alloc, bytes, 3)?))
+}
+
+/// What the bytes say of a solved node with two certificates.
+fn read_by_two(alloc: Global, bytes: &[u8]) -> Result<Option<SolvedByTwo>, RecordRefusal> {
+    Ok(solved_by_two(&read(alloc, bytes, 2)?))
+}
+
+/// What the solved node of 86 bytes says.
+fn win_in_one() -> Result<SolvedByOne, PlaceRefusal> {
+    let (won, blocked) = (won()?, blocked()?);
     let first = WinEntry {
         rank: 1,
-        chosen: Move::of(&[from, to]),
+        chosen: step(),
     };
     let second = WinEntry {
         rank: 0,
         chosen: None,
     };
-    Ok(part.entry(0) == (won()?, first) && part.entry(1) == (blocked()?, second))
+    let part = (Side::White, (won, first), (blocked, second));
+    Ok((0, won, (won, Claim::Win(Side::White), 3), part))
 }
 
 #[test]
 fn a_node_is_solved_with_86_bytes(rt: HostRuntime) -> Result<(), Fail> {
-    assert_eq!(rt;
-        written_again(rt.alloc(), &SOLVE)?.as_slice(),
-        SOLVE.as_slice()
-    );
-    match decode(rt.alloc(), &SOLVE, 3)? {
-        BenchRecord::Solve {
-            node,
-            position,
-            shown,
-        } => {
-            assert!(rt; node == 0 && position == won()?);
-            let [c] = shown.as_slice() else {
-                assert!(rt; false, "one certificate");
-                return Ok(());
-            };
-            assert!(rt;
-                c.position == won()? && c.claim == Claim::Win(Side::White) && c.pieces == 3
-            );
-            let [part] = c.parts.as_slice() else {
-                assert!(rt; false, "one part");
-                return Ok(());
-            };
-            assert!(rt; is_win_in_one(part)?);
-        }
-        _ => assert!(rt; false, "another record"),
-    }
+    assert!(rt; is_written_again(rt.alloc(), &SOLVE)?);
+    assert!(rt; read_by_one(rt.alloc(), &SOLVE)? == Some(win_in_one()?));
     Ok(())
+}
+
+/// What the 37 bytes of the draw say.
+fn draw() -> Option<SolvedByTwo> {
+    let p = Position::of_masks([0, 1, 0, 1 << 31], Side::Black)?;
+    let (black, white) = (Claim::Hold(Side::Black), Claim::Hold(Side::White));
+    Some((7, p, (p, black, 2), (p, white, 2)))
 }
 
 #[test]
 fn two_holds_show_a_draw(rt: HostRuntime) -> Result<(), Fail> {
     let text = &DRAW[..37];
-    assert_eq!(rt; written_again(rt.alloc(), text)?.as_slice(), text);
-    assert_eq!(rt;
-        refusal(rt.alloc(), &DRAW),
-        Some(RecordRefusal::Trailing(37))
-    );
-    match decode(rt.alloc(), text, 2)? {
-        BenchRecord::Solve { node, shown, .. } => {
-            let [black, white] = shown.as_slice() else {
-                assert!(rt; false, "two certificates");
-                return Ok(());
-            };
-            assert!(rt; node == 7 && black.claim == Claim::Hold(Side::Black));
-            assert!(rt; white.claim == Claim::Hold(Side::White) && white.pieces == 2);
-        }
-        _ => assert!(rt; false, "another record"),
+    assert!(rt; is_written_again(rt.alloc(), text)?);
+    let due = draw().ok_or("a position")?;
+    assert!(rt; read_by_two(rt.alloc(), text)? == Some(due));
+    // With the one byte too many.
+    assert!(rt; refusal(rt.alloc(), &DRAW) == Some(Trailing(37)));
+    Ok(())
+}
+
+/// The place of a byte, what stands there now, and how the bytes are then refused.
+type Damage = (usize, u8, RecordRefusal);
+
+/// The refusal of the bytes with this one in place of theirs, or behind them.
+fn refusal_with(
+    alloc: Global,
+    bytes: &[u8],
+    at: usize,
+    value: u8,
+) -> Result<Option<RecordRefusal>, AllocError> {
+    let mut changed = bytes.to_vec(alloc)?;
+    match changed.get_mut(at) {
+        Some(byte) => *byte = value,
+        None => changed.push(value)?,
+    }
+    Ok(refusal(alloc, changed.as_slice()))
+}
+
+/// Whether the bytes are refused so.
+fn is_refused(alloc: Global, bytes: &[u8], case: &Damage) -> Result<bool, AllocError> {
+    Ok(refusal_with(alloc, bytes, case.0, case.1)? == Some(case.2))
+}
+
+/// The bytes are refused so with each of these in place of theirs, or behind them.
+fn expect_refused(
+    rt: &impl Abort,
+    alloc: Global,
+    bytes: &[u8],
+    cases: &[Damage],
+) -> Result<(), Fail> {
+    for case in cases {
+        assert!(rt; is_refused(alloc, bytes, case)?, "{} at {}", case.1, case.0);
     }
     Ok(())
 }
 
-// One byte of the solved node is another: the byte's place, what stands there now, and the field
-// that is refused.
-#[test]
-fn fields_of_a_solved_node_are_refused(rt: HostRuntime) -> Result<(), Fail> {
-    for (at, value, field) in [
-        // a side that is neither
-        (9, 2, 9),
-        (9, 255, 9),
-        // a Black man on 29 and on 32
-        (10, 16, 9),
-        (10, 128, 9),
-        // a Black king and a White king on 12, where the Black man stands
-        (16, 8, 9),
-        (24, 8, 9),
-        // a Black man on 16, where a White man stands
-        (12, 136, 9),
-        // a White man on 1 and on 4
-        (21, 1, 9),
-        (21, 8, 9),
-        // no certificate, and five
-        (26, 0, 26),
-        (26, 5, 26),
-        (26, 255, 26),
-        // a second certificate that is not there
-        (26, 2, 86),
-        // claims before the first and behind the last
-        (27, 0, 27),
-        (27, 5, 27),
-        // a third entry that is not there, and more
-        (31, 3, 86),
-        (28, 1, 86),
-        (28, 255, 86),
-        // in the first entry: a side, a man on its farthest row, two pieces on one square
-        (32, 3, 32),
-        (33, 64, 32),
-        (44, 2, 32),
-        (39, 8, 32),
-        // a rank of 2^40 + 1, and greater ones
-        (51, 1, 49),
-        (50, 1, 49),
-        (49, 128, 49),
-        // one square, fourteen, and more
-        (57, 1, 57),
-        (57, 14, 57),
-        (57, 255, 57),
-        // three squares, of which the last is the next side byte
-        (57, 3, 60),
-        // no move: the first square is taken for a side
-        (57, 0, 58),
-        // squares before the first and behind the last
-        (58, 0, 58),
-        (58, 33, 58),
-        (59, 0, 59),
-        (59, 33, 59),
-        (59, 255, 59),
-        // in the second entry: a side, a man on its farthest row, two pieces on one square
-        (60, 7, 60),
-        (61, 32, 60),
-        (72, 4, 60),
-        (75, 128, 60),
-        // ranks above 2^40
-        (79, 2, 77),
-        (78, 1, 77),
-        (77, 1, 77),
-        // one square, fourteen, and a move whose squares are not there
-        (85, 1, 85),
-        (85, 14, 85),
-        (85, 2, 86),
-        (85, 13, 86),
-    ] {
-        let bytes = with_byte(rt.alloc(), &SOLVE, at, value)?;
-        let refused = refusal(rt.alloc(), &bytes);
-        assert_eq!(rt;
-            refused,
-            Some(RecordRefusal::BadField(field)),
-            "{value} at {at}"
-        );
-    }
-    Ok(())
-}
-
-// So with the other two kinds, with kinds that are none, and with bytes behind a record.
-#[test]
-fn other_damage_is_refused(rt: HostRuntime) -> Result<(), Fail> {
-    for kind in [0, 4, 5, 128, 255] {
-        let solve = with_byte(rt.alloc(), &SOLVE, 0, kind)?;
-        assert_eq!(rt; refusal(rt.alloc(), &solve), Some(RecordRefusal::BadKind));
-        assert_eq!(rt; refusal(rt.alloc(), &[kind]), Some(RecordRefusal::BadKind));
-    }
-    for (at, value) in [(1, 2), (1, 128), (2, 16), (13, 1), (8, 8), (16, 128)] {
-        let bytes = with_byte(rt.alloc(), &BEGIN, at, value)?;
-        let refused = refusal(rt.alloc(), &bytes);
-        assert_eq!(rt;
-            refused,
-            Some(RecordRefusal::BadField(1)),
-            "{value} at {at}"
-        );
-    }
-    // A part of one entry and of none leave the rest behind the record.
-    for (count, at) in [(1, 60), (0, 32)] {
-        let bytes = with_byte(rt.alloc(), &SOLVE, 31, count)?;
-        assert_eq!(rt;
-            refusal(rt.alloc(), &bytes),
-            Some(RecordRefusal::Trailing(at))
-        );
-    }
+/// One byte of the solved node is another.
+const DAMAGED_SOLVE: &[Damage] = &[
+    // a side that is neither
+    (9, 2, BadField(9)),
+    (9, 255, BadField(9)),
+    // a Black man on 29 and on 32
+    (10, 16, BadField(9)),
+    (10, 128, BadField(9)),
+    // a Black king and a White king on 12, where the Black man stands
+    (16, 8, BadField(9)),
+    (24, 8, BadField(9)),
+    // a Black man on 16, where a White man stands
+    (12, 136, BadField(9)),
+    // a White man on 1 and on 4
+    (21, 1, BadField(9)),
+    (21, 8, BadField(9)),
+    // no certificate, and five
+    (26, 0, BadField(26)),
+    (26, 5, BadField(26)),
+    (26, 255, BadField(26)),
+    // a second certificate that is not there
+    (26, 2, BadField(86)),
+    // claims before the first and behind the last
+    (27, 0, BadField(27)),
+    (27, 5, BadField(27)),
+    // a third entry that is not there, and more
+    (31, 3, BadField(86)),
+    (28, 1, BadField(86)),
+    (28, 255, BadField(86)),
+    // in the first entry: a side, a man on its farthest row, two pieces on one square
+    (32, 3, BadField(32)),
+    (33, 64, BadField(32)),
+    (44, 2, BadField(32)),
+    (39, 8, BadField(32)),
+    // a rank of 2^40 + 1, and greater ones
+    (51, 1, BadField(49)),
+    (50, 1, BadField(49)),
+    (49, 128, BadField(49)),
+    // one square, fourteen, and more
+    (57, 1, BadField(57)),
+    (57, 14, BadField(57)),
+    (57, 255, BadField(57)),
+    // three squares, of which the last is the next side byte
+    (57, 3, BadField(60)),
+    // no move: the first square is taken for a side
+    (57, 0, BadField(58)),
+    // squares before the first and behind the last
+    (58, 0, BadField(58)),
+    (58, 33, BadField(58)),
+    (59, 0, BadField(59)),
+    (59, 33, BadField(59)),
+    (59, 255, BadField(59)),
+    // in the second entry: a side, a man on its farthest row, two pieces on one square
+    (60, 7, BadField(60)),
+    (61, 32, BadField(60)),
+    (72, 4, BadField(60)),
+    (75, 128, BadField(60)),
+    // ranks above 2^40
+    (79, 2, BadField(77)),
+    (78, 1, BadField(77)),
+    (77, 1, BadField(77)),
+    // one square, fourteen, and a move whose squares are not there
+    (85, 1, BadField(85)),
+    (85, 14, BadField(85)),
+    (85, 2, BadField(86)),
+    (85, 13, BadField(86)),
+    // a part of one entry and of none, which leave the rest behind the record
+    (31, 1, Trailing(60)),
+    (31, 0, Trailing(32)),
     // A hold has no ranks: the first byte of the rank says that no move is chosen, and the 17 bytes
     // from 50 on, with Black kings on 1, 2, 3, 5, 10 and 17, White men on 25, 26 and 29 and a White
     // king on 28, are a position without one.
-    for claim in [3, 4] {
-        let bytes = with_byte(rt.alloc(), &SOLVE, 27, claim)?;
-        assert_eq!(rt;
-            refusal(rt.alloc(), &bytes),
-            Some(RecordRefusal::Trailing(68))
-        );
-    }
-    let longer = and_byte(rt.alloc(), &SOLVE, 0)?;
-    assert_eq!(rt;
-        refusal(rt.alloc(), &longer),
-        Some(RecordRefusal::Trailing(86))
-    );
-    let longer = and_byte(rt.alloc(), &BEGIN, 9)?;
-    assert_eq!(rt;
-        refusal(rt.alloc(), &longer),
-        Some(RecordRefusal::Trailing(18))
-    );
-    let longer = and_byte(rt.alloc(), &EXPAND, 3)?;
-    assert_eq!(rt;
-        refusal(rt.alloc(), &longer),
-        Some(RecordRefusal::Trailing(9))
-    );
-    Ok(())
+    (27, 3, Trailing(68)),
+    (27, 4, Trailing(68)),
+    // a byte behind the record
+    (86, 0, Trailing(86)),
+];
+
+/// One byte of a root that begins is another.
+const DAMAGED_BEGIN: &[Damage] = &[
+    (1, 2, BadField(1)),
+    (1, 128, BadField(1)),
+    (2, 16, BadField(1)),
+    (13, 1, BadField(1)),
+    (8, 8, BadField(1)),
+    (16, 128, BadField(1)),
+    // a byte behind the record
+    (18, 9, Trailing(18)),
+];
+
+/// Kinds that are none.
+const KINDS: &[Damage] = &[
+    (0, 0, BadKind),
+    (0, 4, BadKind),
+    (0, 5, BadKind),
+    (0, 128, BadKind),
+    (0, 255, BadKind),
+];
+
+#[test]
+fn damaged_bytes_are_refused(rt: HostRuntime) -> Result<(), Fail> {
+    expect_refused(&rt, rt.alloc(), &SOLVE, DAMAGED_SOLVE)?;
+    expect_refused(&rt, rt.alloc(), &BEGIN, DAMAGED_BEGIN)?;
+    expect_refused(&rt, rt.alloc(), &EXPAND, &[(9, 3, Trailing(9))])?;
+    expect_refused(&rt, rt.alloc(), &SOLVE, KINDS)?;
+    expect_refused(&rt, rt.alloc(), &[3], KINDS)
 }
 
 // The second entry's position made that of the first: its side, and White's man from 19 to 23.
 #[test]
 fn a_position_stands_once_in_a_part(rt: HostRuntime) -> Result<(), Fail> {
-    let other_side = with_byte(rt.alloc(), &SOLVE, 60, 1)?;
-    assert_eq!(rt; refusal(rt.alloc(), &other_side), None);
-    let same = with_byte(rt.alloc(), &other_side, 70, 64)?;
-    assert_eq!(rt;
-        refusal(rt.alloc(), &same),
-        Some(RecordRefusal::BadField(60))
-    );
+    let mut other_side = SOLVE;
+    other_side[60] = 1;
+    let same = refusal_with(rt.alloc(), &other_side, 70, 64)?;
+    assert!(rt; [refusal(rt.alloc(), &other_side), same] == [None, Some(BadField(60))]);
     Ok(())
 }
 
 // The greatest rank, 2^40, is read and written again.
 #[test]
 fn the_greatest_rank_is_read(rt: HostRuntime) -> Result<(), Fail> {
-    let bytes = with_byte(rt.alloc(), &SOLVE, 79, 1)?;
-    assert_eq!(rt;
-        written_again(rt.alloc(), &bytes)?.as_slice(),
-        bytes.as_slice()
-    );
+    let mut bytes = SOLVE;
+    bytes[79] = 1;
+    assert!(rt; is_written_again(rt.alloc(), &bytes)?);
     Ok(())
 }
 
-/// Each front of the bytes, up to all of them, is refused at the last field that begins at its end
-/// or before.
-fn fronts_are_refused(rt: &impl Abort, alloc: Global, bytes: &[u8], fields: &[usize]) {
-    assert_eq!(rt; refusal(alloc, &[]), Some(RecordRefusal::BadKind));
-    for length in 1..bytes.len() {
-        let mut field = 1;
-        for begin in fields {
-            if *begin <= length {
-                field = *begin;
-            }
+/// The last of the fields that begins there or before.
+fn field_at(fields: &[usize], at: usize) -> usize {
+    let mut field = 1;
+    for begin in fields {
+        if *begin <= at {
+            field = *begin;
         }
-        let refused = refusal(alloc, &bytes[..length]);
-        assert_eq!(rt;
-            refused,
-            Some(RecordRefusal::BadField(field)),
-            "{length} bytes"
-        );
     }
-    assert_eq!(rt; refusal(alloc, bytes), None);
+    field
 }
+
+/// The length of the first front of the bytes that is not refused at its last field; none where each
+/// front is, and all the bytes are read.
+fn first_other_front(alloc: Global, bytes: &[u8], fields: &[usize]) -> Option<usize> {
+    for length in 1..bytes.len() {
+        if refusal(alloc, &bytes[..length]) != Some(BadField(field_at(fields, length))) {
+            return Some(length);
+        }
+    }
+    match refusal(alloc, bytes) {
+        None => None,
+        Some(_) => Some(bytes.len()),
+    }
+}
+
+/// The places of the fields of the solved node and of the draw.
+const SOLVE_FIELDS: [usize; 13] = [1, 9, 26, 27, 28, 32, 49, 57, 58, 59, 60, 77, 85];
+
+const DRAW_FIELDS: [usize; 7] = [1, 9, 26, 27, 28, 32, 33];
 
 #[test]
 fn every_front_is_refused(rt: HostRuntime) {
-    fronts_are_refused(&rt, rt.alloc(), &BEGIN, &[1]);
-    fronts_are_refused(&rt, rt.alloc(), &EXPAND, &[1]);
-    let fields = [1, 9, 26, 27, 28, 32, 49, 57, 58, 59, 60, 77, 85];
-    fronts_are_refused(&rt, rt.alloc(), &SOLVE, &fields);
-    fronts_are_refused(&rt, rt.alloc(), &DRAW[..37], &[1, 9, 26, 27, 28, 32, 33]);
+    assert_eq!(rt; refusal(rt.alloc(), &[]), Some(BadKind));
+    let others = [
+        first_other_front(rt.alloc(), &BEGIN, &[1]),
+        first_other_front(rt.alloc(), &EXPAND, &[1]),
+        first_other_front(rt.alloc(), &SOLVE, &SOLVE_FIELDS),
+        first_other_front(rt.alloc(), &DRAW[..37], &DRAW_FIELDS),
+    ];
+    assert_eq!(rt; others, [None; 4]);
+}
+
+/// What is printed of the refusals, a line each.
+fn printed(alloc: Global) -> Result<String, AllocError> {
+    format!(in alloc;
+        "{}\n{}\n{}\n{}\n",
+        BadKind,
+        BadField(9),
+        Trailing(86),
+        Memory(AllocError)
+    )
 }
 
 #[test]
 fn refusals_name_their_places(rt: HostRuntime) -> Result<(), Fail> {
-    for (refusal, text) in [
-        (RecordRefusal::BadKind, "no record has this kind"),
-        (
-            RecordRefusal::BadField(9),
-            "the field at byte 9 is not whole or not allowed",
-        ),
-        (
-            RecordRefusal::Trailing(86),
-            "bytes follow the record from byte 86",
-        ),
-        (RecordRefusal::Memory(AllocError), "out of memory"),
-    ] {
-        let written = format!(in rt.alloc(); "{refusal}")?;
-        assert_eq!(rt; written.as_str(), text);
-    }
+    let due = "no record has this kind\n\
+        the field at byte 9 is not whole or not allowed\n\
+        bytes follow the record from byte 86\n\
+        out of memory\n";
+    assert_eq!(rt; printed(rt.alloc())?.as_str(), due);
     Ok(())
 }

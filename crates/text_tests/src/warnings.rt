@@ -1,118 +1,174 @@
 //! Warnings, written by hand.
 use source_warnings::{Cause, Warning, warnings_of, warnings_text};
-use std::alloc::Global;
+use std::alloc::{AllocError, Global};
+use std::process::Abort;
 use std::test::Fail;
 
-/// The text on a source for which no plies were asked.
-fn told(alloc: Global, source: &[u8]) -> Result<String, Fail> {
-    let text = warnings_text(alloc, source, 0)?;
-    Ok(String::from_utf8(text)?)
+/// How many warnings on a source are told, and how many more there are.
+fn counts(alloc: Global, source: &[u8], plies: usize) -> Result<(usize, usize), AllocError> {
+    let found = warnings_of(alloc, source, plies)?;
+    Ok((found.told.len(), found.more))
+}
+
+/// Sources that are meant so.
+const MEANT: [&[u8]; 8] = [
+    b"",
+    b"*",
+    b"[Event \"Club [fen]\"] [FEN \"W:W16,23:B12\"] 1. 23-19 *\r\n[FEN \"B:W21:B10\"] *",
+    b"{[fen \"x\"] * *} 1. 11-15 (22-18 * * [fen]) $1 22-18! ; * *\r\n1-0\r\n",
+    b"[GameType \"21\"] 11-15 1-0 % no comment begins here",
+    b"[FEN \"W:W16:B12\"] 16-11 [FEN \"W:W16:B12\"] 16-11 1/2-1/2",
+    b"\xEF\xBB\xBF* [White \"a\\\"] * *\"] 0-1",
+    b"; one line\r\r\n%another\r\n*",
+];
+
+/// The place of the first source of which something is warned, or some text is told.
+fn first_warned(alloc: Global) -> Result<Option<usize>, AllocError> {
+    for (place, source) in MEANT.iter().enumerate() {
+        let told = warnings_text(alloc, source, 0)?.len();
+        if (counts(alloc, source, 0)?, told) != ((0, 0), 0) {
+            return Ok(Some(place));
+        }
+    }
+    Ok(None)
 }
 
 #[test]
 fn sources_that_are_meant_so(rt: HostRuntime) -> Result<(), Fail> {
-    for source in [
-        b"".as_slice(),
-        b"*".as_slice(),
-        b"[Event \"Club [fen]\"] [FEN \"W:W16,23:B12\"] 1. 23-19 *\r\n[FEN \"B:W21:B10\"] *".as_slice(),
-        b"{[fen \"x\"] * *} 1. 11-15 (22-18 * * [fen]) $1 22-18! ; * *\r\n1-0\r\n".as_slice(),
-        b"[GameType \"21\"] 11-15 1-0 % no comment begins here".as_slice(),
-        b"[FEN \"W:W16:B12\"] 16-11 [FEN \"W:W16:B12\"] 16-11 1/2-1/2".as_slice(),
-        b"\xEF\xBB\xBF* [White \"a\\\"] * *\"] 0-1".as_slice(),
-        b"; one line\r\r\n%another\r\n*".as_slice(),
-    ] {
-        assert_eq!(rt; warnings_of(rt.alloc(), source, 0)?.told.len(), 0);
-        assert_eq!(rt; warnings_text(rt.alloc(), source, 0)?.len(), 0);
-    }
+    assert_eq!(rt; first_warned(rt.alloc())?, None);
     Ok(())
 }
+
+/// Whether these and no other warnings are told of a source.
+fn is_warned(
+    alloc: Global,
+    source: &[u8],
+    plies: usize,
+    due: &[Warning],
+) -> Result<bool, AllocError> {
+    Ok(warnings_of(alloc, source, plies)?.told.as_slice() == due)
+}
+
+/// A source with each cause that is looked for when no plies are asked.
+const FAULTY: &[u8] =
+    b"[fen \"B:W:B1\"] [gametype \"20\"] 9-13 1-0\n; so\r[FEN \"W:W16:B12\"] *\n[FEN \"W:W16:B12\"] [FEN \"W:W16:B11\"] * *";
+
+const FAULTS: [Warning; 5] = [
+    Warning {
+        at: 0,
+        cause: Cause::LikeFen,
+    },
+    Warning {
+        at: 15,
+        cause: Cause::LikeGameType,
+    },
+    Warning {
+        at: 40,
+        cause: Cause::RunsOn,
+    },
+    Warning {
+        at: 83,
+        cause: Cause::SecondFen,
+    },
+    Warning {
+        at: 103,
+        cause: Cause::SecondResult,
+    },
+];
 
 #[test]
 fn each_cause_has_its_place(rt: HostRuntime) -> Result<(), Fail> {
-    let source =
-        b"[fen \"B:W:B1\"] [gametype \"20\"] 9-13 1-0\n; so\r[FEN \"W:W16:B12\"] *\n[FEN \"W:W16:B12\"] [FEN \"W:W16:B11\"] * *";
-    let found = warnings_of(rt.alloc(), source, 0)?.told;
-    let want = [
-        (0, Cause::LikeFen),
-        (15, Cause::LikeGameType),
-        (40, Cause::RunsOn),
-        (83, Cause::SecondFen),
-        (103, Cause::SecondResult),
-    ];
-    assert_eq!(rt; found.len(), want.len());
-    for (warning, (at, cause)) in found.iter().zip(want) {
-        assert_eq!(rt; *warning, Warning { at, cause });
-    }
+    assert!(rt; is_warned(rt.alloc(), FAULTY, 0, &FAULTS)?);
     Ok(())
 }
+
+/// Games of two plies, of one, of three and of none.
+const SHORT: &[u8] =
+    b"1. 11-15 22-18 * [Event \"two\"] 9-13 [Event \"three\"] 9-14 22-18 11-16 1/2-1/2 *";
+
+const FEW_PLIES: [Warning; 3] = [
+    Warning {
+        at: 3,
+        cause: Cause::FewPlies { game: 1, plies: 2 },
+    },
+    Warning {
+        at: 17,
+        cause: Cause::FewPlies { game: 2, plies: 1 },
+    },
+    Warning {
+        at: 77,
+        cause: Cause::SecondResult,
+    },
+];
 
 #[test]
 fn games_with_few_plies(rt: HostRuntime) -> Result<(), Fail> {
-    let source =
-        b"1. 11-15 22-18 * [Event \"two\"] 9-13 [Event \"three\"] 9-14 22-18 11-16 1/2-1/2 *";
-    let found = warnings_of(rt.alloc(), source, 3)?.told;
-    let want = [(3, 1, 2), (17, 2, 1), (77, 4, 0)];
-    for (warning, (at, game, plies)) in found.iter().zip(want) {
-        let due = if game == 4 {
-            Cause::SecondResult
-        } else {
-            Cause::FewPlies { game, plies }
-        };
-        assert_eq!(rt; *warning, Warning { at, cause: due }, "{game}");
-    }
-    assert_eq!(rt; found.len(), want.len());
-    let text = String::from_utf8(warnings_text(rt.alloc(), b"* 9-13", 2)?)?;
-    assert_eq!(rt;
-        text.as_str(),
-        "warning: line 1, column 1:\n  * 9-13\n  ^\nGame 1 begins here and has fewer moves than the 2 plies of `--plies`: 0. Its opening is the position after all of them.\nwarning: line 1, column 3:\n  * 9-13\n    ^\nGame 2 begins here and has fewer moves than the 2 plies of `--plies`: 1. Its opening is the position after all of them.\n"
-    );
+    assert!(rt; is_warned(rt.alloc(), SHORT, 3, &FEW_PLIES)?);
     Ok(())
 }
 
+/// A source, how many plies are asked, and the text that is told.
+type Case = (&'static [u8], usize, &'static str);
+
+/// The texts on these sources say so.
+fn expect(rt: &impl Abort, alloc: Global, cases: &[Case]) -> Result<(), Fail> {
+    for (source, plies, want) in cases {
+        let told = warnings_text(alloc, source, *plies)?;
+        assert!(rt; told.as_slice() == want.as_bytes(), "{want}");
+    }
+    Ok(())
+}
+
+const TEXTS: &[Case] = &[
+    (
+        b"[Event \"Club\"]\n [Fen \"W:W16,23:B12\"] 9-13 *",
+        0,
+        "warning: line 2, column 2:\n   [Fen \"W:W16,23:B12\"] 9-13 *\n   ^\nThis tag is not looked at: names of tags are compared letter for letter. The game begins from its tag `FEN`, or else from the start. Write [FEN \"..\"].\n",
+    ),
+    (
+        b"[GAMETYPE \"20\"] *",
+        0,
+        "warning: line 1, column 1:\n  [GAMETYPE \"20\"] *\n  ^\nThis tag is not looked at: names of tags are compared letter for letter. The game is taken as English draughts. Write [GameType \"21\"], or take games of another kind out.\n",
+    ),
+    (
+        b"[FEN \"W:W16,23:B12\"]\n[FEN \"B:W21:B10,17\"]",
+        0,
+        "warning: line 2, column 1:\n  [FEN \"B:W21:B10,17\"]\n  ^\nThis position is not looked at: its game has one already, and the first counts. Write a result, as `*`, behind each position that is to be a game of its own.\n",
+    ),
+    (
+        b"9-13 1-0 {Black resigned} *",
+        0,
+        "warning: line 1, column 27:\n  9-13 1-0 {Black resigned} *\n                            ^\nThis result stands straight behind another and is read as a game of its own, without moves, from the start. Leave one of the two out.\n",
+    ),
+    (
+        b"; from a club\r[FEN \"W:W16,23:B12\"] *\r",
+        0,
+        "warning: line 1, column 1:\n  ; from a club\n  ^\nThis comment goes on behind its line, which ends with a carriage return (byte 13) alone: what stands up to the next line feed (byte 10) is not read. End lines with a line feed, or write the comment in braces: {so}.\n",
+    ),
+    (
+        b"* 9-13",
+        2,
+        "warning: line 1, column 1:\n  * 9-13\n  ^\nGame 1 begins here and has fewer moves than the 2 plies of `--plies`: 0. Its opening is the position after all of them.\nwarning: line 1, column 3:\n  * 9-13\n    ^\nGame 2 begins here and has fewer moves than the 2 plies of `--plies`: 1. Its opening is the position after all of them.\n",
+    ),
+];
+
 #[test]
 fn texts_say_what_to_write(rt: HostRuntime) -> Result<(), Fail> {
-    assert_eq!(rt;
-        told(
-            rt.alloc(),
-            b"[Event \"Club\"]\n [Fen \"W:W16,23:B12\"] 9-13 *"
-        )?
-        .as_str(),
-        "warning: line 2, column 2:\n   [Fen \"W:W16,23:B12\"] 9-13 *\n   ^\nThis tag is not looked at: names of tags are compared letter for letter. The game begins from its tag `FEN`, or else from the start. Write [FEN \"..\"].\n"
-    );
-    assert_eq!(rt;
-        told(rt.alloc(), b"[GAMETYPE \"20\"] *")?.as_str(),
-        "warning: line 1, column 1:\n  [GAMETYPE \"20\"] *\n  ^\nThis tag is not looked at: names of tags are compared letter for letter. The game is taken as English draughts. Write [GameType \"21\"], or take games of another kind out.\n"
-    );
-    assert_eq!(rt;
-        told(
-            rt.alloc(),
-            b"[FEN \"W:W16,23:B12\"]\n[FEN \"B:W21:B10,17\"]"
-        )?
-        .as_str(),
-        "warning: line 2, column 1:\n  [FEN \"B:W21:B10,17\"]\n  ^\nThis position is not looked at: its game has one already, and the first counts. Write a result, as `*`, behind each position that is to be a game of its own.\n"
-    );
-    assert_eq!(rt;
-        told(rt.alloc(), b"9-13 1-0 {Black resigned} *")?.as_str(),
-        "warning: line 1, column 27:\n  9-13 1-0 {Black resigned} *\n                            ^\nThis result stands straight behind another and is read as a game of its own, without moves, from the start. Leave one of the two out.\n"
-    );
-    assert_eq!(rt;
-        told(rt.alloc(), b"; from a club\r[FEN \"W:W16,23:B12\"] *\r")?.as_str(),
-        "warning: line 1, column 1:\n  ; from a club\n  ^\nThis comment goes on behind its line, which ends with a carriage return (byte 13) alone: what stands up to the next line feed (byte 10) is not read. End lines with a line feed, or write the comment in braces: {so}.\n"
-    );
-    Ok(())
+    expect(&rt, rt.alloc(), TEXTS)
+}
+
+/// How often the text on a source speaks of a result, and whether the text ends so.
+fn result_count(alloc: Global, source: &[u8], end: &str) -> Result<(usize, bool), Fail> {
+    let text = String::from_utf8(warnings_text(alloc, source, 0)?)?;
+    let text = text.as_str();
+    Ok((text.matches("This result").count(), text.ends_with(end)))
 }
 
 #[test]
 fn ten_are_told_and_the_rest_counted(rt: HostRuntime) -> Result<(), Fail> {
     let source = b"* * * * * * * * * * * * * *";
-    let found = warnings_of(rt.alloc(), source, 0)?;
-    assert_eq!(rt; found.told.len(), 10);
-    assert_eq!(rt; found.more, 3);
-    let text = told(rt.alloc(), source)?;
-    assert_eq!(rt; text.as_str().matches("This result").count(), 10);
-    assert!(rt;
-        text.as_str()
-            .ends_with("Leave one of the two out.\nwarning: and 3 more.\n")
-    );
+    let end = "Leave one of the two out.\nwarning: and 3 more.\n";
+    assert!(rt; counts(rt.alloc(), source, 0)? == (10, 3));
+    assert!(rt; result_count(rt.alloc(), source, end)? == (10, true));
     Ok(())
 }

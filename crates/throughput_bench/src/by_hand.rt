@@ -4,7 +4,7 @@ ghost use Rattle.turn_lock.specs.Seen.{IsOutside};
 ghost use Rattle.bench_core.specs.Cores.{IsOutcomeOf};
 
 use crate::roots::{End, PIECES};
-use crate::together::share;
+use crate::together::{end_of, share};
 use anyhow::{Result, bail};
 use bench_core::LeaseRefusal;
 use bench_disk::Disk;
@@ -148,10 +148,7 @@ pub(crate) fn work_by_hand<R: Wait, D: Disk + Drop>(
     requires { table.now.pieces ≡ PIECES }
 {
     let (shared, mut pass) = share(rt.alloc(), disk, table)?;
-    let spent = work_off(waiting, rt, &shared, &mut pass, table)?;
-    let session = shared.finish(waiting, pass);
-    Ok(ByHand {
-        end: End::of(&session),
-        spent,
-    })
+    let spent = work_off(waiting, rt, &shared, &mut pass, table);
+    let end = end_of(waiting, shared, pass);
+    Ok(ByHand { end, spent: spent? })
 }

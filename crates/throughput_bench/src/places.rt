@@ -5,7 +5,7 @@ use crate::by_hand::{ByHand, work_by_hand};
 use crate::roots::{PIECES, begin};
 use crate::together::{Together, work_together};
 use anyhow::Result;
-use bench_disk::{FileDisk, MemoryDisk};
+use bench_disk::{Disk, FileDisk, MemoryDisk};
 use draughts_board::Position;
 use endgame_table::Table;
 use std::fs;
@@ -35,6 +35,21 @@ fn new_file<'a>(rt: &'a HostRuntime, path: &str) -> Result<FileDisk<&'a HostRunt
     Ok(FileDisk::new(rt, String::from_str(rt.alloc(), path)?))
 }
 
+/// Begins the roots on a disk, and lets so many workers work until all are settled.
+fn begin_together<R: Threads + Wait + Sync, D: Disk + Drop + Send>(
+    threads: &R,
+    rt: &HostRuntime,
+    disk: D,
+    workers: u8,
+    positions: &[Position],
+    table: &Table,
+) -> Result<Together>
+    requires { table.now.pieces ≡ PIECES }
+{
+    let disk = begin(rt.alloc(), disk, positions, table)?;
+    work_together(threads, rt, disk, workers, table)
+}
+
 /// Lets so many workers work at a place until all roots are settled.
 pub(crate) fn run_together<R: Threads + Wait + Sync>(
     threads: &R,
@@ -46,17 +61,30 @@ pub(crate) fn run_together<R: Threads + Wait + Sync>(
 ) -> Result<Together>
     requires { table.now.pieces ≡ PIECES }
 {
-    let alloc = rt.alloc();
     match place {
         Place::Memory => {
-            let disk = begin(alloc, MemoryDisk::new(alloc), positions, table)?;
-            work_together(threads, rt, disk, workers, table)
+            let disk = MemoryDisk::new(rt.alloc());
+            begin_together(threads, rt, disk, workers, positions, table)
         }
         Place::File(path) => {
-            let disk = begin(alloc, new_file(rt, path)?, positions, table)?;
-            work_together(threads, rt, disk, workers, table)
+            let disk = new_file(rt, path)?;
+            begin_together(threads, rt, disk, workers, positions, table)
         }
     }
+}
+
+/// Begins the roots on a disk, and lets one worker work by hand until all are settled.
+fn begin_by_hand<R: Wait, D: Disk + Drop>(
+    waiting: &R,
+    rt: &HostRuntime,
+    disk: D,
+    positions: &[Position],
+    table: &Table,
+) -> Result<ByHand>
+    requires { table.now.pieces ≡ PIECES }
+{
+    let disk = begin(rt.alloc(), disk, positions, table)?;
+    work_by_hand(waiting, rt, disk, table)
 }
 
 /// Lets one worker work at a place by hand until all roots are settled.
@@ -69,15 +97,14 @@ pub(crate) fn run_by_hand<R: Wait>(
 ) -> Result<ByHand>
     requires { table.now.pieces ≡ PIECES }
 {
-    let alloc = rt.alloc();
     match place {
         Place::Memory => {
-            let disk = begin(alloc, MemoryDisk::new(alloc), positions, table)?;
-            work_by_hand(waiting, rt, disk, table)
+            let disk = MemoryDisk::new(rt.alloc());
+            begin_by_hand(waiting, rt, disk, positions, table)
         }
         Place::File(path) => {
-            let disk = begin(alloc, new_file(rt, path)?, positions, table)?;
-            work_by_hand(waiting, rt, disk, table)
+            let disk = new_file(rt, path)?;
+            begin_by_hand(waiting, rt, disk, positions, table)
         }
     }
 }

@@ -12,18 +12,27 @@ use tree_manager::Session;
 /// So many pieces the endgame table has at most.
 pub(crate) const PIECES: u8 = 2;
 
-/// How a session searches. A lease lasts for longer than any run.
+/// So many plies a search looks ahead.
+const DEPTH: u8 = 8;
+
+/// So many work records a session may have.
+const BUDGET: u32 = 2_000;
+
+/// A lease lasts for as many leases given, longer than any run.
+const LEASE: u32 = 1_000_000;
+
+/// How a session searches.
 pub(crate) fn settings() -> Settings
     ensures pieces { result.pieces ≡ PIECES }
-    ensures depth { result.depth ≡ 8 }
-    ensures budget { result.budget ≡ 2000 }
-    ensures lease { result.lease ≡ 1000000 }
+    ensures depth { result.depth ≡ DEPTH }
+    ensures budget { result.budget ≡ BUDGET }
+    ensures lease { result.lease ≡ LEASE }
 {
     Settings {
         pieces: PIECES,
-        depth: 8,
-        budget: 2_000,
-        lease: 1_000_000,
+        depth: DEPTH,
+        budget: BUDGET,
+        lease: LEASE,
     }
 }
 

@@ -43,6 +43,42 @@ pub(crate) fn share<D: Disk + Drop>(
     }
 }
 
+/// Lets so many workers work until all roots are settled: in how many nanoseconds, by the clock, and of the processors.
+fn time_workers<R: Threads + Wait + Sync, D: Disk + Send>(
+    threads: &R,
+    rt: &HostRuntime,
+    shared: &SharedBench<D>,
+    pass: &mut BenchPass<D>,
+    workers: u8,
+    table: &Table,
+) -> Result<(u128, u128)>
+    requires pieces { table.now.pieces ≡ PIECES }
+    requires outside { IsOutside shared.now pass.old }
+    requires settings { CanSearch PIECES pass.old.front }
+    ensures { IsOutside shared.now pass.new }
+{
+    let used = rt.process_cpu_time()?;
+    let start = Instant::now(rt)?;
+    run_workers(threads, rt.alloc(), shared, pass, workers, table, &OpenGate);
+    let spent = start.elapsed(rt)?.as_nanos();
+    let processors = rt
+        .process_cpu_time()?
+        .as_nanos()
+        .saturating_sub(used.as_nanos());
+    Ok((spent, processors))
+}
+
+/// Ends the sharing: what the session came to.
+pub(crate) fn end_of<R: Wait, D: Disk + Drop>(
+    waiting: &R,
+    shared: SharedBench<D>,
+    pass: BenchPass<D>,
+) -> End
+    requires { IsOutside shared pass }
+{
+    End::of(&shared.finish(waiting, pass))
+}
+
 /// Lets so many workers work on the disk's journal until all roots are settled.
 pub(crate) fn work_together<R: Threads + Wait + Sync, D: Disk + Drop + Send>(
     threads: &R,
@@ -54,25 +90,11 @@ pub(crate) fn work_together<R: Threads + Wait + Sync, D: Disk + Drop + Send>(
     requires { table.now.pieces ≡ PIECES }
 {
     let (shared, mut pass) = share(rt.alloc(), disk, table)?;
-    let used = rt.process_cpu_time()?;
-    let start = Instant::now(rt)?;
-    run_workers(
-        threads,
-        rt.alloc(),
-        &shared,
-        &mut pass,
-        workers,
-        table,
-        &OpenGate,
-    );
-    let spent = start.elapsed(rt)?.as_nanos();
-    let processors = rt
-        .process_cpu_time()?
-        .as_nanos()
-        .saturating_sub(used.as_nanos());
-    let session = shared.finish(threads, pass);
+    let timed = time_workers(threads, rt, &shared, &mut pass, workers, table);
+    let end = end_of(threads, shared, pass);
+    let (spent, processors) = timed?;
     Ok(Together {
-        end: End::of(&session),
+        end,
         spent,
         processors,
     })

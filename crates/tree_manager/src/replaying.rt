@@ -21,9 +21,9 @@ fn refusal_at(at: u64, refusal: RecordRefusal) -> JournalRefusal
     ensures { result ≡ refusal_of_text at refusal }
 {
     match refusal {
-        RecordRefusal::BadKind | RecordRefusal::BadField(_) | RecordRefusal::Trailing(_) => {
-            JournalRefusal::Damaged(at)
-        }
+        RecordRefusal::BadKind => JournalRefusal::Damaged(at),
+        RecordRefusal::BadField(_) => JournalRefusal::Damaged(at),
+        RecordRefusal::Trailing(_) => JournalRefusal::Damaged(at),
         RecordRefusal::Memory(error) => JournalRefusal::Memory(error),
     }
 }

@@ -19,17 +19,20 @@ mod tally;
 use crate::roots::begun_disk;
 use crate::runs::run_alone;
 use crate::stress::{RUNS, WORKERS, stress};
-use anyhow::{Result, bail, ensure};
+use anyhow::{Result, ensure};
 use endgame_table::fill;
 use std::env;
 
 /// Whether the words ask for the counts.
 fn wants_counts(words: &[String]) -> Result<bool> {
-    match words {
-        [] => Ok(false),
-        [word] if word.as_str() == "counts" => Ok(true),
-        _ => bail!("the one word is counts"),
-    }
+    let Some(word) = words.first() else {
+        return Ok(false);
+    };
+    ensure!(
+        words.len() == 1 && word.as_str() == "counts",
+        "the one word is counts"
+    );
+    Ok(true)
 }
 
 fn main(rt: HostRuntime) -> Result<()> {

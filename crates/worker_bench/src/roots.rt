@@ -12,7 +12,7 @@ use tree_manager::Session;
 
 /// The positions of the roots: nine White wins, nine Black wins, and six draws. The one worker expands each at most ten times
 /// before its value is known.
-const ROOTS: [&str; 24] = [
+const ROOTS: &[&str] = &[
     "W:W27,32:B19",
     "W:W7,24:B1",
     "B:W18,K22:B9",

@@ -79,20 +79,36 @@ fn share(
 /// The value of each root, in order.
 fn root_values(alloc: Global, tree: &Tree) -> Result<Vec<Option<Value>>, AllocError> {
     let mut values = Vec::new(alloc);
-    for root in 1..=tree.roots() {
-        values.push(tree.settled(root))?;
+    for place in 0..tree.roots() {
+        let value = tree.settled(place + 1);
+        values.push(value)?;
     }
     Ok(values)
+}
+
+/// The value of each root of a session, in order.
+fn values_of(
+    alloc: Global,
+    session: Session<MemoryDisk>,
+) -> Result<Vec<Option<Value>>, AllocError> {
+    root_values(alloc, session.bench().tree())
+}
+
+/// The session that reads the journal on the disk again.
+fn read_again(alloc: Global, disk: MemoryDisk, table: &Table) -> Result<Session<MemoryDisk>>
+    requires { table.now.pieces ≡ 2 }
+{
+    match Session::attach(alloc, disk, settings(LONE_LEASE), table) {
+        Ok(session) => Ok(session),
+        Err((_, refusal)) => Err(refusal.into()),
+    }
 }
 
 /// The value of each root by the journal on the disk, in order.
 fn values_on(alloc: Global, disk: MemoryDisk, table: &Table) -> Result<Vec<Option<Value>>>
     requires { table.now.pieces ≡ 2 }
 {
-    match Session::attach(alloc, disk, settings(LONE_LEASE), table) {
-        Ok(session) => Ok(root_values(alloc, session.bench().tree())?),
-        Err((_, refusal)) => Err(refusal.into()),
-    }
+    Ok(values_of(alloc, read_again(alloc, disk, table)?)?)
 }
 
 /// Ends the sharing, where every root is settled: what the session came to.
