@@ -76,7 +76,7 @@ fn tell(rt: &(impl Print + Alloc<A = Global>), plan: &Plan, table: &Table) -> Re
     requires first { 1 ≤ plan.now.lasts }
     requires last { plan.now.lasts ≤ 1000000000 }
 {
-    let mut total = Tally::new();
+    let mut total = Tally::default();
     for list in 0..LISTS {
         let seed = plan.seed.wrapping_mul(1_000_000).wrapping_add(list);
         let tally = play(rt.alloc(), &Plan { seed, ..*plan }, table)?;

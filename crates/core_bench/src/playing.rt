@@ -233,7 +233,7 @@ fn begin_match<'a>(alloc: Global, plan: &Plan, table: &'a Table) -> Result<Match
         bench: TabledBench::new(alloc, table, depth, budget, lasts)?,
         plain: Plain::new(alloc, lasts, depth, table.pieces(), budget),
         dice: Pcg32::new(seed, 1),
-        tally: Tally::new(),
+        tally: Tally::default(),
     })
 }
 

@@ -2,7 +2,7 @@
 use anyhow::Result;
 
 /// How many events there were of each kind.
-#[derive(Clone, Copy)]
+#[derive(Clone, Copy, Default)]
 pub(crate) struct Tally {
     pub(crate) leases: u32,
     pub(crate) done: u32,
@@ -25,24 +25,6 @@ pub(crate) fn count(number: &mut u32) {
 }
 
 impl Tally {
-    /// Nothing is counted.
-    pub(crate) fn new() -> Tally {
-        Tally {
-            leases: 0,
-            done: 0,
-            spent: 0,
-            without_leaf: 0,
-            staged: 0,
-            forgotten: 0,
-            stale: 0,
-            released: 0,
-            roots: 0,
-            records: 0,
-            nodes: 0,
-            settled: 0,
-        }
-    }
-
     /// Adds what came of one more list.
     pub(crate) fn add(&mut self, other: &Tally) {
         self.leases = self.leases.saturating_add(other.leases);

@@ -94,7 +94,7 @@ pub(crate) fn settle(
     three: &Table,
 ) -> Result<Tally> {
     let mut dice = Dice::new(forests.seed);
-    let mut tally = Tally::new();
+    let mut tally = Tally::default();
     for _ in 0..forests.count {
         let mut tree = CertifiedTree::new(alloc, table)?;
         plant(alloc, forests, table, &mut dice, &mut tree)?;

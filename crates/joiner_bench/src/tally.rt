@@ -5,7 +5,7 @@ use endgame_table::Table;
 use strategy_certificate::{Answer, Certificate, Claim, Part};
 
 /// How many roots were settled with what value, and how large the certificates are.
-#[derive(Clone, Copy)]
+#[derive(Clone, Copy, Default)]
 pub(crate) struct Tally {
     pub(crate) nodes: usize,
     pub(crate) roots: u32,
@@ -38,20 +38,6 @@ fn claim_of(p: &Position, answer: Answer) -> Claim {
 }
 
 impl Tally {
-    /// Nothing is counted.
-    pub(crate) fn new() -> Tally {
-        Tally {
-            nodes: 0,
-            roots: 0,
-            black_wins: 0,
-            white_wins: 0,
-            draws: 0,
-            entries: 0,
-            compared: 0,
-            unlike: 0,
-        }
-    }
-
     /// Counts a value.
     fn add_claim(&mut self, claim: Claim) {
         let count = match claim {
