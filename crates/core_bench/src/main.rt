@@ -14,6 +14,7 @@
 #![tactic(auto)]
 
 ghost use Rattle.std.specs.Prelude.{◌≤◌};
+ghost use Rattle.bench_core.specs.declared.settings.TheConstants.{MOST_WORK, MOST_LEASE};
 
 mod followed;
 mod leasing;
@@ -72,9 +73,9 @@ const LISTS: u64 = 500;
 /// Plays the lists of a plan, and prints what came of them.
 fn tell(rt: &(impl Print + Alloc<A = Global>), plan: &Plan, table: &Table) -> Result<()>
     requires depth { plan.now.depth ≤ 12 }
-    requires budget { plan.now.budget ≤ 1000000 }
+    requires budget { plan.now.budget ≤ MOST_WORK }
     requires first { 1 ≤ plan.now.lasts }
-    requires last { plan.now.lasts ≤ 1000000000 }
+    requires last { plan.now.lasts ≤ MOST_LEASE }
 {
     let mut total = Tally::default();
     for list in 0..LISTS {

@@ -1,5 +1,6 @@
 //! Events in an order that looks random, each answered by a bench and by a plain list.
 ghost use Rattle.std.specs.Prelude.{◌≤◌};
+ghost use Rattle.bench_core.specs.declared.settings.TheConstants.{MOST_WORK, MOST_LEASE};
 
 use crate::plain::Plain;
 use crate::tabled::TabledBench;
@@ -218,9 +219,9 @@ pub(crate) fn count_settled(alloc: Global, bench: &TabledBench<'_>) -> Result<u3
 /// A bench, and what it is compared with, before the first event.
 fn begin_match<'a>(alloc: Global, plan: &Plan, table: &'a Table) -> Result<Match<'a>, AllocError>
     requires depth { plan.now.depth ≤ 12 }
-    requires budget { plan.now.budget ≤ 1000000 }
+    requires budget { plan.now.budget ≤ MOST_WORK }
     requires first { 1 ≤ plan.now.lasts }
-    requires last { plan.now.lasts ≤ 1000000000 }
+    requires last { plan.now.lasts ≤ MOST_LEASE }
 {
     let Plan {
         seed,
@@ -245,9 +246,9 @@ fn read_back<'a>(
     texts: &[Vec<u8>],
 ) -> Result<TabledBench<'a>>
     requires depth { plan.now.depth ≤ 12 }
-    requires budget { plan.now.budget ≤ 1000000 }
+    requires budget { plan.now.budget ≤ MOST_WORK }
     requires first { 1 ≤ plan.now.lasts }
-    requires last { plan.now.lasts ≤ 1000000000 }
+    requires last { plan.now.lasts ≤ MOST_LEASE }
 {
     let mut bench = TabledBench::new(alloc, table, plan.depth, plan.budget, plan.lasts)?;
     bench.replay_all(alloc, texts)?;
@@ -278,9 +279,9 @@ fn happen_all(alloc: Global, events: u32, played: &mut Match<'_>) -> Result<()> 
 /// The events of a plan happen; the records that came of them are read back, and it is counted.
 fn play_on(alloc: Global, plan: &Plan, table: &Table, played: &mut Match<'_>) -> Result<Tally>
     requires depth { plan.now.depth ≤ 12 }
-    requires budget { plan.now.budget ≤ 1000000 }
+    requires budget { plan.now.budget ≤ MOST_WORK }
     requires first { 1 ≤ plan.now.lasts }
-    requires last { plan.now.lasts ≤ 1000000000 }
+    requires last { plan.now.lasts ≤ MOST_LEASE }
 {
     happen_all(alloc, plan.events, played)?;
     let again = read_back(alloc, plan, table, played.plain.applied())?;
@@ -290,9 +291,9 @@ fn play_on(alloc: Global, plan: &Plan, table: &Table, played: &mut Match<'_>) ->
 /// Plays a list of events, reads the records back that came of it, and counts.
 pub(crate) fn play(alloc: Global, plan: &Plan, table: &Table) -> Result<Tally>
     requires depth { plan.now.depth ≤ 12 }
-    requires budget { plan.now.budget ≤ 1000000 }
+    requires budget { plan.now.budget ≤ MOST_WORK }
     requires first { 1 ≤ plan.now.lasts }
-    requires last { plan.now.lasts ≤ 1000000000 }
+    requires last { plan.now.lasts ≤ MOST_LEASE }
 {
     let mut played = begin_match(alloc, plan, table)?;
     play_on(alloc, plan, table, &mut played)

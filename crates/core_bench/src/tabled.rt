@@ -39,6 +39,7 @@ impl<'a> Model for TabledBench<'a> {
 impl<'a> TabledBench<'a> {
     ghost use Rattle.std.specs.Prelude.{◌≡◌, ◌≤◌, [], IfOk, OnOk};
     ghost use Rattle.core_bench.specs.Fresh.{IsFresh};
+    ghost use Rattle.bench_core.specs.declared.settings.TheConstants.{MOST_WORK, MOST_LEASE};
 
     /// A bench without roots. A lease lasts for `lasts` leases given.
     pub(crate) fn new(
@@ -49,9 +50,9 @@ impl<'a> TabledBench<'a> {
         lasts: u32,
     ) -> Result<TabledBench<'a>, AllocError>
         requires depth { depth ≤ 12 }
-        requires budget { budget ≤ 1000000 }
+        requires budget { budget ≤ MOST_WORK }
         requires first { 1 ≤ lasts }
-        requires last { lasts ≤ 1000000000 }
+        requires last { lasts ≤ MOST_LEASE }
         ensures { IfOk result IsFresh }
     {
         let settings = Settings {

@@ -1,5 +1,6 @@
 //! How long a lease takes, and a pick among the same leaves.
 ghost use Rattle.std.specs.Prelude.{◌≤◌};
+ghost use Rattle.bench_core.specs.declared.settings.TheConstants.{MOST_LEASE};
 
 use crate::followed::Followed;
 use crate::leasing::{BUDGET, WORKERS, give, grow, release_earlier};
@@ -232,7 +233,7 @@ fn time_habit(
     habit: &Habit,
 ) -> Result<()>
     requires first { 1 ≤ habit.now.lasts }
-    requires last { habit.now.lasts ≤ 1000000000 }
+    requires last { habit.now.lasts ≤ MOST_LEASE }
 {
     let mut bench = TabledBench::new(rt.alloc(), table, 0, BUDGET, habit.lasts)?;
     time_bench(rt, &mut bench, habit)

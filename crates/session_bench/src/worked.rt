@@ -1,5 +1,6 @@
 //! A session worked out by hand. Its depth is 1 and its budget 5.
 ghost use Rattle.std.specs.Prelude.{◌≡◌, ◌≤◌};
+ghost use Rattle.bench_core.specs.declared.settings.TheConstants.{MOST_LEASE};
 
 use crate::searching::outcome_of;
 use crate::working::position_of;
@@ -121,7 +122,7 @@ pub(crate) fn goes_as_worked<D: Disk + Drop>(
     table: &Table,
 ) -> Result<bool>
     requires first { 1 ≤ lease }
-    requires last { lease ≤ 1000000000 }
+    requires last { lease ≤ MOST_LEASE }
 {
     let root = position_of(ROOT)?;
     match Session::attach(alloc, disk, settings_of(table.pieces(), lease), table) {

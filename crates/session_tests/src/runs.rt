@@ -3,6 +3,7 @@
 //! Each function here is proved too, and dearly while it holds a disk: so a run answers plain values beside its disk, and the
 //! tests compare those.
 ghost use Rattle.std.specs.Prelude.{◌≡◌, ◌≤◌};
+ghost use Rattle.bench_core.specs.declared.settings.TheConstants.{MOST_WORK};
 
 use bench_core::Settings;
 use bench_disk::MemoryDisk;
@@ -36,7 +37,7 @@ fn run_on<R: Threads + Wait + Sync>(
     text: &str,
 ) -> (MemoryDisk, Told)
     requires pieces { table.now.pieces ≡ 2 }
-    requires budget { budget ≤ 1000000 }
+    requires budget { budget ≤ MOST_WORK }
 {
     let settings = Settings {
         pieces: 2,
