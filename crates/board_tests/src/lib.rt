@@ -1,5 +1,5 @@
-//! Tests of the public calls of the board, its rules, its two generators, indices, numbers and leases, one file for
-//! each crate.
+//! Tests of the public calls of the board, its rules, its two generators, indices, numbers and leases. Both generators
+//! resolve the same written moves; else there is a file for each crate.
 #![tactic(auto)]
 
 #[cfg(test)]
@@ -8,8 +8,6 @@ mod generated;
 mod indices;
 #[cfg(test)]
 mod leases;
-#[cfg(test)]
-mod masks;
 #[cfg(test)]
 mod numbers;
 #[cfg(test)]

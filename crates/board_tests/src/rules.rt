@@ -165,7 +165,7 @@ fn a_blocked_man_has_no_move(rt: HostRuntime) {
 
 /// What a written move comes to: the move that is meant, two that may be meant, or none.
 #[derive(Clone, Copy)]
-pub(crate) enum Due {
+enum Due {
     Meant(Path),
     Either(Path, Path),
     Illegal,
@@ -173,9 +173,9 @@ pub(crate) enum Due {
 
 /// Black's masks and White's, a written move's first square, one between if it is named, and its last,
 /// and what it comes to.
-pub(crate) type Written = (Masks, u8, Option<u8>, u8, Due);
+type Written = (Masks, u8, Option<u8>, u8, Due);
 
-pub(crate) const WRITTEN: [Written; 4] = [
+const WRITTEN: [Written; 4] = [
     // Both ways round lead to one position, so the first is meant.
     (KING_ROUND, 2, None, 2, Due::Meant(&[2, 9, 18, 11, 2])),
     // A man goes one way or the other, and the men that are left differ.
@@ -194,16 +194,16 @@ pub(crate) const WRITTEN: [Written; 4] = [
 /// A written move of a position in which Black is to move: the square between stands first in
 /// `middle` where one is named.
 #[derive(Clone, Copy)]
-pub(crate) struct Asked {
-    pub(crate) position: Position,
-    pub(crate) from: Square,
-    pub(crate) middle: [Square; 1],
-    pub(crate) named: usize,
-    pub(crate) to: Square,
+struct Asked {
+    position: Position,
+    from: Square,
+    middle: [Square; 1],
+    named: usize,
+    to: Square,
 }
 
 /// The written move.
-pub(crate) fn written_out(case: &Written) -> Option<Asked> {
+fn written_out(case: &Written) -> Option<Asked> {
     Some(Asked {
         position: Position::of_masks(case.0, Side::Black)?,
         from: Square::new(case.1)?,
@@ -214,7 +214,7 @@ pub(crate) fn written_out(case: &Written) -> Option<Asked> {
 }
 
 /// Whether a written move comes to what is due.
-pub(crate) fn meets(found: &Result<Move, ResolveRefusal>, due: &Due) -> bool {
+fn meets(found: &Result<Move, ResolveRefusal>, due: &Due) -> bool {
     match (found, due) {
         (Ok(m), Due::Meant(path)) => is_path(m, path),
         (Err(ResolveRefusal::Ambiguous(a, b)), Due::Either(one, other)) => {
@@ -225,17 +225,24 @@ pub(crate) fn meets(found: &Result<Move, ResolveRefusal>, due: &Due) -> bool {
     }
 }
 
-/// Whether the written move comes to what is due.
-fn is_resolved(alloc: Global, case: &Written) -> Option<bool> {
+/// Whether the written move comes to what is due, by the rules and on masks.
+fn is_resolved(alloc: Global, case: &Written) -> Option<[bool; 2]> {
     let asked = written_out(case)?;
+    let Asked {
+        position,
+        from,
+        to,
+        ..
+    } = asked;
     let middle = asked.middle.get(..asked.named).unwrap_or(&[]);
-    let found = resolve(alloc, &asked.position, asked.from, middle, asked.to);
-    Some(meets(&found, &case.4))
+    let by_rules = resolve(alloc, &position, from, middle, to);
+    let on_masks = swift_moves::resolve(alloc, &position, from, middle, to);
+    Some([meets(&by_rules, &case.4), meets(&on_masks, &case.4)])
 }
 
 #[test]
 fn resolves_written_moves(rt: HostRuntime) {
     for case in &WRITTEN {
-        assert_eq!(rt; is_resolved(rt.alloc(), case), Some(true));
+        assert_eq!(rt; is_resolved(rt.alloc(), case), Some([true, true]));
     }
 }
