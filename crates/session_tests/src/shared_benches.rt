@@ -1,19 +1,19 @@
 //! Threads at a shared bench with the roots W:W16,23:B12 and W:W16,24:B12.
 ghost use Rattle.std.specs.Prelude.{IfOk};
 ghost use Rattle.turn_lock.specs.Seen.{IsOutside};
+ghost use Rattle.tree_manager.specs.Turns.{GrowsByTurns};
 
 use crate::sessions::{session_with, two_against_one};
 use bench_core::LeaseRefusal;
 use bench_disk::MemoryDisk;
 use draughts_board::{Cell, PlaceRefusal, Position, Side};
-use lease_table::{LeaseId, Stale};
+use lease_table::{Lease, LeaseId, Stale};
 use std::alloc::{AllocError, Global};
 use std::sync::Wait;
 use std::test::*;
 use std::thread;
 use std::thread::Threads;
 use tree_manager::{BenchPass, RootCounts, Session, SharedBench};
-use turn_lock::Kept;
 
 /// The number of a lease and its node, or why there is none.
 type Answer = Result<(u128, u64), LeaseRefusal>;
@@ -65,7 +65,7 @@ fn shared_on(
 
 /// How many entries the line of a session has.
 fn entries(session: &Session<MemoryDisk>) -> u64 {
-    session.count()
+    session.len()
 }
 
 /// Ends the sharing: how many entries the line has, by the session and by the lock.
@@ -174,6 +174,45 @@ fn two_threads_lease_a_root_each(rt: HostRuntime) -> Result<(), Fail> {
     let none: Answer = Err(LeaseRefusal::NoLeaf { live: 2 });
     // an Attached, two Puts and their Acked, and two leases
     assert_eq!(rt; (nodes(both), third, counts), (Ok((0, 1)), none, (6, 6)));
+    Ok(())
+}
+
+/// What is answered to a worker who asks twice in a turn.
+#[tactic(auto, using(tree_manager::proofs::TurnLemmas::grows_then))]
+fn ask_twice(session: &mut Session<MemoryDisk>, worker: u32) -> (Answer, Answer)
+    ensures { GrowsByTurns session.old.line session.new.line }
+{
+    let one = session.lease(worker);
+    let two = session.lease(worker);
+    let told = |answer: Result<Lease, LeaseRefusal>| -> Answer {
+        let lease = answer?;
+        Ok((lease.id.number(), lease.node))
+    };
+    (told(one), told(two))
+}
+
+/// The leases of one turn, the answer to another worker behind it, and how many entries the line has at the end, by the
+/// session and by the lock.
+fn two_in_one_turn<R: Wait>(
+    rt: &R,
+    alloc: Global,
+    roots: &[Position],
+) -> Result<((Answer, Answer), Answer, (u64, u64)), Fail> {
+    let (shared, mut pass) = shared_on(alloc, roots)?;
+    let mut turn = shared.enter(rt, &mut pass);
+    let both = ask_twice(&mut turn.session, 1);
+    shared.leave(&mut pass, turn);
+    let third = ask(rt, &shared, &mut pass, 2);
+    Ok((both, third, count_at_end(rt, shared, pass)))
+}
+
+#[test]
+fn one_turn_leases_two_roots(rt: HostRuntime) -> Result<(), Fail> {
+    let roots = [two_against_one(false)?, two_against_one(true)?];
+    let none: Answer = Err(LeaseRefusal::NoLeaf { live: 2 });
+    // an Attached, two Puts and their Acked, and two leases
+    let due = ((Ok((1, 0)), Ok((2, 1))), none, (6, 6));
+    assert_eq!(rt; two_in_one_turn(&rt, rt.alloc(), &roots)?, due);
     Ok(())
 }
 

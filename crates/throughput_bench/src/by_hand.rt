@@ -1,21 +1,23 @@
-//! One worker, whose calls are timed one by one.
+//! One worker, whose steps are timed one by one.
 ghost use Rattle.std.specs.Prelude.{◌≡◌, IfOk};
 ghost use Rattle.turn_lock.specs.Seen.{IsOutside};
 ghost use Rattle.bench_core.specs.Cores.{IsOutcomeOf};
+ghost use Rattle.tree_manager.specs.Turns.{GrowsByTurns};
 
+use crate::alone::outcome_of;
 use crate::roots::{End, PIECES};
 use crate::together::{end_of, share};
 use anyhow::{Result, bail};
-use bench_core::LeaseRefusal;
+use bench_core::{LeaseRefusal, LeaseResult};
 use bench_disk::Disk;
 use certificate_checker::Outcome;
 use endgame_table::Table;
-use leaf_search::{MOST_DEPTH, Memo, is_undecided, search};
+use leaf_search::Memo;
 use lease_table::Lease;
 use std::alloc::Global;
 use std::sync::Wait;
 use std::time::Instant;
-use tree_manager::{BenchPass, SharedBench};
+use tree_manager::{BenchPass, Session, SharedBench};
 
 /// The number of the worker.
 const WORKER: u32 = 1;
@@ -26,24 +28,22 @@ const MOST_ASKED: u32 = 10_000;
 /// How many positions it remembers in which looking ahead shows no win.
 const REMEMBERED: usize = 65_536;
 
-/// How many nanoseconds the calls took by the clock.
+/// How many nanoseconds its work took by the clock.
 #[derive(Clone, Copy, PartialEq, Eq, Debug, Default)]
 pub(crate) struct Spent {
     pub(crate) search: u128,
-    pub(crate) stage: u128,
-    /// What committing and leasing the next leaf took, which is one turn.
-    pub(crate) commit: u128,
+    /// Encoding what was found, before the turn.
+    pub(crate) encoding: u128,
+    /// The turns, in which it stages and commits what it found and leases the next leaf.
+    pub(crate) turns: u128,
 }
 
 impl Spent {
-    /// How many of them the worker had the turn, or encoded a record before its turn, as `stage` does.
-    pub(crate) fn in_turns(&self) -> u128 {
-        self.stage.saturating_add(self.commit)
-    }
-
     /// How many there were.
     pub(crate) fn in_all(&self) -> u128 {
-        self.in_turns().saturating_add(self.search)
+        self.search
+            .saturating_add(self.encoding)
+            .saturating_add(self.turns)
     }
 }
 
@@ -73,24 +73,30 @@ fn search_leased(
 ) -> Result<Outcome>
     ensures { IfOk result (IsOutcomeOf lease.now) }
 {
-    let Lease {
-        position,
-        goal,
-        depth,
-        pieces,
-        ..
-    } = *lease;
-    let is_of_table = pieces == table.pieces() && memo.pieces() == pieces;
-    if !is_of_table || depth > MOST_DEPTH || !is_undecided(&position, table) {
-        bail!("the lease is of no search");
-    }
     let start = Instant::now(rt)?;
-    let outcome = search(rt.alloc(), &position, goal, depth, table, memo)?;
+    let outcome = outcome_of(rt.alloc(), lease, table, memo);
     spent.search = spent.search.saturating_add(start.elapsed(rt)?.as_nanos());
-    Ok(outcome)
+    match outcome {
+        Some(outcome) => Ok(outcome),
+        None => bail!("the lease is of no search, or memory ran out"),
+    }
 }
 
-/// Stages what was found, commits it, and leases the next leaf.
+/// Stages in a turn what was found, commits it, and asks for the next leaf.
+#[tactic(auto, using(tree_manager::proofs::TurnLemmas::grows_then))]
+fn settle<D: Disk>(
+    shared: &SharedBench<D>,
+    session: &mut Session<D>,
+    found: LeaseResult,
+) -> Result<Option<Lease>>
+    ensures { GrowsByTurns session.old.line session.new.line }
+{
+    session.stage_numbered(found)?;
+    shared.commit_in_turn(session)?;
+    next_of(session.lease(WORKER))
+}
+
+/// Encodes what was found, and hands it in, in one turn, for the next lease.
 fn hand_in<R: Wait, D: Disk>(
     waiting: &R,
     rt: &HostRuntime,
@@ -105,13 +111,16 @@ fn hand_in<R: Wait, D: Disk>(
     ensures { IsOutside shared.now pass.new }
 {
     let start = Instant::now(rt)?;
-    let staged = shared.stage(waiting, pass, lease, outcome);
-    spent.stage = spent.stage.saturating_add(start.elapsed(rt)?.as_nanos());
-    let number = staged?;
+    let found = LeaseResult::new(rt.alloc(), lease, outcome)?;
+    let encoding = start.elapsed(rt)?.as_nanos();
     let start = Instant::now(rt)?;
-    let committed = shared.commit_and_lease(waiting, pass, number, WORKER);
-    spent.commit = spent.commit.saturating_add(start.elapsed(rt)?.as_nanos());
-    next_of(committed?)
+    let mut turn = shared.enter(waiting, pass);
+    let next = settle(shared, &mut turn.session, found);
+    shared.leave(pass, turn);
+    let turns = start.elapsed(rt)?.as_nanos();
+    spent.encoding = spent.encoding.saturating_add(encoding);
+    spent.turns = spent.turns.saturating_add(turns);
+    next
 }
 
 /// Leases, searches, stages and commits until all roots are settled.

@@ -6,19 +6,20 @@
 //! there are.
 //!
 //! With the words `time PATH` there are 2,000 roots in memory and 400 on a file at that path. It prints the work records a
-//! second of one worker and of four, without the beginning of the roots, and for how much of one worker's time it has the
-//! turn, or encodes a record before its turn.
+//! second of one worker and of four, without the beginning of the roots, for how much of its time one worker has the turn,
+//! and how many searches a second one thread and four make alone, with no turns.
 #![tactic(auto)]
 
 ghost use Rattle.std.specs.Prelude.{◌≡◌};
 
+mod alone;
 mod by_hand;
 mod measure;
 mod places;
 mod roots;
 mod together;
 
-use crate::measure::time;
+use crate::measure::{time, time_alone};
 use crate::places::{Place, run_by_hand, run_together};
 use crate::roots::{End, PIECES};
 use anyhow::Result;
@@ -84,6 +85,7 @@ fn time_at<R: Threads + Wait + Sync>(
 {
     let many = capture_positions(rt.alloc(), SEED, IN_MEMORY)?;
     time(threads, rt, Place::Memory, many.as_slice(), table)?;
+    time_alone(threads, rt, many.as_slice(), table)?;
     let some = capture_positions(rt.alloc(), SEED, ON_FILE)?;
     time(threads, rt, Place::File(path), some.as_slice(), table)?;
     let _ = fs::remove_file(rt, path);

@@ -1,7 +1,7 @@
-//! How many work records a second, and for how much of its time a worker has the turn, or encodes a
-//! record before its turn.
+//! How many work records a second, and for how much of its time a worker has the turn.
 ghost use Rattle.std.specs.Prelude.{◌≡◌};
 
+use crate::alone::search_alone;
 use crate::by_hand::Spent;
 use crate::places::{Place, run_by_hand, run_together};
 use crate::roots::PIECES;
@@ -43,14 +43,20 @@ fn print_rates(rt: &impl Print, place: Place, one: &Together, four: &Together) -
     Ok(())
 }
 
-/// Prints for how much of its time a worker has the turn or encodes a record.
+/// Prints for how much of its time a worker has the turn, and where the rest goes.
 fn print_turns(rt: &impl Print, place: Place, work: u64, spent: &Spent) -> Result<()> {
     let name = place.name();
-    let percent = spent.in_turns().saturating_mul(100) / spent.in_all().max(1);
+    let percent = spent.turns.saturating_mul(100) / spent.in_all().max(1);
     let work = u128::from(work.max(1));
-    let (search, stage, commit) = (spent.search / work, spent.stage / work, spent.commit / work);
-    print!(rt; "{name}: in turns and encoding {percent} % of a worker's time, for a record ")?;
-    println!(rt; "search {search} ns, stage {stage} ns, commit and next lease {commit} ns")?;
+    let (search, encoding, turns) = (
+        spent.search / work,
+        spent.encoding / work,
+        spent.turns / work,
+    );
+    print!(rt;
+        "{name}: in turns {percent} % of a worker's time, for a record search {search} ns, "
+    )?;
+    println!(rt; "encoding {encoding} ns, turn {turns} ns")?;
     Ok(())
 }
 
@@ -82,7 +88,7 @@ fn time_workers<R: Threads + Wait + Sync>(
     }
 }
 
-/// Times the calls of one worker at a place, and prints the best of its runs.
+/// Times the steps of one worker at a place, and prints the best of its runs.
 fn time_turns<R: Wait>(
     waiting: &R,
     rt: &HostRuntime,
@@ -100,6 +106,34 @@ fn time_turns<R: Wait>(
         }
     }
     print_turns(rt, place, best.end.work, &best.spent)
+}
+
+/// Times what workers do between their turns, in one thread and in four, and prints the best of the runs.
+pub(crate) fn time_alone<R: Threads + Sync>(
+    threads: &R,
+    rt: &HostRuntime,
+    positions: &[Position],
+    table: &Table,
+) -> Result<()> {
+    let (mut slow, mut fast) = (u128::MAX, u128::MAX);
+    for _ in 0..RUNS {
+        slow = slow.min(search_alone(threads, rt, positions, table, 1)?);
+        fast = fast.min(search_alone(threads, rt, positions, table, 4)?);
+    }
+    let (whole, rest) = (
+        slow / fast.max(1),
+        slow.saturating_mul(100) / fast.max(1) % 100,
+    );
+    let each = |spent: u128| -> u128 { spent / (positions.len() as u128).max(1) };
+    print!(rt;
+        "no turns, searches and encoding alone: 1 thread {} ns, ",
+        each(slow)
+    )?;
+    println!(rt;
+        "4 threads {} ns a position, ratio {whole}.{rest:02}",
+        each(fast)
+    )?;
+    Ok(())
 }
 
 /// Takes the time of workers at a place: of one and of four, and of one by hand.

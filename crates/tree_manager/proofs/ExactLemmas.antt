@@ -1,5 +1,5 @@
 -- A file reads as one list of records, and one payload of it alone is the first that is not lawful.
-use Rattle.std.proofs.Common.{◌≡◌, ◌≤◌, ℕ, suc, List, [], ◌∷◌, ◌++◌, length, refl, ap, sym, ◌∙◌, subst, inl, inr, ⊎_elim, append-nil, append_assoc}
+use Rattle.std.proofs.Common.{◌≡◌, ℕ, suc, List, [], ◌∷◌, ◌++◌, length, refl, ap, sym, ◌∙◌, subst, ⊎_elim, append-nil, append_assoc}
 use Rattle.std.specs.Prelude.{◌⊎◌, Bool, true, false}
 use Rattle.std.specs.Bool.{OnFalse}
 use Rattle.std.proofs.lemmas.Bool.{true≢false}

@@ -1,6 +1,6 @@
 -- The numbers of the leases that live rise, up to the count of those given; so ending the first that waits, and again, ends them in rising order.
 use Rattle.std.proofs.Common.{◌≡◌, ◌≤◌, ◌<◌, ◌+◌, ℕ, List, [], ◌∷◌, ◌++◌, map, refl, ap, sym, ◌∙◌, subst, ⊎_elim, arith, append_assoc}
-use Rattle.std.specs.Prelude.{Bool, true, false, cond, not, filter, find, Contains, Option, Some, None, Result, Ok, Err, OnOk, IfErr, IfSome}
+use Rattle.std.specs.Prelude.{Bool, true, false, cond, not, filter, Contains, Option, Some, None, Result, Ok, Err, OnOk, IfErr, IfSome}
 use Rattle.std.specs.List.{AllByRecursion as Each}
 use Rattle.std.specs.Option.{option_map}
 use Rattle.std.proofs.lemmas.List.{append-nil, map_push}

@@ -49,10 +49,9 @@ recorded_more (e ∷ line) added = omega (arith, recorded_more line added, lengt
 pub recorded_grows : (old new : List Entry) → GrowsByTurns old new → length (recorded old) ≤ length (recorded new)
 recorded_grows old new grows = subst (λ line. length (recorded old) ≤ length (recorded line)) grows.whole (recorded_more old grows.added)
 
--- a record that a pass has seen is one of the line that it finds
-pub found_recorded : (n : ℕ) (old entered found : List Entry) → n ≤ length (recorded old) → GrowsByTurns old entered → entered ≡ found → n ≤ length (recorded found)
-found_recorded n old entered found few grows whole =
-    subst (λ line. n ≤ length (recorded line)) whole (omega (arith, few, recorded_grows old entered grows))
+-- so a number of its records is one, later too
+pub number_stays : (n : ℕ) (old new : List Entry) → n ≤ length (recorded old) → GrowsByTurns old new → n ≤ length (recorded new)
+number_stays n old new few grows = omega (arith, few, recorded_grows old new grows)
 
 -- where nothing is staged, each is applied
 pub all_applied : (n : ℕ) (old new : List Entry) → n ≤ length (recorded old) → GrowsByTurns old new → unapplied_in new ≡ [] → n ≤ length (applied_in new)

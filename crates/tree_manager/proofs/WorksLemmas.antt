@@ -1,5 +1,5 @@
 -- A session that works goes on.
-use Rattle.std.proofs.Common.{◌≡◌, ◌≤◌, ◌+◌, ℕ, List, [], ◌∷◌, refl, ap, sym, ◌∙◌, subst, inl, inr, ⊎_elim, arith}
+use Rattle.std.proofs.Common.{◌≡◌, ℕ, List, [], ◌∷◌, refl, ap, sym, ◌∙◌, subst, inl, inr, ⊎_elim}
 use Rattle.std.specs.Prelude.{◌⊎◌, false, Result, Ok, Err, OnOk, IfOk}
 use Rattle.bench_disk.specs.Disk.{GoesOn}
 use Rattle.disk_journal.specs.declared.journal.Receipt.{Receipt}

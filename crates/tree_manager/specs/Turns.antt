@@ -1,7 +1,8 @@
 -- What one turn of a shared session does, said of the line that it found and of the line that it
 -- left, which is the front of its pass.
-use Rattle.std.specs.Prelude.{◌≡◌, ◌≢◌, ◌⊎◌, ℕ, false, List, [], ◌∷◌, ◌++◌, Contains, length, count_by, is_some, Option, None, Some, Result, Ok, Err}
+use Rattle.std.specs.Prelude.{◌≡◌, ◌≢◌, ◌⊎◌, ℕ, false, List, [], ◌∷◌, ◌++◌, true, Contains, length, count_by, is_some, Result, Ok, Err}
 use Rattle.turn_lock.specs.Growth.{GrowsTo}
+use Rattle.turn_lock.specs.Seen.{LockId, SeenPass}
 use Rattle.draughts_board.specs.Draughts.{draughts}
 use Rattle.draughts_board.specs.Game.{is_at_sight}
 use Rattle.proof_tree.specs.Forest.{Forest, nodes, value_of}
@@ -30,6 +31,12 @@ use Rattle.tree_manager.specs.Sessions.{MayAddInTurn}
 -- the new line is the old one and then entries that turns may add
 abbrev pub GrowsByTurns : List Entry → List Entry → Type 0
 GrowsByTurns = GrowsTo MayAddInTurn
+
+-- The pass has the turn at this lock, and its front has so many entries.
+pub record HasTurn (lock : LockId) (pass : SeenPass Entry) (entered : ℕ) : Type 0 where
+  pub lock_is : pass.lock ≡ lock
+  pub turn : pass.turn ≡ true
+  pub entries : entered ≡ length pass.front
 
 -- The turn found a line that goes on from the front before. It did this to it, and left the front
 -- after, which goes on from what was found.
@@ -128,29 +135,6 @@ module _ (found new : List Entry) where
   Commits (Err commit.Failed) = (new ≡ found) × EndsBroken new
   Commits (Err commit.Disk) = ((faults : ℕ) × AddsEntry (Broken faults)) × EndsBroken new
 
-  -- nothing where another pass has committed, and else what `commit` does
-  abbrev pub CommitsUnlessDone : Result (Option Receipt) CommitRefusal → Type 0
-  CommitsUnlessDone (Ok None) = new ≡ found
-  CommitsUnlessDone (Ok (Some receipt)) = AllAcknowledged receipt
-  CommitsUnlessDone (Err refusal) = Commits (Err refusal)
-
   -- `count_roots`
   abbrev pub Counts : RootCounts → Type 0
   Counts counts = (new ≡ found) × InStateOf new (λ s. AreRootCounts counts s.forest)
-
--- ---- two calls in one turn
-
--- What was staged is committed, unless another pass has done it, and a leaf of what this leaves is
--- leased, or refused.
-pub record CommitsThenLeases (found new : List Entry) (worker : ℕ)
-    (next : Result Lease LeaseRefusal) : Type 0 where
-  pub committed : List Entry
-  pub receipt : Option Receipt
-  pub commits : CommitsUnlessDone found committed (Ok receipt)
-  pub leases : Leases committed new worker next
-
--- `commit_and_lease`
-abbrev pub CommitsAndLeases : List Entry → List Entry → ℕ
-    → Result (Result Lease LeaseRefusal) CommitRefusal → Type 0
-CommitsAndLeases found new worker (Ok next) = CommitsThenLeases found new worker next
-CommitsAndLeases found new worker (Err refusal) = Commits found new (Err refusal)

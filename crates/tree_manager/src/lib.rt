@@ -8,6 +8,7 @@
 
 mod counting;
 mod entries;
+mod held;
 mod joined;
 pub mod laws;
 mod marks;
@@ -19,7 +20,8 @@ mod shared;
 
 pub use counting::RootCounts;
 pub use entries::{Attachment, Entry};
+pub use held::HeldSession;
 pub use refusals::{BeginRefusal, CommitRefusal, StageRefusal};
 pub use replaying::replay_payloads;
 pub use session::Session;
-pub use shared::{BenchPass, SharedBench};
+pub use shared::{BenchPass, SharedBench, Turn};

@@ -3,7 +3,6 @@ ghost use Rattle.std.specs.Prelude.{◌≡◌, ◌≢◌, ◌⊎◌, ◌+◌, �
 ghost use Rattle.bench_disk.specs.Disk.{GoesOn, IsHonest};
 ghost use Rattle.shared_words.specs.Counts.{Rose};
 
-use crate::entries::Entry;
 use crate::joined::JoinedBench;
 use crate::refusals::{BeginRefusal, CommitRefusal, StageRefusal};
 use bench_core::{Bench, LeaseRefusal, LeaseResult, Settings};
@@ -15,7 +14,6 @@ use lease_table::{Lease, LeaseId, Stale};
 use std::alloc::Global;
 use std::marker::Model;
 use strategy_certificate::Oracle;
-use turn_lock::Kept;
 
 /// A bench, and a journal whose payloads are the bench's records.
 ///
@@ -43,20 +41,6 @@ impl<D: Disk> Model for Session<D> {
     ghost invariant = { λ s. is_failed s.joined.line ≡ false → begun s.joined.core.staged ≡ [] };
 }
 
-impl<D: Disk> Kept for Session<D> {
-    ghost use Rattle.tree_manager.specs.Sessions.{MayAddInTurn};
-
-    type Entry = Entry;
-
-    ghost entries = { λ s. s.line };
-
-    ghost may_add = { MayAddInTurn };
-
-    fn count(&self) -> u64 {
-        self.joined.len()
-    }
-}
-
 impl<D: Disk> Session<D> {
     ghost use Rattle.proof_tree.specs.declared.tree.TheConstants.{MOST_ROOTS};
     ghost use Rattle.bench_core.specs.declared.settings.TheConstants.{MOST_WORK, MOST_LEASE};
@@ -79,7 +63,7 @@ impl<D: Disk> Session<D> {
     ghost use Rattle.tree_manager.specs.Histories.{IsHistory, IsCoreOf};
     ghost use Rattle.tree_manager.specs.Entries.{faults_told};
     ghost use Rattle.tree_manager.specs.Receipts.{KeepsReceipts, acknowledgements};
-    ghost use Rattle.tree_manager.specs.Turns.{GrowsByTurns, Leases, Stages, Releases, Commits};
+    ghost use Rattle.tree_manager.specs.Turns.{GrowsByTurns, Leases, Stages, StagesNumbered, Releases, Commits};
     ghost use Rattle.tree_manager.specs.Replaying.{ExplainsAttach, HasUnlawfulPayload};
     ghost use Rattle.tree_manager.specs.Sessions.{SessionState, Appends, with_roots, IsAttachedTo, EndsLeases, HasBegun, RefusesBegin, RefusesLeaseIn, RefusesStage, RefusesCommit};
 
@@ -253,7 +237,7 @@ impl<D: Disk> Session<D> {
     }
 
     /// Stages a result that is made already, as `stage` does. It copies no certificate and encodes nothing.
-    pub fn stage_result(&mut self, found: LeaseResult) -> Result<(), StageRefusal>
+    pub(crate) fn stage_result(&mut self, found: LeaseResult) -> Result<(), StageRefusal>
         ensures appends { OnOk result
             (Appends self.old (entry.Put (record_of found.lease found.outcome)) self.new) }
         ensures unfailed { OnOk result (is_failed self.old.line ≡ false) }
@@ -267,6 +251,18 @@ impl<D: Disk> Session<D> {
         ensures turn { Stages self.old.line self.new.line found.lease found.outcome result }
     {
         self.joined.stage_result(found)
+    }
+
+    /// Stages a result that is made already, as `stage` does, and answers with the number of its record in the journal, from
+    /// 1. It copies no certificate and encodes nothing.
+    pub fn stage_numbered(&mut self, found: LeaseResult) -> Result<u64, StageRefusal>
+        ensures unchanged { OnErr result (self.new ≡ self.old) }
+        ensures grows { GrowsByTurns self.old.line self.new.line }
+        ensures turn { StagesNumbered self.old.line self.new.line
+            found.lease found.outcome result }
+    {
+        self.stage_result(found)?;
+        Ok(self.recorded())
     }
 
     /// Makes all that is staged durable, and applies it. It takes no memory.
@@ -294,6 +290,13 @@ impl<D: Disk> Session<D> {
             Each (λ ack. ack.moment ≤ receipt.moment) (acknowledgements self.new.line)) }
     {
         self.joined.commit()
+    }
+
+    /// How many entries its line has.
+    pub fn len(&self) -> u64
+        ensures { result ≡ length self.now.line }
+    {
+        self.joined.len()
     }
 
     /// How many records its line has, those that are staged among them.

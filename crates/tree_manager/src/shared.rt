@@ -2,16 +2,19 @@
 //!
 //! A pass's front is the session's line as this pass last saw it. It only grows, so no turn takes back what another pass
 //! has seen. What an answer means stands in `specs/Turns.antt`, and speaks of the front alone.
-ghost use Rattle.std.specs.Prelude.{◌≡◌, ◌≤◌, ◌⊎◌, true, length, OnOk, IfOk, IfErr};
+//!
+//! `lease`, `stage`, `commit`, `release` and `count_roots` are one call of the session in one turn. Whoever has several
+//! calls to make in one turn makes them between `enter` and `leave`.
+ghost use Rattle.std.specs.Prelude.{◌≡◌, ◌≤◌, ◌⊎◌, length, IfOk, IfErr};
 ghost use Rattle.std.specs.List.{AllByRecursion as Each};
 ghost use Rattle.bench_disk.specs.Disk.{IsHonest};
 ghost use Rattle.turn_lock.specs.Seen.{IsOutside};
 ghost use Rattle.bench_core.specs.Cores.{IsOutcomeOf};
-ghost use Rattle.tree_manager.specs.Lines.{recorded, applied_in};
 ghost use Rattle.tree_manager.specs.Receipts.{acknowledgements};
-ghost use Rattle.tree_manager.specs.Turns.{GrowsByTurns, InOneTurn, AsksForSearch, Leases, StagesNumbered, Commits, CommitsUnlessDone, CommitsAndLeases, Releases, Counts};
+ghost use Rattle.tree_manager.specs.Turns.{HasTurn, GrowsByTurns, InOneTurn, AsksForSearch, Leases, StagesNumbered, Commits, Releases, Counts};
 
 use crate::counting::RootCounts;
+use crate::held::HeldSession;
 use crate::refusals::{CommitRefusal, StageRefusal};
 use crate::session::Session;
 use bench_core::{LeaseRefusal, LeaseResult};
@@ -24,7 +27,7 @@ use std::marker::Model;
 use std::sync::Wait;
 use std::sync::atomic::{AtomicBool, AtomicU64, Ordering};
 use std::thread;
-use turn_lock::{Kept, Pass, TurnLock};
+use turn_lock::{Pass, TurnLock};
 
 /// How often a pass that waits for another's commit looks for it at most.
 const MOST_LOOKS: u32 = 256;
@@ -35,7 +38,7 @@ const CALM_LOOKS: u32 = 8;
 /// A session that many threads share. Contracts see which lock it is.
 #[derive(Drop)]
 pub struct SharedBench<D: Disk> {
-    lock: TurnLock<Session<D>>,
+    lock: TurnLock<HeldSession<D>>,
     /// How many commits succeeded.
     commits: AtomicU64,
     /// Passes slept when the last of them ended: it took them long to wait for it.
@@ -54,7 +57,14 @@ impl<D: Disk> Model for SharedBench<D> {
 /// What a thread enters a shared bench with. Contracts see its front, the session's line as this pass last saw it.
 ///
 /// A pass that is dropped outside a call takes nothing with it.
-pub type BenchPass<D> = Pass<Session<D>>;
+pub type BenchPass<D> = Pass<HeldSession<D>>;
+
+/// The session in the hand of the pass that has the turn, for `leave` to take back.
+pub struct Turn<D: Disk> {
+    pub session: Box<Session<D>>,
+    /// How many entries its line had when the turn began.
+    entered: u64,
+}
 
 impl<D: Disk> SharedBench<D> {
     /// A shared bench over the session, and its first pass. Want of memory hands the session back.
@@ -66,7 +76,11 @@ impl<D: Disk> SharedBench<D> {
         ensures front { IfOk result (λ made. made.1.front ≡ session.line) }
         ensures handed_back { IfErr result (λ refused. refused.0 ≡ session) }
     {
-        match TurnLock::new(alloc, session) {
+        let held = match HeldSession::new(alloc, session) {
+            Ok(held) => held,
+            Err(session) => return Err((session, AllocError)),
+        };
+        match TurnLock::new(alloc, held) {
             Ok((lock, pass)) => {
                 let shared = SharedBench {
                     lock,
@@ -76,8 +90,36 @@ impl<D: Disk> SharedBench<D> {
                 };
                 Ok((shared, pass))
             }
-            Err(refused) => Err(refused),
+            Err((held, error)) => Err((held.into_session(), error)),
         }
+    }
+
+    /// Waits until the pass has the turn, and hands it the session, for `leave` to take back.
+    ///
+    /// It never returns where another pass was dropped with the turn.
+    pub fn enter<R: Wait>(&self, rt: &R, pass: &mut BenchPass<D>) -> Turn<D>
+        requires outside { IsOutside self.now pass.old }
+        ensures turn { HasTurn self.now pass.new result.entered }
+        ensures whole { pass.new.front ≡ result.session.value.line }
+        ensures grows { GrowsByTurns pass.old.front pass.new.front }
+    {
+        let HeldSession { session } = self.lock.enter(rt, pass);
+        let entered = session.len();
+        Turn { session, entered }
+    }
+
+    /// Puts the session back, and gives the turn up. The pass's front is then the session's line.
+    pub fn leave(&self, pass: &mut BenchPass<D>, turn: Turn<D>)
+        requires turn { HasTurn self.now pass.old turn.entered }
+        requires grows { GrowsByTurns pass.old.front turn.session.value.line }
+        ensures outside { IsOutside self.now pass.new }
+        ensures front { pass.new.front ≡ turn.session.value.line }
+    {
+        let Turn { session, entered } = turn;
+        let added = session.len() - entered;
+        let held = HeldSession { session };
+        self.lock.note(pass, &held, added);
+        self.lock.leave(pass, held);
     }
 
     /// Leases the next leaf to a worker, in one turn. It waits while another pass has the turn, and refuses as a session does.
@@ -95,10 +137,9 @@ impl<D: Disk> SharedBench<D> {
             (λ found new. Leases found new worker result) }
         ensures settings { IfOk result (AsksForSearch pass.old.front) }
     {
-        let mut session = self.lock.enter(rt, pass);
-        let before = session.count();
-        let answer = session.lease(worker);
-        self.leave(pass, session, before);
+        let mut turn = self.enter(rt, pass);
+        let answer = turn.session.lease(worker);
+        self.leave(pass, turn);
         answer
     }
 
@@ -121,10 +162,9 @@ impl<D: Disk> SharedBench<D> {
             (λ found new. StagesNumbered found new lease.now outcome result) }
     {
         let found = LeaseResult::new(self.alloc, lease, outcome)?;
-        let mut session = self.lock.enter(rt, pass);
-        let before = session.count();
-        let answer = stage_numbered(&mut session, found);
-        self.leave(pass, session, before);
+        let mut turn = self.enter(rt, pass);
+        let answer = turn.session.stage_numbered(found);
+        self.leave(pass, turn);
         answer
     }
 
@@ -139,49 +179,36 @@ impl<D: Disk> SharedBench<D> {
         ensures moment { IsHonest D.TELLS → IfOk result (λ receipt.
             Each (λ ack. ack.moment ≤ receipt.moment) (acknowledgements pass.new.front)) }
     {
-        let mut session = self.lock.enter(rt, pass);
-        let before = session.count();
-        let answer = self.commit_session(&mut session);
-        self.leave(pass, session, before);
+        let mut turn = self.enter(rt, pass);
+        let answer = self.commit_in_turn(&mut turn.session);
+        self.leave(pass, turn);
         answer
     }
 
-    /// Sees to it that the record of this number, which the pass staged, is durable and applied, and then leases the next leaf
-    /// to a worker, all in one turn. It commits as `commit` does, unless a commit of another pass has done it; the inner
-    /// answer is that of `lease`.
-    ///
-    /// Where passes fell asleep over the last commit, it first lets those that wake stage what they have, for a short time, so
-    /// that one commit does for all of them. No clause speaks of this waiting.
-    pub fn commit_and_lease<R: Wait>(
-        &self,
-        rt: &R,
-        pass: &mut BenchPass<D>,
-        number: u64,
-        worker: u32,
-    ) -> Result<Result<Lease, LeaseRefusal>, CommitRefusal>
-        requires outside { IsOutside self.now pass.old }
-        requires number { number ≤ length (recorded pass.old.front) }
-        ensures outside { IsOutside self.now pass.new }
-        ensures grows { GrowsByTurns pass.old.front pass.new.front }
-        ensures applied { OnOk result (number ≤ length (applied_in pass.new.front)) }
-        ensures turn { InOneTurn pass.old.front pass.new.front
-            (λ found new. CommitsAndLeases found new worker result) }
-        ensures settings { IfOk result (λ next. IfOk next (AsksForSearch pass.old.front)) }
+    /// Commits as the session does, between `enter` and `leave`, and notes for the other passes that it did, and whether any
+    /// of them sleeps over it.
+    pub fn commit_in_turn(&self, session: &mut Session<D>) -> Result<Receipt, CommitRefusal>
+        ensures grows { GrowsByTurns session.old.line session.new.line }
+        ensures turn { Commits session.old.line session.new.line result }
+        ensures moments { IsHonest D.TELLS → IfOk result (λ receipt.
+            Each (λ ack. ack.moment ≤ receipt.moment) (acknowledgements session.new.line)) }
     {
-        self.wait_for_commit();
-        let mut session = self.lock.enter(rt, pass);
-        let before = session.count();
-        let answer = self.commit_then_lease(&mut session, number, worker);
-        self.leave(pass, session, before);
-        answer
+        let receipt = session.commit()?;
+        self.commits.fetch_add(1, Ordering::SeqCst);
+        self.is_slow
+            .store(self.lock.has_sleepers(), Ordering::SeqCst);
+        Ok(receipt)
+    }
+
+    /// Whether passes fell asleep over the last commit, so that it pays to let them stage before the next one. It may have
+    /// changed when the answer comes, so nothing but patience should rest on it.
+    pub fn is_slow(&self) -> bool {
+        self.is_slow.load(Ordering::SeqCst)
     }
 
     /// Lets passes that sleep stage what they have, as long as there are any and no commit comes, and at most for so many
-    /// looks. It does not wait where the last commit was over before any pass fell asleep.
-    fn wait_for_commit(&self) {
-        if !self.is_slow.load(Ordering::SeqCst) {
-            return;
-        }
+    /// looks. No clause speaks of this waiting.
+    pub fn wait_for_commit(&self) {
         let commits = self.commits.load(Ordering::SeqCst);
         let mut calm = 0u32;
         for _ in 0..MOST_LOOKS {
@@ -195,54 +222,6 @@ impl<D: Disk> SharedBench<D> {
             }
             thread::yield_now();
         }
-    }
-
-    /// Commits in a turn, and notes that it did, and whether passes fell asleep over it.
-    fn commit_session(&self, session: &mut Session<D>) -> Result<Receipt, CommitRefusal>
-        ensures grows { GrowsByTurns session.old.line session.new.line }
-        ensures turn { Commits session.old.line session.new.line result }
-        ensures moments { IsHonest D.TELLS → IfOk result (λ receipt.
-            Each (λ ack. ack.moment ≤ receipt.moment) (acknowledgements session.new.line)) }
-    {
-        let receipt = session.commit()?;
-        self.commits.fetch_add(1, Ordering::SeqCst);
-        self.is_slow
-            .store(self.lock.has_sleepers(), Ordering::SeqCst);
-        Ok(receipt)
-    }
-
-    /// Commits in a turn, unless the record of this number is applied.
-    fn commit_unless_applied(
-        &self,
-        session: &mut Session<D>,
-        number: u64,
-    ) -> Result<Option<Receipt>, CommitRefusal>
-        requires { number ≤ length (recorded session.old.line) }
-        ensures grows { GrowsByTurns session.old.line session.new.line }
-        ensures applied { OnOk result (number ≤ length (applied_in session.new.line)) }
-        ensures turn { CommitsUnlessDone session.old.line session.new.line result }
-    {
-        if session.has_applied(number) {
-            return Ok(None);
-        }
-        Ok(Some(self.commit_session(session)?))
-    }
-
-    /// Commits in a turn, unless the record of this number is applied, and then leases the next leaf.
-    fn commit_then_lease(
-        &self,
-        session: &mut Session<D>,
-        number: u64,
-        worker: u32,
-    ) -> Result<Result<Lease, LeaseRefusal>, CommitRefusal>
-        requires { number ≤ length (recorded session.old.line) }
-        ensures grows { GrowsByTurns session.old.line session.new.line }
-        ensures applied { OnOk result (number ≤ length (applied_in session.new.line)) }
-        ensures turn { CommitsAndLeases session.old.line session.new.line worker result }
-        ensures settings { IfOk result (λ next. IfOk next (AsksForSearch session.old.line)) }
-    {
-        let _receipt = self.commit_unless_applied(session, number)?;
-        Ok(session.lease(worker))
     }
 
     /// Ends a lease without a result, in one turn. It takes no memory. `Stale` comes where the lease does not live or has its
@@ -259,10 +238,9 @@ impl<D: Disk> SharedBench<D> {
         ensures turn { InOneTurn pass.old.front pass.new.front
             (λ found new. Releases found new id result) }
     {
-        let mut session = self.lock.enter(rt, pass);
-        let before = session.count();
-        let answer = session.release(id);
-        self.leave(pass, session, before);
+        let mut turn = self.enter(rt, pass);
+        let answer = turn.session.release(id);
+        self.leave(pass, turn);
         answer
     }
 
@@ -274,25 +252,10 @@ impl<D: Disk> SharedBench<D> {
         ensures turn { InOneTurn pass.old.front pass.new.front
             (λ found new. Counts found new result) }
     {
-        let session = self.lock.enter(rt, pass);
-        let before = session.count();
-        let counts = RootCounts::of(session.bench().tree());
-        self.leave(pass, session, before);
+        let turn = self.enter(rt, pass);
+        let counts = RootCounts::of(turn.session.bench().tree());
+        self.leave(pass, turn);
         counts
-    }
-
-    /// Notes what a turn added to a line that had so many entries before, and ends the turn.
-    fn leave(&self, pass: &mut BenchPass<D>, session: Session<D>, before: u64)
-        requires lock { pass.old.lock ≡ self.now }
-        requires turn { pass.old.turn ≡ true }
-        requires before { before ≡ length pass.old.front }
-        requires grows { GrowsByTurns pass.old.front session.line }
-        ensures outside { IsOutside self.now pass.new }
-        ensures front { pass.new.front ≡ session.line }
-    {
-        let added = session.count() - before;
-        self.lock.note(pass, &session, added);
-        self.lock.leave(pass, session);
     }
 
     /// A second pass, which has seen what the first has.
@@ -330,19 +293,7 @@ impl<D: Disk> SharedBench<D> {
         ensures count { length result.0.line ≡ result.1 }
     {
         let Self { lock, .. } = self;
-        lock.close_counted(rt, pass)
+        let (held, count) = lock.close_counted(rt, pass);
+        (held.into_session(), count)
     }
-}
-
-/// Stages in a turn, and tells the number of the record.
-fn stage_numbered<D: Disk>(
-    session: &mut Session<D>,
-    found: LeaseResult,
-) -> Result<u64, StageRefusal>
-    ensures grows { GrowsByTurns session.old.line session.new.line }
-    ensures turn { StagesNumbered session.old.line session.new.line
-        found.lease found.outcome result }
-{
-    session.stage_result(found)?;
-    Ok(session.recorded())
 }

@@ -43,6 +43,8 @@ impl<V: Kept> Model for TurnLock<V> {
 /// A pass that is dropped while it has the turn locks the value away for good.
 pub struct Pass<V: Kept> {
     seat: LockSeat<V>,
+    // It found the turn taken when it last entered.
+    has_waited: bool,
 }
 
 impl<V: Kept> Model for Pass<V> {
@@ -59,7 +61,10 @@ impl<V: Kept> Model for Pass<V> {
 
 impl<V: Kept> Drop for Pass<V> {
     fn drop(self) {
-        let Self { seat: _ } = self;
+        let Self {
+            seat: _,
+            has_waited: _,
+        } = self;
     }
 }
 
@@ -77,7 +82,11 @@ impl<V: Kept> TurnLock<V> {
         match Table::new(alloc, &[FREE, count], slots, &about) {
             Ok((table, seat)) => {
                 let sleepers = AtomicU64::new(0);
-                Ok((TurnLock { table, sleepers }, Pass { seat }))
+                let pass = Pass {
+                    seat,
+                    has_waited: false,
+                };
+                Ok((TurnLock { table, sleepers }, pass))
             }
             Err(Refused { slots }) => Err((value_of(slots), AllocError)),
         }
@@ -95,7 +104,7 @@ impl<V: Kept> TurnLock<V> {
         ensures whole { pass.new.front ≡ V.entries result }
         ensures grows { GrowsTo V.may_add pass.old.front pass.new.front }
     {
-        self.take_turn(rt, &mut pass.seat);
+        pass.has_waited = self.take_turn(rt, &mut pass.seat);
         self.take_value(&mut pass.seat)
     }
 
@@ -143,6 +152,7 @@ impl<V: Kept> TurnLock<V> {
     {
         Pass {
             seat: self.split_seat(&mut pass.seat),
+            has_waited: false,
         }
     }
 
@@ -191,12 +201,20 @@ impl<V: Kept> TurnLock<V> {
 }
 
 impl<V: Kept> Pass<V> {
+    /// Whether another pass had the turn when this one last asked for it. Nothing but patience should rest on it.
+    pub fn has_waited(&self) -> bool {
+        self.has_waited
+    }
+
     /// Its seat at the table.
     fn into_seat(self) -> LockSeat<V>
         ensures view { seen result.table_id result.me ≡ self }
         ensures between { IsBetweenCalls result.me }
     {
-        let Self { seat } = self;
+        let Self {
+            seat,
+            has_waited: _,
+        } = self;
         seat
     }
 }

@@ -17,8 +17,8 @@ use std::thread;
 const YIELDS: u64 = 32;
 
 impl<V: Kept> TurnLock<V> {
-    /// Tries until the seat has the turn.
-    pub(crate) fn take_turn<R: Wait>(&self, rt: &R, seat: &mut LockSeat<V>)
+    /// Tries until the seat has the turn. The answer is whether it first found it taken.
+    pub(crate) fn take_turn<R: Wait>(&self, rt: &R, seat: &mut LockSeat<V>) -> bool
         requires lock { seat.old.table_id ≡ self.now }
         requires outside { seat.old.me ≡ (outside seat.old.me.0.front, []) }
         ensures lock { seat.new.table_id ≡ self.now }
@@ -31,7 +31,7 @@ impl<V: Kept> TurnLock<V> {
                 .shared
                 .compare_exchange::<TakeTurn>(seat, TURN, FREE, TAKEN);
             if found == FREE {
-                return;
+                return tries > 0;
             }
             self.step_aside(rt, tries);
             tries = tries.saturating_add(1);

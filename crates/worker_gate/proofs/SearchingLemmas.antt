@@ -1,29 +1,29 @@
 -- What can be searched, and that it stays so as the line grows. Crates above cite these too.
-use Rattle.std.proofs.Common.{◌≡◌, ◌≤◌, ℕ, List, ap, sym, ◌∙◌, subst}
-use Rattle.std.specs.Prelude.{Bool, false, Option, Some, Result, Ok, Err, IfOk}
+use Rattle.std.proofs.Common.{◌≡◌, ◌≤◌, ◌++◌, ◌∷◌, [], ℕ, List, refl, ap, sym, ◌∙◌, subst}
+use Rattle.std.specs.Prelude.{Bool, false, All, Option, Some, Ok, Err}
 use Rattle.std.specs.Option.{option_map_or}
+use Rattle.std.proofs.lemmas.List.Elements.{All-weaker, All-push}
 use Rattle.draughts_board.specs.Draughts.{draughts}
 use Rattle.draughts_board.specs.Game.{is_at_sight}
 use Rattle.certificate_checker.specs.declared.outcomes.Outcome.{Outcome}
 use Rattle.certificate_checker.specs.declared.outcomes.Outcome.TheVariants.{Solved, Exhausted}
 use Rattle.leaf_search.specs.Search.{IsOutcome}
 use Rattle.lease_table.specs.declared.leases.Lease.{Lease}
-use Rattle.bench_core.specs.declared.refusals.LeaseRefusal.{LeaseRefusal}
 use Rattle.bench_core.specs.declared.refusals.LeaseRefusal.TheVariants as lease
 use Rattle.bench_core.specs.declared.settings.Settings.{Settings}
-use Rattle.bench_core.specs.States.{SessionSettings}
+use Rattle.bench_core.specs.States.{CoreState, SessionSettings, lease_answer}
 use Rattle.bench_core.specs.Cores.{Core, IsOutcomeOf}
 use Rattle.tree_manager.specs.declared.entries.Attachment.{Attachment}
 use Rattle.tree_manager.specs.declared.entries.Entry.{Entry}
-use Rattle.tree_manager.specs.declared.refusals.CommitRefusal.{CommitRefusal}
 use Rattle.tree_manager.specs.Lines.{attachment_of}
 use Rattle.tree_manager.specs.Histories.{IsCoreOf}
 use Rattle.tree_manager.specs.Sessions.{SessionState, IsAttachedTo}
-use Rattle.tree_manager.specs.Turns.{GrowsByTurns, InOneTurn, AsksForSearch, Leases, CommitsAndLeases}
+use Rattle.tree_manager.specs.Turns.{GrowsByTurns, AsksForSearch, Leases}
 use Rattle.tree_manager.proofs.CoreLemmas.{replayed_attachment}
-use Rattle.tree_manager.proofs.SearchLemmas.{pieces_stay, depth_stays}
+use Rattle.tree_manager.proofs.SearchLemmas.{pieces_stay, depth_stays, asks_for_search}
+use Rattle.tree_manager.proofs.TurnLemmas.{grows_same}
 use Rattle.worker_gate.specs.declared.worker.Ended.TheVariants.{Done, Spent, Failed}
-use Rattle.worker_gate.specs.Work.{CanSearch, CanSearchLeaf, IsAnswered, ShowsEnd}
+use Rattle.worker_gate.specs.Work.{CanSearch, CanSearchLeaf, ShowsEnd}
 
 -- the outcome of a search of the lease's leaf is of the lease
 pub outcome_is : (k : ℕ) (given : Lease) (outcome : Outcome) → k ≡ given.pieces → IsOutcome k given.goal given.depth given.position outcome → IsOutcomeOf given outcome
@@ -66,32 +66,35 @@ can_search_attached tells reads moment faults s disk new k front begins pieces d
       depth = subst (λ n. n ≤ 12) (sym (first (λ a. a.depth) ∙ ap (λ (a : Attachment). a.depth) begins.is)) depth;
     }
 
--- ---- answers to a worker who asks for a leaf
+-- ---- what a turn leaves a worker with
 
-asks_on : (old new : List Entry) (answer : Result Lease LeaseRefusal) → GrowsByTurns old new → IfOk answer (AsksForSearch old) → IfOk answer (AsksForSearch new)
-asks_on old new (Ok given) grows asks = record {
+asks_on : (old new : List Entry) (given : Lease) → GrowsByTurns old new → AsksForSearch old given → AsksForSearch new given
+asks_on old new given grows asks = record {
   pieces = asks.pieces ∙ sym (pieces_stay old new grows);
   depth = asks.depth ∙ sym (depth_stays old new grows);
   undecided = asks.undecided;
 }
-asks_on old new (Err refusal) grows asks = tt
 
--- in a turn of its own
-pub is_answered : (old new : List Entry) (worker : ℕ) (answer : Result Lease LeaseRefusal) → GrowsByTurns old new → InOneTurn old new (λ found new. Leases found new worker answer)
-    → IfOk answer (AsksForSearch old) → IsAnswered new answer
-is_answered old new worker answer grows turn asks = record { worker = worker; found = turn.found; leases = turn.does; asks = asks_on old new answer grows asks }
+-- leases ask for their searches by the line as it goes on, too
+pub all_ask_on : (old new : List Entry) (given : List Lease) → GrowsByTurns old new → All (AsksForSearch old) given → All (AsksForSearch new) given
+all_ask_on old new given grows all = All-weaker (AsksForSearch old) (AsksForSearch new) (λ lease asks. asks_on old new lease grows asks) given all
 
--- .. and in that of a commit
-pub is_answered_behind : (old new : List Entry) (worker : ℕ) (answer : Result (Result Lease LeaseRefusal) CommitRefusal) → GrowsByTurns old new → InOneTurn old new (λ found new. CommitsAndLeases found new worker answer)
-    → IfOk answer (λ next. IfOk next (AsksForSearch old)) → IfOk answer (IsAnswered new)
-is_answered_behind old new worker (Ok next) grows turn asks = record { worker = worker; found = turn.does.committed; leases = turn.does.leases; asks = asks_on old new next grows asks }
-is_answered_behind old new worker (Err refusal) grows turn asks = tt
+-- .. and so does one that is leased in the last step
+pub one_more_asks : (old new : List Entry) (before after : List Lease) (given : Lease) → GrowsByTurns old new → All (AsksForSearch old) before → AsksForSearch new given → after ≡ before ++ given ∷ [] → All (AsksForSearch new) after
+one_more_asks old new before after given grows all asks is = subst (λ leases. All (AsksForSearch new) leases) (sym is) (All-push (AsksForSearch new) before given (all_ask_on old new before grows all) asks)
 
-pub done_shown : (front : List Entry) → IsAnswered front (Err lease.Done) → ShowsEnd Done front
-done_shown front answered = (answered.worker, answered.leases.1)
+pub leased_asks : (old new : List Entry) (s : CoreState) (worker : ℕ) (given : Lease) → GrowsByTurns old new → Leases old new worker (Ok given) → lease_answer s worker ≡ Ok given → is_at_sight draughts s.settings.pieces given.position ≡ false → AsksForSearch new given
+leased_asks old new s worker given grows leases answered sight = asks_on old new given grows (asks_for_search old old s worker given (grows_same old old refl) leases.1 answered sight)
 
-pub spent_shown : (front : List Entry) (records budget : ℕ) → IsAnswered front (Err (lease.Spent records budget)) → ShowsEnd Spent front
-spent_shown front records budget answered = (answered.worker, records, budget, answered.leases.1)
+pub leaves_can_be : (k : ℕ) (front : List Entry) (given : List Lease) → CanSearch k front → All (AsksForSearch front) given → All (CanSearchLeaf k) given
+leaves_can_be k front given can all = All-weaker (AsksForSearch front) (CanSearchLeaf k) (λ lease asks. leaf_can_be k front lease can asks) given all
 
-pub failed_shown : (front : List Entry) → IsAnswered front (Err lease.Failed) → ShowsEnd Failed front
-failed_shown front answered = answered.leases.1
+-- what a refusal to lease shows of the end of a worker
+pub done_shown : (found new : List Entry) (worker : ℕ) → Leases found new worker (Err lease.Done) → ShowsEnd Done new
+done_shown found new worker leases = (worker, leases.1)
+
+pub spent_shown : (found new : List Entry) (worker records budget : ℕ) → Leases found new worker (Err (lease.Spent records budget)) → ShowsEnd Spent new
+spent_shown found new worker records budget leases = (worker, records, budget, leases.1)
+
+pub failed_shown : (found new : List Entry) (worker : ℕ) → Leases found new worker (Err lease.Failed) → ShowsEnd Failed new
+failed_shown found new worker leases = leases.1

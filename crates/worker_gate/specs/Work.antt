@@ -1,13 +1,12 @@
 -- What work on a session needs, and what it comes to.
-use Rattle.std.specs.Prelude.{◌≡◌, ◌≤◌, ℕ, false, List, Result, Err, IfOk}
+use Rattle.std.specs.Prelude.{◌≡◌, ◌≤◌, ℕ, false, List, Err}
 use Rattle.draughts_board.specs.Draughts.{draughts}
 use Rattle.draughts_board.specs.Game.{is_at_sight}
 use Rattle.lease_table.specs.declared.leases.Lease.{Lease}
-use Rattle.bench_core.specs.declared.refusals.LeaseRefusal.{LeaseRefusal}
 use Rattle.bench_core.specs.declared.refusals.LeaseRefusal.TheVariants as lease
 use Rattle.tree_manager.specs.declared.entries.Entry.{Entry}
 use Rattle.tree_manager.specs.Lines.{session_pieces, session_depth, EndsBroken}
-use Rattle.tree_manager.specs.Turns.{AnswersWorker, AsksForSearch, Leases}
+use Rattle.tree_manager.specs.Turns.{AnswersWorker}
 use Rattle.worker_gate.specs.declared.worker.Ended.{Ended}
 use Rattle.worker_gate.specs.declared.worker.Ended.TheVariants.{Done, Spent, Failed, Memory}
 
@@ -22,14 +21,6 @@ pub record CanSearchLeaf (pieces : ℕ) (given : Lease) : Type 0 where
   pub tables : pieces ≡ given.pieces
   pub depth : given.depth ≤ 12
   pub undecided : is_at_sight draughts pieces given.position ≡ false
-
--- A worker who asked for its next leaf in the turn that left this front was answered so; the leaf
--- that it was given is to be searched by the line's settings.
-pub record IsAnswered (front : List Entry) (answer : Result Lease LeaseRefusal) : Type 0 where
-  pub worker : ℕ
-  pub found : List Entry
-  pub leases : Leases found front worker answer
-  pub asks : IfOk answer (AsksForSearch front)
 
 -- What the front of a worker's pass shows of its end: in the state of the front a worker is answered
 -- that every root is settled, or that the budget is spent; or the front ends with a fault of the

@@ -6,6 +6,7 @@
 #![tactic(auto)]
 
 mod gates;
+mod hand;
 mod pauses;
 mod threads;
 mod worker;

@@ -1,22 +1,22 @@
 //! The work of one worker.
-ghost use Rattle.std.specs.Prelude.{◌≡◌, ◌≤◌, length, OnOk, IfOk, IfErr, IsErr};
+ghost use Rattle.std.specs.Prelude.{◌≡◌, ◌≤◌, [], length, All, OnOk, IfOk, IfErr};
 ghost use Rattle.turn_lock.specs.Seen.{IsOutside};
-ghost use Rattle.bench_core.specs.Cores.{IsOutcomeOf};
-ghost use Rattle.tree_manager.specs.Lines.{recorded, applied_in};
-ghost use Rattle.tree_manager.specs.Turns.{GrowsByTurns};
-ghost use Rattle.worker_gate.specs.Work.{CanSearch, CanSearchLeaf, IsAnswered, ShowsEnd};
+ghost use Rattle.tree_manager.specs.Lines.{recorded};
+ghost use Rattle.tree_manager.specs.Turns.{HasTurn, GrowsByTurns, AsksForSearch};
+ghost use Rattle.worker_gate.specs.Work.{CanSearch, CanSearchLeaf, ShowsEnd};
 
 use crate::gates::Gate;
+use crate::hand::{Hand, commit_unless_applied, release_leases, stage_results, take_leaves};
 use crate::pauses::Pause;
-use bench_core::LeaseRefusal;
+use bench_core::{LeaseRefusal, LeaseResult};
 use bench_disk::Disk;
-use certificate_checker::Outcome;
 use leaf_search::{Memo, search};
-use lease_table::{Lease, LeaseId};
+use lease_table::Lease;
 use std::alloc::{AllocError, Global};
+use std::collections::VecDeque;
 use std::sync::Wait;
 use strategy_certificate::Oracle;
-use tree_manager::{BenchPass, CommitRefusal, SharedBench, StageRefusal};
+use tree_manager::{BenchPass, Session, SharedBench, Turn};
 
 /// How many positions a worker remembers in which looking ahead shows no win.
 const REMEMBERED: usize = 65_536;
@@ -34,14 +34,12 @@ pub enum Ended {
     Memory,
 }
 
-/// What a worker is answered who asks for its next leaf.
-type Next = Result<Lease, LeaseRefusal>;
-
 /// Leases, searches, stages and commits, leaf after leaf, until every root is settled or the budget is spent.
 ///
-/// A result is staged in one turn; in another it is committed, and the next leaf is leased. While every open leaf is leased
-/// the worker waits, and takes next to no time of a processor. A result that comes too late is dropped. A lease for whose
-/// search or result there is no memory is released, and the work ends.
+/// In a turn it stages what it found, commits it, and leases what it searches next: one leaf, and more where it has to wait
+/// for its turns. Where commits take long, it stages in one turn and commits in another, so that one commit does for many
+/// workers. While every open leaf is leased the worker waits, and takes next to no time of a processor. A result that comes
+/// too late is dropped. Leases for whose search or results there is no memory are released, and the work ends.
 #[tactic(auto, using(tree_manager::proofs::TurnLemmas::grows_then, crate::proofs::SearchingLemmas::can_search_on))]
 pub fn work<R: Wait, D: Disk, O: Oracle, G: Gate>(
     rt: &R,
@@ -63,62 +61,167 @@ pub fn work<R: Wait, D: Disk, O: Oracle, G: Gate>(
         Err(AllocError) => return Ended::Memory,
     };
     let mut pause = Pause::new();
-    let mut next = shared.lease(rt, pass, worker);
+    let mut hand = Hand::new(alloc);
     for _ in rt.forever() {
-        next = match next {
-            Ok(lease) => {
-                pause = Pause::new();
-                match search_leaf(rt, alloc, shared, pass, &lease, oracle, gate, &mut memo) {
-                    Ok(next) => next,
-                    Err(ended) => return ended,
-                }
-            }
-            Err(LeaseRefusal::NoLeaf { .. }) => {
-                pause.rest(rt);
-                shared.lease(rt, pass, worker)
-            }
-            Err(LeaseRefusal::Done) => return Ended::Done,
-            Err(LeaseRefusal::Spent { .. }) => return Ended::Spent,
-            Err(LeaseRefusal::Failed) => return Ended::Failed,
-            Err(LeaseRefusal::Memory(_)) => return Ended::Memory,
-        };
+        match trade(rt, shared, pass, worker, &mut hand) {
+            Ok(()) => {}
+            Err(Ended::Memory) => return give_back(rt, shared, pass, &hand.leases),
+            Err(ended) => return ended,
+        }
+        if hand.leases.is_empty() {
+            pause.rest(rt);
+            continue;
+        }
+        pause = Pause::new();
+        let searched = search_leaves(
+            rt,
+            alloc,
+            shared,
+            pass,
+            &hand.leases,
+            &mut hand.results,
+            oracle,
+            gate,
+            &mut memo,
+        );
+        if searched.is_err() {
+            return give_back(rt, shared, pass, &hand.leases);
+        }
     }
     unreachable!()
 }
 
-/// Searches a leaf that was leased, commits its result, and leases the next one.
-#[tactic(auto, using(tree_manager::proofs::TurnLemmas::grows_then, crate::proofs::SearchingLemmas::outcome_is))]
-fn search_leaf<R: Wait, D: Disk, O: Oracle, G: Gate>(
+/// Hands in what the worker found, and takes what it searches next; nothing, where every open leaf is leased.
+fn trade<R: Wait, D: Disk>(
+    rt: &R,
+    shared: &SharedBench<D>,
+    pass: &mut BenchPass<D>,
+    worker: u32,
+    hand: &mut Hand,
+) -> Result<(), Ended>
+    requires outside { IsOutside shared.now pass.old }
+    ensures outside { IsOutside shared.now pass.new }
+    ensures grows { GrowsByTurns pass.old.front pass.new.front }
+    ensures leases { OnOk result (All (AsksForSearch pass.new.front) hand.new.leases.items) }
+    ensures ended { IfErr result (λ ended. ShowsEnd ended pass.new.front) }
+{
+    let mut turn = shared.enter(rt, pass);
+    hand.note_wait(pass.has_waited());
+    let number = match stage_results(&mut turn.session, &mut hand.results) {
+        Ok(number) => number,
+        Err(ended) => {
+            shared.leave(pass, turn);
+            return Err(ended);
+        }
+    };
+    hand.leases.clear();
+    let mut turn = let_others_stage(rt, shared, pass, turn, number);
+    let traded = commit_and_take(shared, &mut turn.session, number, worker, hand);
+    shared.leave(pass, turn);
+    traded
+}
+
+/// Where the worker has staged a record, and commits take long, gives the turn up, so that others stage what they have and one
+/// commit does for all, and waits for the next turn.
+fn let_others_stage<R: Wait, D: Disk>(
+    rt: &R,
+    shared: &SharedBench<D>,
+    pass: &mut BenchPass<D>,
+    turn: Turn<D>,
+    number: u64,
+) -> Turn<D>
+    requires turn { HasTurn shared.now pass.old turn.entered }
+    requires found { GrowsByTurns pass.old.front turn.session.value.line }
+    ensures turn { HasTurn shared.now pass.new result.entered }
+    ensures found { GrowsByTurns pass.new.front result.session.value.line }
+    ensures grows { GrowsByTurns pass.old.front pass.new.front }
+    ensures goes_on { GrowsByTurns turn.session.value.line result.session.value.line }
+{
+    if number == 0 || !shared.is_slow() {
+        return turn;
+    }
+    shared.leave(pass, turn);
+    shared.wait_for_commit();
+    shared.enter(rt, pass)
+}
+
+/// Sees to it in a turn that the record of this number is durable, and takes leaves; none, where every open leaf is leased.
+#[tactic(auto, using(tree_manager::proofs::TurnLemmas::grows_then))]
+fn commit_and_take<D: Disk>(
+    shared: &SharedBench<D>,
+    session: &mut Session<D>,
+    number: u64,
+    worker: u32,
+    hand: &mut Hand,
+) -> Result<(), Ended>
+    requires number { number ≤ length (recorded session.old.line) }
+    requires none { hand.old.leases.items ≡ [] }
+    ensures grows { GrowsByTurns session.old.line session.new.line }
+    ensures leases { OnOk result (All (AsksForSearch session.new.line) hand.new.leases.items) }
+    ensures ended { IfErr result (λ ended. ShowsEnd ended session.new.line) }
+{
+    commit_unless_applied(shared, session, number)?;
+    let taken = take_leaves(session, worker, &mut hand.leases, hand.wanted);
+    hand.note_leases();
+    match taken {
+        Ok(()) | Err(LeaseRefusal::NoLeaf { .. }) => Ok(()),
+        Err(LeaseRefusal::Done) => Err(Ended::Done),
+        Err(LeaseRefusal::Spent { .. }) => Err(Ended::Spent),
+        Err(LeaseRefusal::Failed) => Err(Ended::Failed),
+        Err(LeaseRefusal::Memory(_)) => Err(Ended::Memory),
+    }
+}
+
+/// Searches the leaves one after another, and keeps what it found.
+#[tactic(auto, using(tree_manager::proofs::TurnLemmas::grows_then))]
+fn search_leaves<R: Wait, D: Disk, O: Oracle, G: Gate>(
     rt: &R,
     alloc: Global,
     shared: &SharedBench<D>,
     pass: &mut BenchPass<D>,
-    lease: &Lease,
+    leases: &[Lease],
+    results: &mut VecDeque<LeaseResult>,
     oracle: &O,
     gate: &G,
     memo: &mut Memo,
-) -> Result<Next, Ended>
+) -> Result<(), AllocError>
     requires outside { IsOutside shared.now pass.old }
-    requires settings { CanSearchLeaf (O.piece_limit oracle.now) lease.now }
+    requires settings { All (CanSearchLeaf (O.piece_limit oracle.now)) leases.now }
     requires memo { memo.old ≡ O.piece_limit oracle.now }
     ensures outside { IsOutside shared.now pass.new }
     ensures grows { GrowsByTurns pass.old.front pass.new.front }
     ensures memo { memo.new ≡ memo.old }
-    ensures next { IfOk result (IsAnswered pass.new.front) }
-    ensures ended { IfErr result (λ ended. ShowsEnd ended pass.new.front) }
 {
-    pass_gate(rt, shared, pass, lease.worker, gate);
-    match search(
+    for lease in leases {
+        pass_gate(rt, shared, pass, lease.worker, gate);
+        results.reserve(1)?;
+        results.push_back_reserved(search_leaf(alloc, lease, oracle, memo)?);
+    }
+    Ok(())
+}
+
+/// Searches a leaf that was leased, and encodes what it found.
+#[tactic(auto, using(crate::proofs::SearchingLemmas::outcome_is))]
+fn search_leaf<O: Oracle>(
+    alloc: Global,
+    lease: &Lease,
+    oracle: &O,
+    memo: &mut Memo,
+) -> Result<LeaseResult, AllocError>
+    requires settings { CanSearchLeaf (O.piece_limit oracle.now) lease.now }
+    requires memo { memo.old ≡ O.piece_limit oracle.now }
+    ensures lease { IfOk result (λ found. found.lease ≡ lease.now) }
+    ensures memo { memo.new ≡ memo.old }
+{
+    let outcome = search(
         alloc,
         &lease.position,
         lease.goal,
         lease.depth,
         oracle,
         memo,
-    ) {
-        Ok(outcome) => put_result(rt, shared, pass, lease, outcome),
-        Err(AllocError) => give_back(rt, shared, pass, lease.id),
-    }
+    )?;
+    LeaseResult::new(alloc, lease, outcome)
 }
 
 /// Passes the gate, and shows it how many roots are settled, where it wants to see that.
@@ -139,65 +242,20 @@ fn pass_gate<R: Wait, D: Disk, G: Gate>(
     }
 }
 
-/// Stages what a search found, commits it, and leases the next leaf.
-#[tactic(auto, using(tree_manager::proofs::TurnLemmas::grows_then))]
-fn put_result<R: Wait, D: Disk>(
-    rt: &R,
-    shared: &SharedBench<D>,
-    pass: &mut BenchPass<D>,
-    lease: &Lease,
-    outcome: Outcome,
-) -> Result<Next, Ended>
-    requires outside { IsOutside shared.now pass.old }
-    requires outcome { IsOutcomeOf lease.now outcome }
-    ensures outside { IsOutside shared.now pass.new }
-    ensures grows { GrowsByTurns pass.old.front pass.new.front }
-    ensures next { IfOk result (IsAnswered pass.new.front) }
-    ensures ended { IfErr result (λ ended. ShowsEnd ended pass.new.front) }
-{
-    match shared.stage(rt, pass, lease, outcome) {
-        Ok(number) => commit_result(rt, shared, pass, number, lease.worker),
-        Err(StageRefusal::Stale(_)) => Ok(shared.lease(rt, pass, lease.worker)),
-        Err(StageRefusal::Failed) => Err(Ended::Failed),
-        Err(StageRefusal::Memory(_)) => give_back(rt, shared, pass, lease.id),
-    }
-}
-
-/// Sees to it that the record of this number is durable, by a commit of this worker or of another, and leases the next leaf.
-fn commit_result<R: Wait, D: Disk>(
-    rt: &R,
-    shared: &SharedBench<D>,
-    pass: &mut BenchPass<D>,
-    number: u64,
-    worker: u32,
-) -> Result<Next, Ended>
-    requires outside { IsOutside shared.now pass.old }
-    requires number { number ≤ length (recorded pass.old.front) }
-    ensures outside { IsOutside shared.now pass.new }
-    ensures grows { GrowsByTurns pass.old.front pass.new.front }
-    ensures applied { OnOk result (number ≤ length (applied_in pass.new.front)) }
-    ensures next { IfOk result (IsAnswered pass.new.front) }
-    ensures ended { IfErr result (λ ended. ShowsEnd ended pass.new.front) }
-{
-    match shared.commit_and_lease(rt, pass, number, worker) {
-        Ok(next) => Ok(next),
-        Err(CommitRefusal::Failed | CommitRefusal::Disk) => Err(Ended::Failed),
-    }
-}
-
-/// Releases a lease for whose work there is no memory. It may have ended by itself.
+/// Releases leases for whose work there is no memory.
 fn give_back<R: Wait, D: Disk>(
     rt: &R,
     shared: &SharedBench<D>,
     pass: &mut BenchPass<D>,
-    id: LeaseId,
-) -> Result<Next, Ended>
+    leases: &[Lease],
+) -> Ended
     requires outside { IsOutside shared.now pass.old }
     ensures outside { IsOutside shared.now pass.new }
     ensures grows { GrowsByTurns pass.old.front pass.new.front }
-    ensures none { IsErr result }
-    ensures ended { IfErr result (λ ended. ShowsEnd ended pass.new.front) }
+    ensures ended { ShowsEnd result pass.new.front }
 {
-    let _ = shared.release(rt, pass, id);
-    Err(Ended::Memory)
+    let mut turn = shared.enter(rt, pass);
+    release_leases(&mut turn.session, leases);
+    shared.leave(pass, turn);
+    Ended::Memory
 }

@@ -1,4 +1,4 @@
-use Rattle.std.proofs.Common.{◌≡◌, ◌∙◌, [], length, map, refl}
+use Rattle.std.proofs.Common.{◌∙◌, []}
 use Rattle.tree_manager.specs.Replaying.{payload_texts}
 use Rattle.tree_manager.proofs.ReceiptLemmas.{spell_length}
 use Rattle.tree_manager.proofs.ReplayLemmas.{length_texts, puts_by_length}

@@ -1,4 +1,4 @@
-use Rattle.std.proofs.Common.{rules, ◌≡◌, ◌<◌, ◌+◌, ◌++◌, ◌∷◌, [], ◌∙◌, ℕ, List, ap, length, map, sym, subst, take}
+use Rattle.std.proofs.Common.{rules, ◌≡◌, ◌<◌, ◌+◌, ◌++◌, ◌∷◌, [], ◌∙◌, ℕ, List, ap, length, sym, subst, take}
 use Rattle.disk_journal.specs.declared.payload.Payload.{Payload}
 use Rattle.bench_records.specs.declared.records.BenchRecord.{BenchRecord}
 use Rattle.bench_records.specs.Texts.{IsText, IsTextAlone}

@@ -1,35 +1,33 @@
-use Rattle.std.proofs.Common.{◌∙◌, refl}
-use Rattle.tree_manager.proofs.TurnLemmas.{grows_same, grows_then}
-use Rattle.worker_gate.proofs.SearchingLemmas.{can_search_on, is_answered}
+use Rattle.std.proofs.Common.{◌∙◌, sym, subst}
+use Rattle.std.specs.Prelude.{All}
+use Rattle.tree_manager.proofs.TurnLemmas.{grows_then}
+use Rattle.worker_gate.specs.Work.{CanSearchLeaf}
+use Rattle.worker_gate.proofs.SearchingLemmas.{can_search_on, leaves_can_be}
 use Rattle.worker_gate.proofs.worker.work.Goals as goal
 
-pub loop-init : goal.loop-init
-loop-init g c = record {
-  outside = c.lease-next.ensures.outside;
-  grows = grows_same _ _ refl;
-  settings = can_search_on _ _ _ c.requires.settings c.lease-next.ensures.grows;
-  memo = c.in-Ok.ensures ∙ c.pieces.ensures.value;
-  answered = is_answered _ _ c.args.worker _ c.lease-next.ensures.grows c.lease-next.ensures.turn c.lease-next.ensures.settings;
+pub loop-preserved-then-is_empty : goal.loop-preserved-then-is_empty
+loop-preserved-then-is_empty g c = record {
+  outside = c.trade.ensures.outside;
+  grows = grows_then _ _ _ c.loop.invariant.grows c.trade.ensures.grows;
+  settings = can_search_on _ _ _ c.loop.invariant.settings c.trade.ensures.grows;
+  memo = c.loop.invariant.memo;
 }
 
-pub returns-in-Err-search_leaf-clause-grows : goal.returns-in-Err-search_leaf-clause-grows
-returns-in-Err-search_leaf-clause-grows g c = grows_then _ _ _ c.lease-next.ensures.grows (grows_then _ _ _ c.loop.invariant.grows c.search_leaf.ensures.grows)
+pub search_leaves-searched-requires-clause-settings : goal.search_leaves-searched-requires-clause-settings
+search_leaves-searched-requires-clause-settings g c =
+    let can = can_search_on _ _ _ c.loop.invariant.settings c.trade.ensures.grows in
+    subst (λ leases. All (CanSearchLeaf (g.O.Oracle.piece_limit c.args.oracle.now)) leases) (sym c.deref-in-loop.ensures.value) (leaves_can_be _ _ _ can c.in-Ok-trade.ensures.leases)
 
-pub loop-preserved-in-Ok-search_leaf : goal.loop-preserved-in-Ok-search_leaf
-loop-preserved-in-Ok-search_leaf g c = record {
-  outside = c.search_leaf.ensures.outside;
-  grows = grows_then _ _ _ c.loop.invariant.grows c.search_leaf.ensures.grows;
-  settings = can_search_on _ _ _ c.loop.invariant.settings c.search_leaf.ensures.grows;
-  memo = c.search_leaf.ensures.memo ∙ c.loop.invariant.memo;
-  answered = c.in-Ok-search_leaf.ensures.next;
-}
+pub returns-then-is_err-clause-grows : goal.returns-then-is_err-clause-grows
+returns-then-is_err-clause-grows g c =
+    grows_then _ _ _ c.loop.invariant.grows (grows_then _ _ _ c.trade.ensures.grows (grows_then _ _ _ c.search_leaves-searched.ensures.grows c.give_back-then-is_err.ensures.grows))
 
 pub loop-preserved : goal.loop-preserved
-loop-preserved g c = record {
-  outside = c.lease-next-in-Err-NoLeaf.ensures.outside;
-  grows = grows_then _ _ _ c.loop.invariant.grows c.lease-next-in-Err-NoLeaf.ensures.grows;
-  settings = can_search_on _ _ _ c.loop.invariant.settings c.lease-next-in-Err-NoLeaf.ensures.grows;
-  memo = c.loop.invariant.memo;
-  answered =
-      is_answered _ _ c.args.worker _ c.lease-next-in-Err-NoLeaf.ensures.grows c.lease-next-in-Err-NoLeaf.ensures.turn c.lease-next-in-Err-NoLeaf.ensures.settings;
-}
+loop-preserved g c =
+    let grows = grows_then _ _ _ c.trade.ensures.grows c.search_leaves-searched.ensures.grows in
+    record {
+      outside = c.search_leaves-searched.ensures.outside;
+      grows = grows_then _ _ _ c.loop.invariant.grows grows;
+      settings = can_search_on _ _ _ c.loop.invariant.settings grows;
+      memo = c.search_leaves-searched.ensures.memo ∙ c.loop.invariant.memo;
+    }

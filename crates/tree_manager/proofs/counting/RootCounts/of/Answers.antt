@@ -1,4 +1,4 @@
-use Rattle.std.proofs.Common.{◌≡◌, ◌+◌, ◌<◌, ◌∙◌, ap, length, sym, arith}
+use Rattle.std.proofs.Common.{◌+◌, ◌<◌, ◌∙◌, ap, length, sym, arith}
 use Rattle.proof_tree.specs.Forest.{nodes}
 use Rattle.tree_manager.proofs.CountingLemmas.{one_more, none_more}
 use Rattle.tree_manager.proofs.counting.RootCounts.of.Goals.{then-is_some, else-is_some}

@@ -1,5 +1,5 @@
 use Rattle.std.proofs.Common.{◌∙◌}
-use Rattle.tree_manager.proofs.IdLemmas.{EndedOneMore, ended_all, ended_none, ended_step}
+use Rattle.tree_manager.proofs.IdLemmas.{ended_all, ended_none, ended_step}
 use Rattle.tree_manager.proofs.HistoryLaws.{history_stands}
 use Rattle.tree_manager.proofs.UnleasedLemmas.{unleased}
 use Rattle.tree_manager.proofs.joined.JoinedBench.end_leases.Goals as goal

@@ -1,4 +1,3 @@
-use Rattle.std.proofs.Common.{ℕ}
 use Rattle.tree_manager.specs.Keeping.{waiting_leases}
 use Rattle.tree_manager.proofs.IdLemmas.{EndedSoFar}
 use Rattle.tree_manager.proofs.joined.JoinedBench.end_leases.Given as goal

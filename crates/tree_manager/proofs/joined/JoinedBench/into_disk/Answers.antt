@@ -1,4 +1,4 @@
-use Rattle.std.proofs.Common.{◌≡◌, ℕ, List, sym, ap, ◌∙◌, subst}
+use Rattle.std.proofs.Common.{◌≡◌, ℕ, List, sym, subst}
 use Rattle.std.specs.Prelude.{true, IfSome}
 use Rattle.std.specs.Vec.{vec_capacity}
 use Rattle.shared_words.specs.Counts.{Rose}

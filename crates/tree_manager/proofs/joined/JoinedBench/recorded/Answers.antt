@@ -1,5 +1,4 @@
-use Rattle.std.proofs.Common.{◌≡◌, ◌+◌, ◌-◌, ◌^◌, length, sym, ap, ◌∙◌, arith, false}
-use Rattle.std.specs.Prelude.{min}
+use Rattle.std.proofs.Common.{◌≡◌, length, ap, ◌∙◌, arith, false}
 use Rattle.tree_manager.specs.Lines.{recorded, is_failed}
 use Rattle.tree_manager.specs.Sessions.{SessionState}
 use Rattle.tree_manager.proofs.NumberLemmas.{puts_few, recorded_length}

@@ -1,5 +1,6 @@
+use Rattle.std.proofs.Common.{ap, sym, ◌∙◌}
 use Rattle.tree_manager.proofs.SharedLemmas.{grows_turn}
 use Rattle.tree_manager.proofs.shared.SharedBench.release.Goals as goal
 
 pub returns-clause-grows : goal.returns-clause-grows
-returns-clause-grows g c = grows_turn _ _ _ _ _ c.enter-session.ensures.grows c.enter-session.ensures.whole c.release-answer.ensures.grows c.leave.ensures.front
+returns-clause-grows g c = grows_turn _ _ _ _ _ c.enter-turn.ensures.grows (c.enter-turn.ensures.whole ∙ ap (λ s. s.line) (sym c.deref_mut.ensures.value)) c.release-answer.ensures.grows c.leave.ensures.front

@@ -1,0 +1,13 @@
+use Rattle.std.proofs.Common.{◌≤◌, length}
+use Rattle.tree_manager.specs.Lines.{recorded}
+use Rattle.tree_manager.specs.Turns.{GrowsByTurns}
+use Rattle.worker_gate.proofs.hand.stage_results.Given as goal
+
+abbrev pub invariant-loop-found : goal.invariant-loop-found
+invariant-loop-found g l = record {
+  grows : GrowsByTurns l.initial.session.line l.session.line;
+  number : l.number ≤ length (recorded l.session.line);
+}
+
+abbrev pub decreases-loop-found : goal.decreases-loop-found
+decreases-loop-found g l = length l.results.items
