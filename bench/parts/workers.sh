@@ -2,7 +2,9 @@
 # Work records a second of one worker and of four, and how many times as many those are: 2,000 openings that are made from seed
 # 1, searched 8 plies deep, with the journal in memory, and 400 of them with a journal in the folder for temporary files.
 # The runs of one and of four take turns, and the fastest of three counts; the beginning of the roots is not timed. Then where the
-# time of one worker goes, and what one thread and four make of the searches and their encoding alone, with no bench and no turns.
+# time of one worker goes, and what one thread and four make with no bench and no turns: of the searches and their encoding alone,
+# and of steps in registers that take about as long as one worker, which is what this machine makes of four threads in so short a
+# time.
 #
 # Then `solve` on the named openings, whose searches take far longer than a turn: 2,000 records at depth 8 with one worker, with
 # four, and by four programs of one worker each that run beside each other, which share nothing. What those four make of the

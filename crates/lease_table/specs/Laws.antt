@@ -1,6 +1,6 @@
 -- Sweeping changes no answer about what lives at its number or a later one.
-use Rattle.std.specs.Prelude.{◌≡◌, ℕ, ◌≤◌, length}
-use Rattle.lease_table.specs.Rows.{LeaseRows, is_live, is_leased, live_rows}
+use Rattle.std.specs.Prelude.{◌≡◌, ℕ, ◌≤◌}
+use Rattle.lease_table.specs.Rows.{LeaseRows, is_leased, live_rows}
 
 -- the table that a sweep leaves
 abbrev pub swept : LeaseRows → ℕ → LeaseRows

@@ -1,5 +1,5 @@
 -- Leases that were given, each a row, and which of them live at a number.
-use Rattle.std.specs.Prelude.{◌≡◌, ℕ, ◌+◌, ◌<◌, Bool, false, cond, not, ◌||◌, ◌&&◌, ◌==◌, nat_lt, List, filter, find, count_by, map, length, Option, None}
+use Rattle.std.specs.Prelude.{ℕ, ◌+◌, Bool, false, cond, not, ◌||◌, ◌&&◌, ◌==◌, nat_lt, List, filter, find, map, Option}
 use Rattle.std.specs.List.{list_any}
 use Rattle.std.specs.Option.{option_map_or}
 use Rattle.lease_table.specs.declared.leases.Row.{Row}
@@ -15,6 +15,10 @@ pub record LeaseRows : Type 0 where
 -- A row lives while it is kept, or while the number is below its own and the limit.
 abbrev pub is_live_row : ℕ → ℕ → Row → Bool
 is_live_row limit now row = row.kept || nat_lt now (row.lease.id + limit)
+
+-- It waits while it lives and is not kept.
+abbrev pub is_waiting_row : ℕ → ℕ → Row → Bool
+is_waiting_row limit now row = is_live_row limit now row && not row.kept
 
 abbrev pub has_id : ℕ → Row → Bool
 has_id id row = id == row.lease.id
@@ -41,7 +45,7 @@ abbrev pub first_unkept : List Row → Option Row
 first_unkept rows = find (λ row. not row.kept) rows
 
 abbrev pub first_waiting : LeaseRows → ℕ → Option Row
-first_waiting t now = find (λ row. is_live_row t.limit now row && not row.kept) t.rows
+first_waiting t now = find (is_waiting_row t.limit now) t.rows
 
 -- a lease of this node lives
 abbrev pub is_leased : LeaseRows → ℕ → ℕ → Bool

@@ -1,20 +1,20 @@
 -- One row more, without a parent: one root more.
-use Rattle.std.proofs.Common.{◌≡◌, ◌≢◌, ℕ, zero, suc, ◌+◌, ◌-◌, ◌<◌, ◌≤◌, ◌^◌, Bool, true, false, List, [], ◌∷◌, ◌++◌, map, length, take, drop, get_or, Option, Some, None, refl, sym, ap, ◌∙◌, subst, arith, ⊎_elim, length-append, length-drop}
-use Rattle.std.proofs.lemmas.List.{get_or_append_left, get_or-append-add, take-append-le, drop-append-le, map-append, map-id, length-map, length_push}
+use Rattle.std.proofs.Common.{◌≡◌, ℕ, suc, ◌+◌, ◌-◌, ◌<◌, ◌≤◌, false, List, [], ◌∷◌, ◌++◌, map, length, take, drop, get_or, Option, Some, None, refl, sym, ap, ◌∙◌, subst, arith, ⊎_elim, length-drop}
+use Rattle.std.proofs.lemmas.List.{get_or_append_left, get_or-append-add, take-append-le, drop-append-le, map-append, map-id, length_push}
 use Rattle.std.proofs.lemmas.Bool.{cases_lt}
-use Rattle.std.specs.Prelude.{Contains, min}
+use Rattle.std.specs.Prelude.{Contains}
 use Rattle.std.specs.Map.{keys_of, values_of}
-use Rattle.draughts_board.specs.Board.{Board, IsLawful, other, same_side}
+use Rattle.draughts_board.specs.Board.{Board, IsLawful, other}
 use Rattle.draughts_board.specs.declared.pieces.Side.{Side}
 use Rattle.draughts_board.specs.declared.pieces.Side.TheVariants.{Black, White}
 use Rattle.proof_numbers.specs.declared.leaves.Child.{Child}
 use Rattle.proof_numbers.specs.Facts.{known}
-use Rattle.proof_numbers.specs.Known.{Known, knows_win, knows_hold}
+use Rattle.proof_numbers.specs.Known.{knows_win, knows_hold}
 use Rattle.proof_numbers.specs.declared.numbers.Numbers.{Numbers}
 use Rattle.proof_numbers.specs.Numbers.{mobility}
 use Rattle.proof_tree.specs.declared.rows.NodeRow.{NodeRow}
 use Rattle.proof_tree.specs.declared.rows.Mark.TheVariants.{Unexpanded}
-use Rattle.proof_tree.specs.Forest.{Own, Node, Forest, no_node, node, forest, nodes, size, numbers_at}
+use Rattle.proof_tree.specs.Forest.{Node, no_node, node, forest, size, numbers_at}
 use Rattle.proof_tree.specs.Changes.{appended, with_root}
 use Rattle.proof_tree.specs.Sound.{IsSoundForest, TreeState, root_positions}
 use Rattle.proof_tree.specs.Rows.{blank, row_at, own_of, blank_node, node_in, slice_of, nodes_from, forest_of, kept_numbers, if_root, roots_from, AreLinked, AreCounted, IsCounted, Fits, FitsRow, IsTree, root_row}

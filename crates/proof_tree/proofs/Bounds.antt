@@ -1,7 +1,5 @@
 -- The numbers of a node are no greater than 64 times the number of nodes, so they have room.
-use Rattle.std.proofs.Common.{◌≡◌, ℕ, zero, suc, ◌+◌, ◌-◌, ◌*◌, ◌<◌, ◌≤◌, ◌^◌, min, Bool, true, false, cond, eqb, ◌||◌, List, [], ◌∷◌, ◌++◌, map, length, take, drop, get_or, refl, sym, ap, ◌∙◌, subst, arith, ◌⊎◌, ⊎_elim}
-use Rattle.std.proofs.lemmas.Grind.{common_steps}
-use Rattle.std.proofs.lemmas.Bool.Decides.{nat_tests}
+use Rattle.std.proofs.Common.{◌≡◌, ℕ, suc, ◌+◌, ◌-◌, ◌*◌, ◌<◌, ◌≤◌, ◌^◌, min, Bool, true, false, cond, eqb, ◌||◌, List, [], ◌∷◌, map, length, take, drop, get_or, refl, sym, ap, ◌∙◌, subst, arith, ⊎_elim}
 use Rattle.draughts_board.specs.declared.pieces.Side.{Side}
 use Rattle.draughts_board.specs.declared.pieces.Side.TheVariants.{Black, White}
 use Rattle.draughts_board.specs.Board.{Board, other, same_side}
@@ -10,15 +8,15 @@ use Rattle.proof_numbers.specs.declared.numbers.Number.{Number}
 use Rattle.proof_numbers.specs.declared.numbers.Number.TheVariants.{Finite, Infinite}
 use Rattle.proof_numbers.specs.declared.numbers.Numbers.{Numbers}
 use Rattle.proof_numbers.specs.Known.{Known, knows_win, knows_hold}
-use Rattle.proof_numbers.specs.Numbers.{least, total, least_of, total_of, proved, refuted, unknown, mobility, counted_moves, leaf_numbers, IsFinitely}
+use Rattle.proof_numbers.specs.Numbers.{least, least_of, total_of, proved, refuted, unknown, mobility, leaf_numbers, IsFinitely}
 use Rattle.proof_tree.specs.Sums.{finite_sum, finite_part, IsKeepable}
 use Rattle.proof_tree.specs.declared.rows.NodeRow.{NodeRow}
 use Rattle.proof_tree.specs.declared.rows.Mark.{Mark}
 use Rattle.proof_tree.specs.declared.rows.Mark.TheVariants.{Unexpanded, Expanded, Repeats}
-use Rattle.proof_tree.specs.Forest.{Own, Node, Forest, no_node, node, forest, size, numbers, numbers_at, numbers_by_mark, folded, node_numbers}
+use Rattle.proof_tree.specs.Forest.{Own, Node, Forest, no_node, node, forest, size, numbers, numbers_at, numbers_by_mark, folded}
 use Rattle.proof_tree.specs.Picking.{left_to_show}
-use Rattle.proof_tree.specs.Rows.{blank, row_at, own_of, blank_node, node_in, slice_of, nodes_from, kept_numbers, AreLinked, AreSmall, Fits, FitsRow}
-use Rattle.proof_tree.proofs.Meaning.{node_of, IsMeaning, IsMeaning-nodes}
+use Rattle.proof_tree.specs.Rows.{blank, row_at, slice_of, nodes_from, kept_numbers, AreLinked, AreSmall, Fits, FitsRow}
+use Rattle.proof_tree.proofs.Meaning.{IsMeaning-nodes}
 use Rattle.proof_tree.proofs.KeptNumbers.{slice-is, kept-is}
 use Rattle.proof_tree.proofs.Loops.{total_cases}
 use Rattle.std.proofs.lemmas.List.{get_or_read}

@@ -1,16 +1,16 @@
 -- The root at which the walk begins.
-use Rattle.std.proofs.Common.{◌≡◌, ℕ, zero, suc, ◌+◌, ◌-◌, ◌<◌, ◌≤◌, Bool, true, false, List, [], ◌∷◌, map, length, drop, get_or, slice_get, IfSome, Option, Some, None, is_some, refl, sym, ap, ◌∙◌, subst, arith}
+use Rattle.std.proofs.Common.{◌≡◌, ℕ, zero, suc, ◌+◌, ◌<◌, ◌≤◌, Bool, true, false, List, [], ◌∷◌, map, length, drop, get_or, slice_get, Option, Some, None, is_some, refl, sym, ap, ◌∙◌, arith}
 use Rattle.std.proofs.lemmas.Bool.{false≢true}
-use Rattle.std.proofs.lemmas.List.{drop_more, get_or_read, drop_all, get_or_default, length-map}
+use Rattle.std.proofs.lemmas.List.{drop_more, drop_all, get_or_default}
 use Rattle.draughts_board.specs.declared.pieces.Side.{Side}
 use Rattle.draughts_board.specs.declared.pieces.Side.TheVariants.{Black, White}
 use Rattle.draughts_board.specs.declared.pieces.Value.{Value}
 use Rattle.proof_numbers.specs.declared.numbers.Numbers.{Numbers}
 use Rattle.proof_tree.specs.declared.rows.NodeRow.{NodeRow}
-use Rattle.proof_tree.specs.Forest.{Node, Forest, forest, nodes, node_numbers, goal_by, value_by, value_of, or_else}
+use Rattle.proof_tree.specs.Forest.{Node, forest, nodes, node_numbers, goal_by, value_by, value_of, or_else}
 use Rattle.proof_tree.specs.Picking.{leaf_below, pick_by, pick_at, pick_from}
-use Rattle.proof_tree.specs.Rows.{blank, row_at, node_in, nodes_from, kept_numbers, AreLinked, Fits}
-use Rattle.proof_tree.proofs.Meaning.{IsMeaning, IsMeaning-nodes}
+use Rattle.proof_tree.specs.Rows.{blank, node_in, nodes_from, AreLinked, Fits}
+use Rattle.proof_tree.proofs.Meaning.{IsMeaning-nodes}
 use Rattle.proof_tree.proofs.KeptNumbers.{kept-is}
 
 pub nodes-forest : (xs : List Node) → nodes (forest xs) ≡ xs

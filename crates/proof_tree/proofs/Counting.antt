@@ -1,11 +1,10 @@
 -- How many nodes there are: each row is one node of the forest.
-use Rattle.std.proofs.Common.{◌≡◌, ◌≢◌, ℕ, zero, suc, ◌+◌, ◌-◌, ◌*◌, ◌<◌, ◌≤◌, ◌^◌, Bool, true, false, cond, eqb, leb, List, [], ◌∷◌, ◌++◌, map, length, take, drop, get_or, Option, Some, None, refl, sym, ap, ◌∙◌, subst, arith, ◌⊎◌, inl, inr, ⊎_elim, drop-cons}
-use Rattle.std.proofs.lemmas.Bool.{cases_eq, cases_lt}
+use Rattle.std.proofs.Common.{◌≡◌, ◌≢◌, ℕ, zero, suc, ◌+◌, ◌-◌, ◌<◌, ◌≤◌, ◌^◌, Bool, true, cond, eqb, leb, List, [], ◌∷◌, map, length, take, drop, Option, Some, None, refl, sym, ap, ◌∙◌, arith, ◌⊎◌, inl, inr, ⊎_elim, drop-cons}
 use Rattle.std.proofs.lemmas.Bool.Decides.{nat_tests}
 use Rattle.proof_tree.specs.declared.rows.NodeRow.{NodeRow}
-use Rattle.proof_tree.specs.Forest.{Own, Node, Forest, no_node, node, forest, size}
-use Rattle.proof_tree.specs.Rows.{blank, row_at, own_of, blank_node, node_in, slice_of, nodes_from, forest_of, if_root, roots_from, AreLinked, AreSmall}
-use Rattle.proof_tree.proofs.Meaning.{node_of, IsMeaning, IsMeaning-nodes}
+use Rattle.proof_tree.specs.Forest.{Node, forest, size}
+use Rattle.proof_tree.specs.Rows.{row_at, blank_node, node_in, nodes_from, forest_of, if_root, roots_from, AreLinked, AreSmall}
+use Rattle.proof_tree.proofs.Meaning.{IsMeaning, IsMeaning-nodes}
 
 -- f d + .. + f (d + c - 1)
 between : (ℕ → ℕ) → ℕ → ℕ → ℕ

@@ -1,9 +1,9 @@
 -- What holds of each node of a forest, and which node a number names.
-use Rattle.std.proofs.Common.{◌≡◌, ◌≢◌, ℕ, zero, suc, ◌+◌, ◌<◌, ◌≤◌, Bool, true, false, cond, eqb, List, [], ◌∷◌, ◌++◌, map, Option, Some, None, refl, sym, ap, ◌∙◌, subst, arith, ◌⊎◌, inl, inr, ⊎_elim}
-use Rattle.std.proofs.lemmas.Bool.{false≢true, eqb-true}
+use Rattle.std.proofs.Common.{◌≡◌, ℕ, ◌+◌, ◌≤◌, Bool, true, false, cond, eqb, List, ◌∷◌, ◌++◌, Option, Some, None, refl, sym, ap, ◌∙◌, subst, arith, ◌⊎◌, inl, inr, ⊎_elim}
+use Rattle.std.proofs.lemmas.Bool.{false≢true}
 use Rattle.std.proofs.lemmas.Bool.Decides.{nat_tests}
 use Rattle.draughts_board.specs.Board.{Board}
-use Rattle.proof_tree.specs.Forest.{Own, Forest, no_node, node, Node, nodes, node_at, or_else, size}
+use Rattle.proof_tree.specs.Forest.{Own, Forest, no_node, node, Node, node_at, or_else}
 use Rattle.proof_tree.specs.Changes.{appended, changed}
 use Rattle.proof_tree.specs.Sound.{EachNode, occurrences, root_positions}
 

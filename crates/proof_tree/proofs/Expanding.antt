@@ -1,16 +1,16 @@
 -- Rows for the children of a row are the node with these children.
-use Rattle.std.proofs.Common.{◌≡◌, ◌≢◌, ℕ, zero, suc, ◌+◌, ◌-◌, ◌<◌, ◌≤◌, Bool, true, false, eqb, cond, List, [], ◌∷◌, ◌++◌, map, length, take, drop, get_or, Some, None, refl, sym, ap, ◌∙◌, subst, arith, length-drop, get_or-drop, get_or-take, length-take, length-append, ⊎_elim, inl, inr, ◌⊎◌}
-use Rattle.std.proofs.lemmas.List.{ext_get_or, take-map, drop-map, get_or-map, length-map, drop-append-le, take-append-le, drop_at, take_all, get_or_append_left, get_or-append-add, length-take-le, get_or-append_right}
+use Rattle.std.proofs.Common.{◌≡◌, ◌≢◌, ℕ, zero, suc, ◌+◌, ◌-◌, ◌<◌, ◌≤◌, true, false, eqb, cond, List, [], ◌∷◌, ◌++◌, map, length, take, drop, Some, refl, sym, ap, ◌∙◌, subst, arith, length-drop, get_or-drop, get_or-take, length-append, ⊎_elim}
+use Rattle.std.proofs.lemmas.List.{get_or-map, length-map, drop-append-le, take-append-le, drop_at, take_all, get_or_append_left, get_or-append-add, length-take-le}
 use Rattle.std.proofs.lemmas.Bool.{cases_eq, cases_lt}
 use Rattle.draughts_board.specs.Board.{Board}
 use Rattle.proof_numbers.specs.declared.leaves.Child.{Child}
 use Rattle.proof_tree.specs.declared.rows.NodeRow.{NodeRow}
 use Rattle.proof_tree.specs.declared.rows.Mark.TheVariants.{Expanded}
 use Rattle.proof_numbers.specs.Numbers.{mobility}
-use Rattle.proof_tree.specs.Forest.{Own, Node, Forest, no_node, node, forest}
+use Rattle.proof_tree.specs.Forest.{Own, Node, no_node, node, forest}
 use Rattle.proof_tree.specs.Changes.{expanded, expand_own, new_nodes}
-use Rattle.proof_tree.specs.Rows.{blank, row_at, own_of, blank_node, node_in, slice_of, nodes_from, AreLinked, AreRekept, AreExpanded, path}
-use Rattle.proof_tree.proofs.Meaning.{node_with, node_of, IsMeaning}
+use Rattle.proof_tree.specs.Rows.{row_at, own_of, blank_node, node_in, slice_of, AreLinked, AreRekept, AreExpanded, path}
+use Rattle.proof_tree.proofs.Meaning.{node_of, IsMeaning}
 use Rattle.proof_tree.proofs.KeptNumbers.{map-slice}
 use Rattle.proof_tree.proofs.Lines.{path-at}
 

@@ -10,10 +10,10 @@ use Rattle.proof_tree.specs.declared.rows.NodeRow.{NodeRow}
 use Rattle.proof_tree.specs.declared.rows.Mark.TheVariants.{Unexpanded}
 use Rattle.proof_tree.specs.Changes.{learn, with_facts, with_children, with_root}
 use Rattle.proof_tree.specs.Forest.{Node, Forest, nodes, node_at}
-use Rattle.proof_tree.specs.Rows.{row_at, own_of, forest_of, settled_front, root_row, HaveSameLinks, AreExpanded, Fits, IsTree}
+use Rattle.proof_tree.specs.Rows.{row_at, own_of, forest_of, settled_front, AreNoted, root_row, HaveSameLinks, AreExpanded, Fits, IsTree}
 use Rattle.proof_tree.specs.Sound.{TreeState, root_positions}
 use Rattle.proof_tree.proofs.Adding.{more, more_entries, forests-more, IsTree-added}
-use Rattle.proof_tree.proofs.Settled.{front_with_root, front_with_facts, front_with_children}
+use Rattle.proof_tree.proofs.Settled.{AllStay, still_noted, front_with_root, front_with_facts, front_with_children, all_with_root, all_with_facts, all_with_children}
 use Rattle.proof_tree.proofs.SoundForests.{IsOpening}
 use Rattle.proof_tree.proofs.Trees.{seen, the_node, found-there, said-of-row, is_some-from, leaf_there, spare_is, roots-many, forests-learnt, forests-expanded, IsTree-learnt, IsTree-expanded}
 
@@ -27,9 +27,13 @@ at_front : (front : ℕ) (old new after : Forest) → front ≡ settled_front (n
 at_front front old new after is le same = subst (λ (t : Forest). front ≤ settled_front (nodes t)) (sym same) (omega (arith, is, le))
 
 -- the rows of a tree after a change, with so many settled roots at the front at least
-pub record IsNext (after : List NodeRow) (entries : List (Board × ℕ)) (space root_space spare front : ℕ) : Type 0 where
+pub record IsNext (before : Forest) (after : List NodeRow) (entries : List (Board × ℕ)) (space root_space spare front : ℕ) : Type 0 where
   pub tree : IsTree after entries space root_space spare
   pub settled : front ≤ settled_front (nodes (forest_of after (values_of entries)))
+  pub noted : (ends starts : List ℕ) → AreNoted (nodes before) ends starts → AreNoted (nodes (forest_of after (values_of entries))) ends starts
+
+noted_in : (old new after : Forest) → AllStay (nodes old) (nodes new) → after ≡ new → (ends starts : List ℕ) → AreNoted (nodes old) ends starts → AreNoted (nodes after) ends starts
+noted_in old new after all same ends starts noted = subst (λ (t : Forest). AreNoted (nodes t) ends starts) (sym same) (still_noted (nodes old) (nodes new) ends starts all noted)
 
 pub owns-from : (n num : ℕ) (facts : Known) (rows before after : List NodeRow) → before ≡ rows → num ≡ n
     → ((k : ℕ) → own_of k (row_at after k) ≡ learn num facts (own_of k (row_at before k)))
@@ -57,7 +61,7 @@ module _ (rows : List NodeRow) (entries : List (Board × ℕ)) (space root_space
 
     pub next-learnt : (facts : Known) (agree : IfSome (node_at n g.forest) (λ y. IsConsistent (joined y.own.facts facts))) (before after : List NodeRow) → before ≡ rows
         → (num : ℕ) → num ≡ n → HaveSameLinks before after → ((k : ℕ) → own_of k (row_at after k) ≡ learn num facts (own_of k (row_at before k)))
-        → ((k : ℕ) → k < length after → Fits after k) → IsNext after entries space root_space spare front
+        → ((k : ℕ) → k < length after → Fits after k) → IsNext (forest_of rows (values_of entries)) after entries space root_space spare front
     unfolding x
     next-learnt facts agree before after same_rows num same_num links owns fits =
         let old = forest_of rows (values_of entries) in
@@ -69,11 +73,13 @@ module _ (rows : List NodeRow) (entries : List (Board × ℕ)) (space root_space
           settled = at_front front old (with_facts n facts old) (forest_of after (values_of entries)) front_is
               (front_with_facts old n x tree.sound here unexpanded facts agrees)
               (forests-learnt rows entries space root_space spare tree g is n after facts some agree same told);
+          noted = noted_in old (with_facts n facts old) (forest_of after (values_of entries)) (all_with_facts old n x tree.sound here unexpanded facts agrees)
+              (forests-learnt rows entries space root_space spare tree g is n after facts some agree same told);
         }
 
     pub next-expanded : (children : List Child) (after : List NodeRow) (opening : IfSome (node_at n g.forest) (IsOpening children)) (num : ℕ) → num ≡ n
         → AreExpanded rows after num children → length children ≤ g.spare → (space' : ℕ) → space ≤ space' → ((k : ℕ) → k < length after → Fits after k)
-        → IsNext after entries space' root_space (spare - length children) front
+        → IsNext (forest_of rows (values_of entries)) after entries space' root_space (spare - length children) front
     next-expanded children after opening num same_num stepped enough space' wider fits =
         let old = forest_of rows (values_of entries) in
         let at = leaf_there rows entries space root_space spare tree g is n leaf in
@@ -85,20 +91,25 @@ module _ (rows : List NodeRow) (entries : List (Board × ℕ)) (space root_space
           settled = at_front front old (with_children n children old) (forest_of after (values_of entries)) front_is
               (front_with_children old n x tree.sound here unexpanded children)
               (forests-expanded rows entries space root_space spare tree g is n children after at.0 at.1 some opening step);
+          noted = noted_in old (with_children n children old) (forest_of after (values_of entries)) (all_with_children old n x tree.sound here unexpanded children)
+              (forests-expanded rows entries space root_space spare tree g is n children after at.0 at.1 some opening step);
         }
 
   pub next-added : (root : Child) → 1 ≤ g.spare → length (nodes g.forest) < 65536 → IsLawful root.position → ¬ Contains (root_positions g.forest) root.position
       → (after : List NodeRow) (new : List (Board × ℕ)) (number : ℕ) → after ≡ rows ++ root_row (length rows) root ∷ [] → new ≡ entries ++ (root.position, number) ∷ []
-      → number ≡ length rows → (space' root_space' : ℕ) → space ≤ space' → root_space ≤ root_space' + 1 → IsNext after new space' root_space' (spare - 1) front
+      → number ≡ length rows → (space' root_space' : ℕ) → space ≤ space' → root_space ≤ root_space' + 1 → IsNext (forest_of rows (values_of entries)) after new space' root_space' (spare - 1) front
   next-added root room few lawful absent after new number rows_are entries_are number_is space' root_space' wider longer =
       let old = forest_of rows (values_of entries) in
       let many = roots-many rows entries space root_space spare tree g is in
       let entries_now : new ≡ entries ++ (root.position, length rows) ∷ [] = entries_are ∙ ap (λ (k : ℕ). entries ++ (root.position, k) ∷ []) number_is in
-      subst (λ (xs : List NodeRow). IsNext xs new space' root_space' (spare - 1) front) (sym rows_are)
-      (subst (λ (es : List (Board × ℕ)). IsNext (rows ++ root_row (length rows) root ∷ []) es space' root_space' (spare - 1) front) (sym entries_now)
+      subst (λ (xs : List NodeRow). IsNext (forest_of rows (values_of entries)) xs new space' root_space' (spare - 1) front) (sym rows_are)
+      (subst (λ (es : List (Board × ℕ)). IsNext (forest_of rows (values_of entries)) (rows ++ root_row (length rows) root ∷ []) es space' root_space' (spare - 1) front) (sym entries_now)
       (record {
         tree = IsTree-added rows entries space root_space spare tree g is root room (omega (arith, many, few)) lawful absent space' root_space' wider longer (spare - 1) refl;
         settled = at_front front old (with_root root.position (known root.facts) old)
             (forest_of (more rows entries space root_space spare tree g is root) (values_of (more_entries rows entries space root_space spare tree g is root))) front_is
             (front_with_root root.position (known root.facts) old) (forests-more rows entries space root_space spare tree g is root);
+        noted = noted_in old (with_root root.position (known root.facts) old)
+            (forest_of (more rows entries space root_space spare tree g is root) (values_of (more_entries rows entries space root_space spare tree g is root)))
+            (all_with_root root.position (known root.facts) old) (forests-more rows entries space root_space spare tree g is root);
       }))

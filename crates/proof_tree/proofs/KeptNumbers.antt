@@ -1,13 +1,13 @@
 -- Where the numbers that each row keeps fit those of its children, they are the numbers of its node.
-use Rattle.std.proofs.Common.{◌≡◌, ℕ, zero, suc, ◌+◌, ◌-◌, ◌<◌, ◌≤◌, List, [], ◌∷◌, ◌++◌, map, length, take, drop, get_or, refl, sym, ap, ◌∙◌, arith, length-drop, get_or-drop}
+use Rattle.std.proofs.Common.{◌≡◌, ℕ, zero, suc, ◌+◌, ◌-◌, ◌<◌, ◌≤◌, List, [], ◌∷◌, map, length, take, drop, refl, sym, ap, ◌∙◌, arith, length-drop, get_or-drop}
 use Rattle.std.proofs.lemmas.List.{ext_get_or, take-map, drop-map, get_or-map, length-map}
 use Rattle.draughts_board.specs.declared.pieces.Side.{Side}
 use Rattle.proof_numbers.specs.declared.numbers.Numbers.{Numbers}
 use Rattle.proof_numbers.specs.Numbers.{refuted}
 use Rattle.proof_tree.specs.declared.rows.NodeRow.{NodeRow}
 use Rattle.proof_tree.specs.Forest.{Node, forest, numbers, numbers_at, node_numbers}
-use Rattle.proof_tree.specs.Rows.{blank, row_at, own_of, blank_node, node_in, slice_of, nodes_from, kept_numbers, AreLinked, FitsRow}
-use Rattle.proof_tree.proofs.Meaning.{node_of, IsMeaning}
+use Rattle.proof_tree.specs.Rows.{blank, row_at, own_of, blank_node, node_in, slice_of, kept_numbers, AreLinked, FitsRow}
+use Rattle.proof_tree.proofs.Meaning.{IsMeaning}
 
 pub numbers-forest : (goal : Side) (xs : List Node) → numbers goal (forest xs) ≡ map (node_numbers goal) xs
 numbers-forest goal [] = refl

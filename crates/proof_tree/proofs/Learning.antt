@@ -1,5 +1,5 @@
 -- Facts for one row.
-use Rattle.std.proofs.Common.{◌≡◌, ◌≢◌, ℕ, zero, suc, ◌+◌, ◌-◌, ◌<◌, ◌≤◌, ◌^◌, Bool, true, false, cond, eqb, List, [], ◌∷◌, ◌++◌, map, length, take, drop, get_or, set, refl, sym, ap, ◌∙◌, subst, arith, ⊎_elim, length-set, length-drop, get_or-drop, get_or-take, get_or-set_same, get_or-set_other}
+use Rattle.std.proofs.Common.{◌≡◌, ◌≢◌, ℕ, ◌+◌, ◌<◌, ◌≤◌, Bool, true, false, cond, eqb, List, map, length, take, drop, get_or, set, refl, sym, ap, ◌∙◌, subst, arith, ⊎_elim, length-set, length-drop, get_or-drop, get_or-take, get_or-set_same, get_or-set_other}
 use Rattle.std.proofs.lemmas.List.{get_or_default, ext_get_or, get_or-map, length-map, length-take-le}
 use Rattle.std.proofs.lemmas.Bool.{cases_eq}
 use Rattle.draughts_board.specs.declared.pieces.Side.{Side}
@@ -7,15 +7,13 @@ use Rattle.draughts_board.specs.declared.pieces.Side.TheVariants.{Black, White}
 use Rattle.proof_numbers.specs.declared.facts.Facts.{Facts}
 use Rattle.proof_numbers.specs.Facts.{known}
 use Rattle.proof_numbers.specs.Known.{Known, joined}
-use Rattle.proof_numbers.specs.declared.numbers.Numbers.{Numbers}
 use Rattle.proof_numbers.specs.Numbers.{refuted, mobility}
 use Rattle.proof_tree.specs.declared.rows.NodeRow.{NodeRow}
-use Rattle.proof_tree.specs.Forest.{Own, Node, Forest, forest, size, numbers_at}
-use Rattle.proof_tree.specs.Changes.{learn, changed}
-use Rattle.proof_tree.specs.Rows.{blank, row_at, own_of, blank_node, node_in, slice_of, nodes_from, forest_of, kept_numbers, AreLinked, AreSmall, HaveSameLinks, AreRekept, Fits, FitsRow, AreCounted, IsCounted}
-use Rattle.proof_tree.proofs.Meaning.{node_of, IsMeaning, IsMeaning-nodes, nodes_from-is}
+use Rattle.proof_tree.specs.Forest.{Own, numbers_at}
+use Rattle.proof_tree.specs.Changes.{learn}
+use Rattle.proof_tree.specs.Rows.{blank, row_at, own_of, slice_of, kept_numbers, AreLinked, HaveSameLinks, AreRekept, Fits, FitsRow, AreCounted}
 use Rattle.proof_tree.proofs.KeptNumbers.{map-slice}
-use Rattle.proof_tree.proofs.Updates.{change, AreLinked-same, IsMeaning-change}
+use Rattle.proof_tree.proofs.Updates.{AreLinked-same}
 
 -- what a row's children keep, where those of both rows keep the same
 pub kept_slice : (rows after : List NodeRow) (goal : Side) (r : NodeRow) → r.first + r.count ≤ length rows → length rows ≤ length after

@@ -19,6 +19,7 @@ pub mod Climbing
 pub mod Searching
 pub mod Choosing
 pub mod EachNode
+pub mod Noting
 pub mod Numbered
 pub mod SoundForests
 pub mod OpenLeaves

@@ -1,10 +1,10 @@
 -- One child further, in the least and in the sum of numbers.
-use Rattle.std.proofs.Common.{◌≡◌, ℕ, zero, suc, ◌+◌, ◌-◌, ◌<◌, ◌≤◌, ◌^◌, List, [], ◌∷◌, ◌++◌, map, length, take, drop, get_or, refl, sym, ap, ◌∙◌, subst, arith, ◌⊎◌, inl, inr, ⊎_elim}
-use Rattle.std.proofs.lemmas.List.{map_more, take_all, get_or_read}
+use Rattle.std.proofs.Common.{◌≡◌, ℕ, zero, suc, ◌+◌, ◌<◌, ◌≤◌, ◌^◌, List, [], ◌∷◌, ◌++◌, map, length, take, get_or, refl, sym, ap, ◌∙◌, subst, arith, ◌⊎◌, inl, inr, ⊎_elim}
+use Rattle.std.proofs.lemmas.List.{map_more, take_all}
 use Rattle.proof_numbers.specs.declared.numbers.Number.{Number}
 use Rattle.proof_numbers.specs.declared.numbers.Number.TheVariants.{Finite, Infinite}
 use Rattle.proof_numbers.specs.Numbers.{least, total, least_of, total_of, IsFinitely}
-use Rattle.proof_tree.specs.Sums.{finite_sum, finite_part}
+use Rattle.proof_tree.specs.Sums.{finite_sum}
 use Rattle.proof_tree.proofs.Folds.{least_of-push, total_of-push}
 use Rattle.proof_tree.specs.declared.rows.NodeRow.{NodeRow}
 

@@ -1,5 +1,5 @@
 -- Mending what one row keeps, on the way up to its root.
-use Rattle.std.proofs.Common.{◌≡◌, ◌≢◌, ℕ, zero, suc, ◌+◌, ◌-◌, ◌<◌, ◌≤◌, ◌^◌, List, [], ◌∷◌, ◌++◌, map, length, take, drop, get_or, set, Option, Some, None, refl, sym, ap, ◌∙◌, subst, arith, ◌⊎◌, inl, inr, ⊎_elim, length-set, get_or-set_same, get_or-set_other}
+use Rattle.std.proofs.Common.{◌≡◌, ◌≢◌, ℕ, ◌+◌, ◌-◌, ◌<◌, ◌≤◌, ◌^◌, List, map, length, take, drop, get_or, set, Option, Some, None, refl, sym, ap, ◌∙◌, subst, arith, ◌⊎◌, inl, inr, ⊎_elim, length-set, get_or-set_same, get_or-set_other}
 use Rattle.std.proofs.lemmas.List.{drop-set-lt, drop-set-add, take-set-le, get_or_default}
 use Rattle.std.proofs.lemmas.Bool.{cases_eq, cases_lt}
 use Rattle.draughts_board.specs.declared.pieces.Side.{Side}
@@ -8,7 +8,7 @@ use Rattle.proof_numbers.specs.declared.numbers.Numbers.{Numbers}
 use Rattle.proof_tree.specs.declared.rows.NodeRow.{NodeRow}
 use Rattle.proof_numbers.specs.Numbers.{mobility}
 use Rattle.proof_tree.specs.Forest.{Own, Node, size, numbers_at}
-use Rattle.proof_tree.specs.Rows.{blank, row_at, own_of, blank_node, node_in, slice_of, nodes_from, kept_numbers, AreLinked, AreSmall, HaveSameLinks, AreRekept, Fits, FitsRow, AreCounted, IsCounted}
+use Rattle.proof_tree.specs.Rows.{blank, row_at, own_of, node_in, slice_of, nodes_from, kept_numbers, AreLinked, AreSmall, AreRekept, Fits, FitsRow, AreCounted, IsCounted}
 use Rattle.proof_tree.proofs.Meaning.{IsMeaning-nodes, nodes_from-is}
 use Rattle.proof_tree.proofs.Updates.{AreLinked-same, IsMeaning-kept}
 

@@ -1,13 +1,13 @@
 -- Every change of a forest numbers the new nodes with the next numbers.
-use Rattle.std.proofs.Common.{◌≡◌, ◌≢◌, ℕ, zero, suc, ◌+◌, ◌-◌, ◌<◌, ◌≤◌, Bool, true, false, cond, eqb, ltb, List, [], ◌∷◌, length, Some, refl, sym, ap, ◌∙◌, subst, arith, ◌⊎◌, ⊎_elim}
+use Rattle.std.proofs.Common.{◌≡◌, ◌≢◌, ℕ, zero, suc, ◌+◌, ◌<◌, ◌≤◌, Bool, true, false, cond, eqb, ltb, List, [], ◌∷◌, length, refl, sym, ap, ◌∙◌, arith, ⊎_elim}
 use Rattle.std.specs.Prelude.{nat_lt}
-use Rattle.std.proofs.lemmas.Bool.{false≢true, eqb-true, cases_eq, cases_lt}
+use Rattle.std.proofs.lemmas.Bool.{eqb-true, cases_eq, cases_lt}
 use Rattle.std.proofs.lemmas.Bool.Decides.{nat_tests}
 use Rattle.draughts_board.specs.Board.{Board}
 use Rattle.proof_numbers.specs.declared.leaves.Child.{Child}
 use Rattle.proof_tree.specs.declared.rows.Mark.TheVariants.{Expanded}
-use Rattle.proof_tree.specs.Forest.{Own, Forest, no_node, node, Node, forest, size}
-use Rattle.proof_tree.specs.Changes.{appended, changed, with_root, new_nodes, expand_own, expanded, with_children}
+use Rattle.proof_tree.specs.Forest.{Own, Forest, no_node, node, forest, size}
+use Rattle.proof_tree.specs.Changes.{appended, changed, new_nodes, expand_own, expanded, with_children}
 use Rattle.proof_tree.specs.Sound.{EachNode, occurrences}
 
 pub size-appended : (s t : Forest) → size (appended s t) ≡ size s + size t

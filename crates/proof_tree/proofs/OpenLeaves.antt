@@ -1,5 +1,5 @@
 -- Where nothing is taken, an unresolved node leads to an open leaf.
-use Rattle.std.proofs.Common.{◌≡◌, ℕ, zero, suc, ◌+◌, ◌<◌, ◌≤◌, min, Bool, true, false, cond, eqb, ◌||◌, ◌&&◌, List, [], ◌∷◌, map, Option, Some, None, IsSome, is_some, refl, sym, ap, ◌∙◌, subst, arith, ◌⊎◌, inl, inr, ⊎_elim}
+use Rattle.std.proofs.Common.{◌≡◌, ℕ, zero, suc, ◌+◌, ◌<◌, min, Bool, true, false, cond, eqb, ◌||◌, ◌&&◌, List, [], ◌∷◌, map, Option, Some, None, IsSome, refl, sym, ap, ◌∙◌, subst, arith, ◌⊎◌, inl, inr, ⊎_elim}
 use Rattle.std.specs.Prelude.{All}
 use Rattle.std.proofs.lemmas.Bool.{false≢true}
 use Rattle.std.proofs.lemmas.Bool.Decides.{nat_tests}
@@ -16,7 +16,7 @@ use Rattle.proof_numbers.specs.Known.{knows_win, knows_hold}
 use Rattle.proof_numbers.specs.Numbers.{least, total, least_of, total_of, proved, refuted, is_zero, is_resolved}
 use Rattle.proof_tree.specs.declared.rows.Mark.{Mark}
 use Rattle.proof_tree.specs.declared.rows.Mark.TheVariants.{Unexpanded, Expanded, Repeats}
-use Rattle.proof_tree.specs.Forest.{Own, Forest, no_node, node, Node, nodes, folded, numbers_by_mark, numbers_at, numbers, node_numbers, goal_by, value_by, goal_of, value_of, or_else}
+use Rattle.proof_tree.specs.Forest.{Own, Forest, no_node, node, Node, folded, numbers_by_mark, numbers_at, numbers, node_numbers, goal_of, value_of, or_else}
 use Rattle.proof_tree.specs.Picking.{Way, better, is_below, left_to_show, leaf_of, way_of, open_by, leaf_at, best_way, leaf_below, pick_by, pick_at, pick_from}
 
 abbrev pub free : ℕ → Bool

@@ -1,8 +1,8 @@
 -- The rows with the children of row n behind them, and row n marked as expanded.
-use Rattle.std.proofs.Common.{◌≡◌, ◌≢◌, ℕ, zero, suc, ◌+◌, ◌-◌, ◌<◌, ◌≤◌, ◌^◌, Bool, true, false, cond, eqb, ◌||◌, List, [], ◌∷◌, ◌++◌, map, length, take, drop, get_or, set, Option, Some, None, refl, sym, ap, ◌∙◌, subst, arith, ◌⊎◌, inl, inr, ⊎_elim, length-append, length-set, get_or-set_same, get_or-set_other}
+use Rattle.std.proofs.Common.{◌≡◌, ◌≢◌, ℕ, zero, suc, ◌+◌, ◌-◌, ◌<◌, Bool, true, false, cond, eqb, ◌||◌, List, [], ◌∷◌, ◌++◌, map, length, Some, refl, sym, ap, ◌∙◌, subst, arith, ⊎_elim, length-append, length-set, get_or-set_same, get_or-set_other}
 use Rattle.std.proofs.lemmas.List.{get_or_append_left, get_or-append-add}
 use Rattle.std.proofs.lemmas.Bool.{cases_eq, cases_lt}
-use Rattle.draughts_board.specs.Board.{Board, other, same_side}
+use Rattle.draughts_board.specs.Board.{Board, other}
 use Rattle.draughts_board.specs.declared.pieces.Side.{Side}
 use Rattle.draughts_board.specs.declared.pieces.Side.TheVariants.{Black, White}
 use Rattle.proof_numbers.specs.declared.leaves.Child.{Child}
@@ -12,9 +12,9 @@ use Rattle.proof_numbers.specs.Known.{knows_win, knows_hold}
 use Rattle.proof_numbers.specs.Numbers.{proved, refuted, unknown, mobility, leaf_numbers}
 use Rattle.proof_tree.specs.declared.rows.NodeRow.{NodeRow}
 use Rattle.proof_tree.specs.declared.rows.Mark.TheVariants.{Unexpanded, Expanded, Repeats}
-use Rattle.proof_tree.specs.Forest.{Own, Node, Forest, no_node, node, forest, numbers_at, numbers_by_mark}
-use Rattle.proof_tree.specs.Changes.{expand_own, new_nodes, stands_on}
-use Rattle.proof_tree.specs.Rows.{blank, row_at, own_of, blank_node, node_in, slice_of, nodes_from, kept_numbers, AreLinked, AreRekept, AreExpanded, Fits, FitsRow, AreCounted, IsCounted, path, new_row, new_rows, opened}
+use Rattle.proof_tree.specs.Forest.{Own, numbers_at, numbers_by_mark}
+use Rattle.proof_tree.specs.Changes.{new_nodes, stands_on}
+use Rattle.proof_tree.specs.Rows.{blank, row_at, own_of, node_in, slice_of, nodes_from, kept_numbers, AreLinked, AreExpanded, Fits, FitsRow, AreCounted, IsCounted, path, new_row, new_rows, opened}
 use Rattle.proof_tree.proofs.Meaning.{IsMeaning-nodes}
 use Rattle.proof_tree.proofs.Expanding.{AreLinked-expanded}
 use Rattle.proof_tree.proofs.Learning.{kept_slice}

@@ -1,12 +1,12 @@
 -- The order in which children are tried is a total one.
-use Rattle.std.proofs.Common.{◌≡◌, ◌≢◌, ℕ, zero, suc, ◌+◌, ◌-◌, ◌<◌, ◌≤◌, Bool, true, false, cond, ltb, List, length, Option, Some, None, refl, sym, ap, ◌∙◌, subst, arith, ◌⊎◌, inl, inr, ⊎_elim}
-use Rattle.std.proofs.lemmas.Bool.{false≢true, cases_eq, cases_lt}
+use Rattle.std.proofs.Common.{◌≡◌, ◌≢◌, ℕ, ◌+◌, ◌<◌, ◌≤◌, Bool, true, false, cond, ltb, List, Option, Some, None, refl, sym, ◌∙◌, subst, arith, ◌⊎◌, inl, inr, ⊎_elim}
+use Rattle.std.proofs.lemmas.Bool.{false≢true, cases_eq}
 use Rattle.std.proofs.lemmas.Bool.Decides.{nat_tests}
 use Rattle.draughts_board.specs.declared.pieces.Side.{Side}
 use Rattle.proof_numbers.specs.declared.numbers.Number.{Number}
 use Rattle.proof_numbers.specs.declared.numbers.Number.TheVariants.{Finite, Infinite}
 use Rattle.proof_tree.specs.declared.rows.NodeRow.{NodeRow}
-use Rattle.proof_tree.specs.Walking.{is_before, key, comes, is_behind, is_candidate, first_child_of, IsFirst}
+use Rattle.proof_tree.specs.Walking.{is_before, key, comes, is_candidate, first_child_of, IsFirst}
 
 finite_trans : (l a m b n c : ℕ) → cond (ltb l m) true (cond (ltb m l) false (ltb a b)) ≡ true → cond (ltb m n) true (cond (ltb n m) false (ltb b c)) ≡ true
     → cond (ltb l n) true (cond (ltb n l) false (ltb a c)) ≡ true

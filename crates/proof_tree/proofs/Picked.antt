@@ -1,6 +1,6 @@
 -- The leaf that is picked is an open leaf of the forest.
-use Rattle.std.proofs.Common.{◌≡◌, ℕ, zero, suc, ◌+◌, ◌<◌, ◌≤◌, Bool, true, false, cond, eqb, List, [], ◌∷◌, Option, Some, None, IfSome, IsSomeAnd, refl, sym, ap, ◌∙◌, subst, arith, ◌⊎◌, inl, inr, ⊎_elim}
-use Rattle.std.proofs.lemmas.Bool.{false≢true, eqb-true}
+use Rattle.std.proofs.Common.{◌≡◌, ℕ, ◌+◌, ◌≤◌, Bool, true, false, cond, eqb, List, [], ◌∷◌, Option, Some, None, IfSome, IsSomeAnd, refl, sym, ap, subst, arith, ◌⊎◌, inl, inr, ⊎_elim}
+use Rattle.std.proofs.lemmas.Bool.{false≢true}
 use Rattle.draughts_board.specs.Board.{Board, same_side}
 use Rattle.draughts_board.specs.declared.pieces.Side.{Side}
 use Rattle.draughts_board.specs.declared.pieces.Value.{Value}
@@ -8,7 +8,7 @@ use Rattle.proof_numbers.specs.declared.numbers.Number.{Number}
 use Rattle.proof_numbers.specs.Numbers.{is_resolved}
 use Rattle.proof_tree.specs.declared.rows.Mark.{Mark}
 use Rattle.proof_tree.specs.declared.rows.Mark.TheVariants.{Unexpanded, Expanded, Repeats}
-use Rattle.proof_tree.specs.Forest.{Own, Forest, no_node, node, Node, nodes, node_at, numbers, numbers_at, node_numbers, goal_of, value_of, or_else}
+use Rattle.proof_tree.specs.Forest.{Own, Forest, no_node, node, Node, nodes, node_at, numbers, numbers_at, goal_of, value_of, or_else}
 use Rattle.proof_tree.specs.Picking.{Way, better, is_below, left_to_show, leaf_of, way_of, open_by, leaf_at, best_way, leaf_below, pick_by, pick_at, pick_from, pick, IsOpenLeaf}
 use Rattle.proof_tree.specs.Sound.{EachNode, IsSoundForest, occurrences}
 use Rattle.proof_tree.proofs.EachNode.{only_node, missing_occurs, test_true}

@@ -1,10 +1,10 @@
 -- Pushing the rows of new nodes, one child after the other.
-use Rattle.std.proofs.Common.{◌≡◌, ℕ, zero, suc, ◌+◌, ◌-◌, ◌<◌, ◌≤◌, Bool, true, false, cond, List, [], ◌∷◌, ◌++◌, length, take, drop, get_or, Option, Some, None, refl, sym, ap, ◌∙◌, subst, arith, append_assoc, append-nil, length-append, take_at}
-use Rattle.std.proofs.lemmas.List.{take_more, take_all, get_or_read, length-take-le}
+use Rattle.std.proofs.Common.{◌≡◌, ℕ, suc, ◌+◌, ◌<◌, ◌≤◌, List, [], ◌∷◌, ◌++◌, length, take, get_or, Some, refl, sym, ap, ◌∙◌, arith, append_assoc, append-nil, length-append, take_at}
+use Rattle.std.proofs.lemmas.List.{take_more, take_all, length-take-le}
 use Rattle.draughts_board.specs.Board.{Board}
 use Rattle.proof_numbers.specs.declared.leaves.Child.{Child}
 use Rattle.proof_tree.specs.declared.rows.NodeRow.{NodeRow}
-use Rattle.proof_tree.specs.Rows.{blank, row_at, AreLinked, path, new_row, new_rows}
+use Rattle.proof_tree.specs.Rows.{path, new_row, new_rows}
 
 pub length-new_rows : (above : List Board) (parent next : ℕ) (children : List Child) → length (new_rows above parent next children) ≡ length children
 length-new_rows above parent next [] = refl

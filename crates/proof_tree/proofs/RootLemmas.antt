@@ -1,6 +1,6 @@
 -- Roots found by their positions.
-use Rattle.std.proofs.Common.{◌≡◌, ℕ, ◌<◌, Bool, true, false, List, get_or, Option, Some, None, is_some, refl, sym, ap, ◌∙◌, ◌↔◌}
-use Rattle.std.specs.Prelude.{Contains, IsNone, IsSome, slice_get, position}
+use Rattle.std.proofs.Common.{◌≡◌, ℕ, true, false, List, get_or, Option, Some, None, is_some, refl, sym, ap, ◌∙◌, ◌↔◌}
+use Rattle.std.specs.Prelude.{Contains, IsNone, slice_get, position}
 use Rattle.std.specs.List.{list_any}
 use Rattle.std.specs.Map.{keys_of, lookup}
 use Rattle.std.proofs.lemmas.Bool.{false≢true}
@@ -9,7 +9,7 @@ use Rattle.std.proofs.lemmas.Map.Made.{is_some-lookup}
 use Rattle.std.proofs.lemmas.Map.Views.{Contains-keys_from_lookup, list_any-from_Contains}
 use Rattle.std.proofs.lemmas.Option.{slice_get-get_or}
 use Rattle.draughts_board.specs.Board.{Board, same_board}
-use Rattle.draughts_board.specs.Same.{same_board-Decides, same_board-equivalence}
+use Rattle.draughts_board.specs.Same.{same_board-equivalence}
 use Rattle.proof_tree.proofs.SoundForests.{none_any, equal_boards}
 
 pub absent-none : (p : Board) (es : List (Board × ℕ)) → ¬ Contains (keys_of es) p → lookup (same_board p) es ≡ None

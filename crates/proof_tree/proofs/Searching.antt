@@ -1,8 +1,8 @@
 -- The walk with its ways back, over the rows: what it still finds, and how much work is left.
-use Rattle.std.proofs.Common.{◌≡◌, ◌≢◌, ℕ, zero, suc, ◌+◌, ◌-◌, ◌*◌, ◌<◌, ◌≤◌, Bool, true, false, cond, ltb, eqb, List, [], ◌∷◌, length, take, drop, get_or, Option, Some, None, refl, sym, ap, ◌∙◌, subst, arith, ◌⊎◌, inl, inr, ⊎_elim, drop-cons}
-use Rattle.std.proofs.lemmas.Bool.{false≢true, cases_eq, cases_lt}
+use Rattle.std.proofs.Common.{◌≡◌, ◌≢◌, ℕ, zero, suc, ◌+◌, ◌<◌, ◌≤◌, Bool, true, false, cond, ltb, List, length, take, drop, Option, Some, None, refl, sym, ap, ◌∙◌, subst, arith, ◌⊎◌, inl, inr, ⊎_elim, drop-cons}
+use Rattle.std.proofs.lemmas.Bool.{false≢true, cases_eq}
 use Rattle.std.proofs.lemmas.Bool.Decides.{nat_tests}
-use Rattle.draughts_board.specs.Board.{same_side, other}
+use Rattle.draughts_board.specs.Board.{same_side}
 use Rattle.draughts_board.specs.declared.pieces.Side.{Side}
 use Rattle.proof_numbers.specs.declared.numbers.Number.{Number}
 use Rattle.proof_numbers.specs.declared.numbers.Number.TheVariants.{Finite, Infinite}
@@ -11,14 +11,14 @@ use Rattle.proof_numbers.specs.Numbers.{is_resolved}
 use Rattle.proof_tree.specs.declared.rows.NodeRow.{NodeRow}
 use Rattle.proof_tree.specs.declared.rows.Mark.{Mark}
 use Rattle.proof_tree.specs.declared.rows.Mark.TheVariants.{Unexpanded, Expanded, Repeats}
-use Rattle.proof_tree.specs.Forest.{Own, Node, Forest, forest, numbers, numbers_at, node_numbers, or_else}
+use Rattle.proof_tree.specs.Forest.{Own, Node, forest, node_numbers, or_else}
 use Rattle.proof_tree.specs.Picking.{Way, is_below, better, left_to_show, leaf_of, way_of, open_by, leaf_at, best_way, leaf_below}
-use Rattle.proof_tree.specs.Rows.{blank, row_at, own_of, blank_node, node_in, slice_of, nodes_from, kept_numbers, AreLinked, FitsRow}
+use Rattle.proof_tree.specs.Rows.{row_at, blank_node, node_in, kept_numbers, AreLinked, FitsRow}
 use Rattle.proof_tree.specs.Walking.{is_before, key, comes, is_behind, is_candidate, IsFirst}
 use Rattle.proof_tree.proofs.Walks.{best_in, moves_in, leaf_in, masked_in, rest_in}
 use Rattle.proof_tree.proofs.Meaning.{node_of, IsMeaning}
 use Rattle.proof_tree.proofs.KeptNumbers.{kept-is}
-use Rattle.proof_tree.proofs.Order.{before_trans, before_itself}
+use Rattle.proof_tree.proofs.Order.{before_trans}
 
 -- ---- the best of a range of ways
 

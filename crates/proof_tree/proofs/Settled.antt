@@ -1,5 +1,5 @@
 -- A settled root stays settled while the tree grows.
-use Rattle.std.proofs.Common.{◌≡◌, ℕ, zero, suc, ◌+◌, ◌<◌, ◌≤◌, min, Bool, true, false, ◌||◌, ◌&&◌, cond, eqb, List, [], ◌∷◌, map, length, drop, get_or, Option, Some, None, is_some, refl, sym, ap, ◌∙◌, subst, arith}
+use Rattle.std.proofs.Common.{◌≡◌, ℕ, zero, suc, ◌+◌, ◌-◌, ◌<◌, ◌≤◌, min, Bool, true, false, ◌||◌, ◌&&◌, cond, eqb, List, [], ◌∷◌, map, length, drop, Option, Some, None, is_some, refl, sym, ap, ◌∙◌, subst, arith}
 use Rattle.std.specs.List.{list_all}
 use Rattle.std.proofs.lemmas.Bool.{false≢true, eqb-true, ne_eqb}
 use Rattle.std.proofs.lemmas.Bool.Decides.{nat_tests}
@@ -11,16 +11,16 @@ use Rattle.draughts_board.specs.declared.pieces.Value.{Value}
 use Rattle.draughts_board.specs.declared.pieces.Value.TheVariants.{BlackWins, WhiteWins, Draw}
 use Rattle.proof_numbers.specs.declared.leaves.Child.{Child}
 use Rattle.proof_numbers.specs.declared.numbers.Number.{Number}
-use Rattle.proof_numbers.specs.declared.numbers.Number.TheVariants.{Finite, Infinite}
+use Rattle.proof_numbers.specs.declared.numbers.Number.TheVariants.{Finite}
 use Rattle.proof_numbers.specs.declared.numbers.Numbers.{Numbers}
 use Rattle.proof_numbers.specs.Known.{Known, knows_win, knows_hold, joined, IsConsistent}
-use Rattle.proof_numbers.specs.Numbers.{least, total, least_of, total_of, is_zero, proved, refuted, unknown, counted_moves, mobility}
+use Rattle.proof_numbers.specs.Numbers.{least_of, total_of, is_zero, proved, refuted, unknown, counted_moves, mobility}
 use Rattle.proof_tree.specs.declared.rows.Mark.{Mark}
 use Rattle.proof_tree.specs.declared.rows.Mark.TheVariants.{Unexpanded, Expanded, Repeats}
-use Rattle.proof_tree.specs.Changes.{appended, changed, learn, expand_own, expanded, new_nodes, with_root, with_facts, with_children}
+use Rattle.proof_tree.specs.Changes.{appended, changed, learn, expanded, new_nodes, with_root, with_facts, with_children}
 use Rattle.proof_tree.specs.Forest.{Own, Node, Forest, no_node, node, forest, nodes, node_at, size, folded, numbers_by_mark, numbers_at, numbers, node_numbers, goal_of, value_by, value_of, or_else}
-use Rattle.proof_tree.specs.Picking.{leaf_below, pick_by, pick_at, pick_from}
-use Rattle.proof_tree.specs.Rows.{blank_node, node_in, settled_front}
+use Rattle.proof_tree.specs.Picking.{leaf_below, pick_by, pick_from}
+use Rattle.proof_tree.specs.Rows.{node_in, settled_front, IsSettledAt, AreSettled, AreNoted}
 use Rattle.proof_tree.specs.Sound.{EachNode, IsSoundForest}
 use Rattle.proof_tree.proofs.EachNode.{EachNode-map, only_node, test_true}
 use Rattle.proof_tree.proofs.Numbered.{at_most_once}
@@ -217,6 +217,37 @@ front_step true true m n f le = omega arith
 front_step true false m n f le = absurd (false≢true (f refl))
 front_step false y m n f le = omega arith
 
+-- which roots of the first are settled still are in the second
+abbrev pub AllStay : List Node → List Node → Type 0
+AllStay [] ys = Unit {0}
+AllStay (x ∷ xs) [] = ⊥
+AllStay (x ∷ xs) (y ∷ ys) = (is_some (value_of x) ≡ true → is_some (value_of y) ≡ true) × AllStay xs ys
+
+all_stay : (t u : Forest) → AllKeep (numbers Black t) (numbers Black u) → AllKeep (numbers White t) (numbers White u) → AllStay (nodes t) (nodes u)
+all_stay no_node u black white = tt
+all_stay (node own children others) no_node black white = absurd black
+all_stay (node own children others) (node own' children' others') black white =
+    let x : Node = record { own = own; children = children } in
+    let y : Node = record { own = own'; children = children' } in
+    (value_stays (node_numbers Black x) (node_numbers White x) (node_numbers Black y) (node_numbers White y) black.0 white.0, all_stay others others' black.1 white.1)
+
+all_appended : (t u : Forest) → AllStay (nodes t) (nodes (appended t u))
+all_appended no_node u = tt
+all_appended (node own children others) u = (λ e. e, all_appended others u)
+
+stays_at : (xs ys : List Node) (k : ℕ) → AllStay xs ys → IsSettledAt xs k → IsSettledAt ys k
+stays_at [] ys k all h = absurd h
+stays_at (x ∷ xs) [] k all h = absurd all
+stays_at (x ∷ xs) (y ∷ ys) zero all h = all.0 h
+stays_at (x ∷ xs) (y ∷ ys) (suc k) all h = stays_at xs ys k all.1 h
+
+-- what was noted stays so
+pub still_noted : (xs ys : List Node) (ends starts : List ℕ) → AllStay xs ys → AreNoted xs ends starts → AreNoted ys ends starts
+still_noted xs ys ends starts all noted = record {
+  ahead = λ k end at n from to. stays_at xs ys n all (noted.ahead k end at n from to);
+  behind = λ k start at n from to. stays_at xs ys n all (noted.behind k start at n from to);
+}
+
 front_stays : (t u : Forest) → AllKeep (numbers Black t) (numbers Black u) → AllKeep (numbers White t) (numbers White u)
     → settled_front (nodes t) ≤ settled_front (nodes u)
 front_stays no_node u black white = omega arith
@@ -238,6 +269,9 @@ front_appended (node own children others) u =
 pub front_with_root : (p : Board) (facts : Known) (roots : Forest) → settled_front (nodes roots) ≤ settled_front (nodes (with_root p facts roots))
 front_with_root p facts roots = front_appended roots (node (record { number = size roots; position = p; facts = facts; mark = Unexpanded }) no_node no_node)
 
+pub all_with_root : (p : Board) (facts : Known) (roots : Forest) → AllStay (nodes roots) (nodes (with_root p facts roots))
+all_with_root p facts roots = all_appended roots (node (record { number = size roots; position = p; facts = facts; mark = Unexpanded }) no_node no_node)
+
 module _ (roots : Forest) (n : ℕ) (x : Node) (sound : IsSoundForest roots) (here : node_at n roots ≡ Some x) (leaf : x.own.mark ≡ Unexpanded) where
   only : EachNode (λ above y. y.own.number ≡ n → y ≡ x) [] roots
   only = only_node n [] roots x here (at_most_once n roots sound.numbered)
@@ -249,11 +283,25 @@ module _ (roots : Forest) (n : ℕ) (x : Node) (sound : IsSoundForest roots) (he
       (λ above y is e. subst (λ (z : Node). (z.own.mark ≡ Unexpanded) × IsConsistent (joined z.own.facts facts)) (sym (is e)) (leaf, agree)) [] roots only in
       front_stays roots (changed (learn n facts) roots) (numbers_learnt Black n facts [] roots each) (numbers_learnt White n facts [] roots each)
 
+  pub all_with_facts : (facts : Known) → IsConsistent (joined x.own.facts facts) → AllStay (nodes roots) (nodes (with_facts n facts roots))
+  all_with_facts facts agree =
+      let each = EachNode-map (λ above y. y.own.number ≡ n → y ≡ x)
+      (λ above y. y.own.number ≡ n → (y.own.mark ≡ Unexpanded) × IsConsistent (joined y.own.facts facts))
+      (λ above y is e. subst (λ (z : Node). (z.own.mark ≡ Unexpanded) × IsConsistent (joined z.own.facts facts)) (sym (is e)) (leaf, agree)) [] roots only in
+      all_stay roots (changed (learn n facts) roots) (numbers_learnt Black n facts [] roots each) (numbers_learnt White n facts [] roots each)
+
   pub front_with_children : (children : List Child) → settled_front (nodes roots) ≤ settled_front (nodes (with_children n children roots))
   front_with_children children =
       let each = EachNode-map (λ above y. y.own.number ≡ n → y ≡ x) (λ above y. y.own.number ≡ n → y.own.mark ≡ Unexpanded)
       (λ above y is e. subst (λ (z : Node). z.own.mark ≡ Unexpanded) (sym (is e)) leaf) [] roots only in
       front_stays roots (expanded n children (size roots) [] roots) (numbers_expanded Black n children (size roots) [] roots each)
+      (numbers_expanded White n children (size roots) [] roots each)
+
+  pub all_with_children : (children : List Child) → AllStay (nodes roots) (nodes (with_children n children roots))
+  all_with_children children =
+      let each = EachNode-map (λ above y. y.own.number ≡ n → y ≡ x) (λ above y. y.own.number ≡ n → y.own.mark ≡ Unexpanded)
+      (λ above y is e. subst (λ (z : Node). z.own.mark ≡ Unexpanded) (sym (is e)) leaf) [] roots only in
+      all_stay roots (expanded n children (size roots) [] roots) (numbers_expanded Black n children (size roots) [] roots each)
       (numbers_expanded White n children (size roots) [] roots each)
 
 -- ---- the first unsettled root
@@ -331,3 +379,26 @@ front_skipped taken (x ∷ xs) (suc k) le = by (value_of x) le ∙ front_skipped
         → or_else (pick_by v (leaf_below (goal_of x) taken x) (goal_of x)) (pick_from taken xs) ≡ pick_from taken xs
     by (Some v) le = refl
     by None le = absurd (omega arith)
+
+pick_next : (taken : ℕ → Bool) (xs : List Node) (k : ℕ) → IsSettledAt xs k → pick_from taken (drop k xs) ≡ pick_from taken (drop (suc k) xs)
+pick_next taken [] k h = absurd h
+pick_next taken (x ∷ []) zero h = by (value_of x) h
+  where
+    by : (v : Option Value) → is_some v ≡ true → or_else (pick_by v (leaf_below (goal_of x) taken x) (goal_of x)) (pick_from taken []) ≡ pick_from taken []
+    by (Some v) e = refl
+    by None e = absurd (false≢true e)
+pick_next taken (x ∷ (y ∷ xs)) zero h = by (value_of x) h
+  where
+    by : (v : Option Value) → is_some v ≡ true → or_else (pick_by v (leaf_below (goal_of x) taken x) (goal_of x)) (pick_from taken (y ∷ xs)) ≡ pick_from taken (y ∷ xs)
+    by (Some v) e = refl
+    by None e = absurd (false≢true e)
+pick_next taken (x ∷ xs) (suc k) h = pick_next taken xs k h
+
+stretch_by : (taken : ℕ → Bool) (xs : List Node) (n k end : ℕ) → end ≡ k + n → AreSettled xs k end → pick_from taken (drop k xs) ≡ pick_from taken (drop end xs)
+stretch_by taken xs zero k end is all = ap (λ (i : ℕ). pick_from taken (drop i xs)) (let it : k ≡ end = omega (arith, is) in it)
+stretch_by taken xs (suc n) k end is all =
+    pick_next taken xs k (all k (omega arith) (omega (arith, is))) ∙ stretch_by taken xs n (suc k) end (omega (arith, is)) (λ i from to. all i (omega (arith, from)) to)
+
+-- a stretch of settled roots gives nothing to work on
+pub stretch_skipped : (taken : ℕ → Bool) (xs : List Node) (k end : ℕ) → k ≤ end → AreSettled xs k end → pick_from taken (drop k xs) ≡ pick_from taken (drop end xs)
+stretch_skipped taken xs k end le all = stretch_by taken xs (end - k) k end (omega (arith, le)) all

@@ -1,6 +1,6 @@
 -- Every change of a forest keeps it sound.
-use Rattle.std.proofs.Common.{◌≡◌, ◌≢◌, ◌↔◌, ℕ, zero, suc, ◌+◌, ◌<◌, ◌≤◌, Bool, true, false, cond, eqb, List, [], ◌∷◌, ◌++◌, length, get_or, map, Option, Some, None, refl, sym, ap, ◌∙◌, subst, arith, ◌⊎◌, inl, inr, ⊎_elim}
-use Rattle.std.specs.Prelude.{Contains, All, nat_lt}
+use Rattle.std.proofs.Common.{◌≡◌, ◌↔◌, ℕ, zero, suc, ◌<◌, Bool, true, false, cond, eqb, List, [], ◌∷◌, length, get_or, map, Some, refl, sym, ap, ◌∙◌, subst, arith}
+use Rattle.std.specs.Prelude.{Contains, All}
 use Rattle.std.specs.List.{IsDistinct, list_any}
 use Rattle.std.proofs.lemmas.Bool.{false≢true, eqb-true}
 use Rattle.std.proofs.lemmas.Map.Keys.{IsDistinct-push}
@@ -14,13 +14,12 @@ use Rattle.draughts_board.proofs.After.{after_is_lawful}
 use Rattle.proof_numbers.specs.declared.leaves.Child.{Child}
 use Rattle.proof_numbers.specs.Facts.{known}
 use Rattle.proof_numbers.specs.Known.{Known, joined, IsConsistent}
-use Rattle.proof_tree.specs.declared.rows.Mark.{Mark}
 use Rattle.proof_tree.specs.declared.rows.Mark.TheVariants.{Unexpanded, Expanded, Repeats}
-use Rattle.proof_tree.specs.Forest.{Own, Forest, no_node, node, Node, nodes, node_at, forest, size}
-use Rattle.proof_tree.specs.Changes.{appended, with_root, changed, learn, with_facts, stands_on, new_nodes, expand_own, expanded, with_children}
-use Rattle.proof_tree.specs.Sound.{EachNode, IsSoundNode, IsSoundForest, occurrences, root_positions}
+use Rattle.proof_tree.specs.Forest.{Own, Forest, no_node, node, Node, node_at, forest, size}
+use Rattle.proof_tree.specs.Changes.{with_root, changed, learn, with_facts, stands_on, new_nodes, expanded, with_children}
+use Rattle.proof_tree.specs.Sound.{EachNode, IsSoundNode, IsSoundForest, root_positions}
 use Rattle.proof_tree.proofs.EachNode.{EachNode-map, EachNode-both, EachNode-appended, only_node, found_occurs, root_positions-appended, root_positions-changed}
-use Rattle.proof_tree.proofs.Numbered.{AreNumbered, AreNumbered-root, AreNumbered-changed, AreNumbered-expanded, HaveNone, once, at_most_once}
+use Rattle.proof_tree.proofs.Numbered.{AreNumbered-root, AreNumbered-changed, AreNumbered-expanded, HaveNone, once, at_most_once}
 
 -- ---- marks
 

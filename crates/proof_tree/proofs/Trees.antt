@@ -1,5 +1,5 @@
 -- What a tree's forest says of its rows, and what changes of rows make of the forest.
-use Rattle.std.proofs.Common.{◌≡◌, ◌≢◌, ℕ, zero, suc, ◌+◌, ◌-◌, ◌<◌, ◌≤◌, ◌^◌, min, Bool, true, false, cond, eqb, ltb, List, [], ◌∷◌, ◌++◌, map, length, take, drop, get_or, Option, Some, None, IsSome, IfSome, IsSomeAnd, refl, sym, ap, ◌∙◌, subst, arith, ◌⊎◌, inl, inr, ⊎_elim, length-drop, get_or-drop, get_or-take}
+use Rattle.std.proofs.Common.{◌≡◌, ◌≢◌, ℕ, suc, ◌+◌, ◌-◌, ◌<◌, ◌≤◌, Bool, true, false, cond, eqb, ltb, List, [], ◌∷◌, map, length, drop, get_or, Option, Some, None, IsSome, IfSome, IsSomeAnd, refl, sym, ap, ◌∙◌, subst, arith, ◌⊎◌, inl, inr, length-drop, get_or-drop, get_or-take}
 use Rattle.std.specs.Prelude.{slice_get}
 use Rattle.std.specs.Map.{keys_of, values_of}
 use Rattle.std.proofs.lemmas.Bool.{false≢true, cases_eq}
@@ -7,23 +7,21 @@ use Rattle.std.proofs.lemmas.Bool.Decides.{nat_tests}
 use Rattle.draughts_board.specs.declared.pieces.Value.{Value}
 use Rattle.std.proofs.lemmas.List.{get_or-map, length-map, length-take-le, get_or_read}
 use Rattle.std.proofs.lemmas.Option.{slice_get-get_or}
-use Rattle.draughts_board.specs.Board.{Board, IsLawful}
+use Rattle.draughts_board.specs.Board.{Board}
 use Rattle.draughts_board.specs.Play.{successors_of}
 use Rattle.draughts_board.specs.declared.pieces.Side.{Side}
 use Rattle.draughts_board.specs.declared.pieces.Side.TheVariants.{Black, White}
 use Rattle.proof_numbers.specs.declared.leaves.Child.{Child}
-use Rattle.proof_numbers.specs.declared.numbers.Numbers.{Numbers}
-use Rattle.proof_numbers.specs.Facts.{known}
 use Rattle.proof_numbers.specs.Known.{Known, joined, IsConsistent}
 use Rattle.proof_numbers.specs.Numbers.{mobility}
 use Rattle.proof_tree.specs.declared.rows.NodeRow.{NodeRow}
 use Rattle.proof_tree.specs.declared.rows.Mark.{Mark}
 use Rattle.proof_tree.specs.declared.rows.Mark.TheVariants.{Unexpanded, Expanded}
 use Rattle.proof_tree.specs.Forest.{Own, Node, Forest, no_node, forest, nodes, size, node_at, node_numbers, value_by, value_of}
-use Rattle.proof_tree.specs.Changes.{learn, changed, with_facts, expanded, expand_own, with_children}
-use Rattle.proof_tree.specs.Rows.{blank, row_at, own_of, blank_node, node_in, slice_of, nodes_from, forest_of, kept_numbers, if_root, roots_from, AreLinked, HaveSameLinks, AreExpanded, AreCounted, Fits, FitsRow, IsTree, IsRowOf, path}
-use Rattle.proof_tree.specs.Sound.{EachNode, IsSoundNode, IsSoundForest, TreeState, IsTreeState, occurrences, root_positions}
-use Rattle.proof_tree.proofs.Meaning.{node_of, IsMeaning, IsMeaning-nodes, nodes_from-is}
+use Rattle.proof_tree.specs.Changes.{learn, with_facts, expanded, with_children}
+use Rattle.proof_tree.specs.Rows.{blank, row_at, own_of, blank_node, node_in, slice_of, nodes_from, forest_of, kept_numbers, if_root, roots_from, AreLinked, HaveSameLinks, AreExpanded, Fits, IsTree, IsRowOf, path}
+use Rattle.proof_tree.specs.Sound.{IsSoundNode, IsSoundForest, TreeState, IsTreeState, occurrences, root_positions}
+use Rattle.proof_tree.proofs.Meaning.{node_of, IsMeaning-nodes, nodes_from-is}
 use Rattle.proof_tree.proofs.KeptNumbers.{kept-is}
 use Rattle.proof_tree.proofs.Bounds.{fits_for}
 use Rattle.proof_tree.proofs.Lines.{path-none}

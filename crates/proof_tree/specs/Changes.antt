@@ -4,7 +4,6 @@ use Rattle.draughts_board.specs.Board.{Board, same_board}
 use Rattle.proof_numbers.specs.declared.leaves.Child.{Child}
 use Rattle.proof_numbers.specs.Known.{Known, joined}
 use Rattle.proof_numbers.specs.Facts.{known}
-use Rattle.proof_tree.specs.declared.rows.Mark.{Mark}
 use Rattle.proof_tree.specs.declared.rows.Mark.TheVariants.{Unexpanded, Expanded, Repeats}
 use Rattle.proof_tree.specs.Forest.{Own, Forest, no_node, node, Node, forest, size}
 

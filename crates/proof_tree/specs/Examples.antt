@@ -1,5 +1,5 @@
 -- Worked examples, one a field, on the start of a game.
-use Rattle.std.specs.Prelude.{◌≡◌, false, List, [], ◌∷◌, map, Option, Some, refl}
+use Rattle.std.specs.Prelude.{◌≡◌, false, List, [], ◌∷◌, map, Some, refl}
 use Rattle.std.specs.Option.{option_map}
 use Rattle.draughts_board.specs.Board.{Board, start_board}
 use Rattle.draughts_board.specs.Rules.{after}
@@ -9,8 +9,7 @@ use Rattle.proof_numbers.specs.Facts.{no_facts}
 use Rattle.proof_numbers.specs.Known.{nothing_known}
 use Rattle.proof_numbers.specs.Numbers.{mobility}
 use Rattle.proof_numbers.specs.declared.leaves.Child.{Child}
-use Rattle.proof_numbers.specs.declared.numbers.Number.TheVariants.{Finite, Infinite}
-use Rattle.proof_numbers.specs.declared.numbers.Numbers.{Numbers}
+use Rattle.proof_numbers.specs.declared.numbers.Number.TheVariants.{Finite}
 use Rattle.proof_tree.specs.Forest.{Forest, no_node, node_at, node_numbers, numbers, size}
 use Rattle.proof_tree.specs.Changes.{with_root, with_children}
 use Rattle.proof_tree.specs.Picking.{pick}

@@ -5,7 +5,6 @@ use Rattle.draughts_board.specs.declared.pieces.Side.{Side}
 use Rattle.draughts_board.specs.declared.pieces.Side.TheVariants.{Black, White}
 use Rattle.draughts_board.specs.declared.pieces.Value.{Value}
 use Rattle.draughts_board.specs.declared.pieces.Value.TheVariants.{BlackWins, WhiteWins, Draw}
-use Rattle.proof_numbers.specs.declared.numbers.Number.{Number}
 use Rattle.proof_numbers.specs.declared.numbers.Numbers.{Numbers}
 use Rattle.proof_numbers.specs.Known.{Known, knows_win, knows_hold}
 use Rattle.proof_numbers.specs.Numbers.{least_of, total_of, proved, refuted, unknown, mobility, is_zero, is_resolved}

@@ -1,5 +1,5 @@
 -- Laws over the definitions.
-use Rattle.std.specs.Prelude.{◌≡◌, ℕ, false, All, IsSome, None}
+use Rattle.std.specs.Prelude.{◌≡◌, false, All, IsSome, None}
 use Rattle.proof_tree.specs.Forest.{Forest, nodes, value_of}
 use Rattle.proof_tree.specs.Picking.{pick}
 

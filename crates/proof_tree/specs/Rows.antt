@@ -1,6 +1,6 @@
 -- What the rows of the table mean. Nobody has to believe these definitions: that rows and forest
 -- agree is proved.
-use Rattle.std.specs.Prelude.{if◌then◌else◌, ◌≡◌, ◌≢◌, ℕ, zero, suc, ◌+◌, ◌-◌, ◌^◌, ◌<◌, ◌≤◌, false, List, [], ◌∷◌, map, length, take, drop, set, get_or, slice_get, filter_map, Option, Some, None, is_some, IfSome, min}
+use Rattle.std.specs.Prelude.{if◌then◌else◌, ◌≡◌, ◌≢◌, ℕ, zero, suc, ◌+◌, ◌-◌, ◌^◌, ◌<◌, ◌≤◌, false, List, [], ◌∷◌, map, length, take, drop, set, get_or, slice_get, Option, Some, None, is_some, IfSome, IsSome, IsSomeAnd, min}
 use Rattle.draughts_board.specs.Board.{Board}
 use Rattle.draughts_board.specs.declared.pieces.Side.{Side}
 use Rattle.draughts_board.specs.declared.pieces.Side.TheVariants.{Black, White}
@@ -11,7 +11,7 @@ use Rattle.proof_numbers.specs.Numbers.{refuted, leaf_numbers, mobility}
 use Rattle.proof_tree.specs.declared.rows.NodeRow.{NodeRow}
 use Rattle.proof_tree.specs.declared.rows.Mark.TheVariants.{Unexpanded, Expanded, Repeats}
 use Rattle.proof_tree.specs.Changes.{stands_on, expand_own, new_nodes}
-use Rattle.proof_tree.specs.Forest.{Own, Forest, no_node, node, Node, nodes, forest, numbers_at, node_numbers, value_of, size}
+use Rattle.proof_tree.specs.Forest.{Own, Forest, no_node, Node, nodes, forest, numbers_at, node_numbers, value_of, size}
 use Rattle.proof_tree.specs.Sound.{IsSoundForest}
 use Rattle.std.specs.Map.{keys_of, values_of}
 use Rattle.proof_tree.specs.declared.tree.TheConstants.{MOST_ROOTS}
@@ -152,11 +152,25 @@ abbrev pub settled_front : List Node → ℕ
 settled_front [] = 0
 settled_front (root ∷ more) = (if is_some (value_of root) then suc (settled_front more) else 0)
 
--- what every tree keeps, with the place of its first unsettled root
+-- the root at a place is settled, and so are all those of a stretch
+abbrev pub IsSettledAt : List Node → ℕ → Type 0
+IsSettledAt roots k = IsSomeAnd (slice_get roots k) (λ root. IsSome (value_of root))
+
+abbrev pub AreSettled : List Node → ℕ → ℕ → Type 0
+AreSettled roots from to = (k : ℕ) → from ≤ k → k < to → IsSettledAt roots k
+
+-- What is noted of roots: of each a place up to which all from it on are settled, and one from which
+-- on all up to it are.
+pub record AreNoted (roots : List Node) (ends starts : List ℕ) : Type 0 where
+  pub ahead : (k end : ℕ) → slice_get ends k ≡ Some end → AreSettled roots k end
+  pub behind : (k start : ℕ) → slice_get starts k ≡ Some start → AreSettled roots start (suc k)
+
+-- what every tree keeps, with the place of its first unsettled root, and what is noted of roots
 pub record IsTreeFrom (rows : List NodeRow) (entries : List (Board × ℕ))
-    (space root_space spare front : ℕ) : Type 0 where
+    (space root_space spare front : ℕ) (ends starts : List ℕ) : Type 0 where
   pub tree : IsTree rows entries space root_space spare
   pub settled : front ≡ settled_front (nodes (forest_of rows (values_of entries)))
+  pub noted : AreNoted (nodes (forest_of rows (values_of entries))) ends starts
 
 -- row n is that of the node
 pub record IsRowOf (n : ℕ) (row : NodeRow) (x : Node) : Type 0 where

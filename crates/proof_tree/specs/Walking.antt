@@ -1,6 +1,5 @@
 -- The order in which the walk tries the children of a row.
-use Rattle.std.specs.Prelude.{◌≡◌, ℕ, ◌+◌, ◌<◌, ◌≤◌, ltb, Bool, true, false, cond, List, length, Option, Some, None, ◌⊎◌, MatchOption}
-use Rattle.draughts_board.specs.Board.{same_side}
+use Rattle.std.specs.Prelude.{◌≡◌, ℕ, ◌<◌, ◌≤◌, ltb, Bool, true, false, cond, List, Option, Some, None, ◌⊎◌}
 use Rattle.draughts_board.specs.declared.pieces.Side.{Side}
 use Rattle.proof_numbers.specs.declared.numbers.Number.{Number}
 use Rattle.proof_numbers.specs.Numbers.{is_resolved}

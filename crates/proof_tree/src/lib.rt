@@ -15,6 +15,7 @@ mod numbering;
 mod picking;
 mod roots;
 mod rows;
+mod stretches;
 mod tree;
 
 pub use children::{Free, unknown_child, unknown_children};

@@ -11,6 +11,7 @@ ghost use Rattle.proof_tree.specs.Walking.{is_before, key, comes, is_behind, is_
 
 use crate::numbering::left_to_show;
 use crate::rows::{Mark, NodeId, NodeRow};
+use crate::stretches::Stretches;
 use draughts_board::{Side, Value};
 use proof_numbers::{Number, Numbers};
 
@@ -206,7 +207,7 @@ fn leaf_from<T: Taken>(rows: &[NodeRow], root: usize, goal: Side, taken: &T) -> 
 ghost use Rattle.std.specs.Prelude.{map, All, is_some, slice_index};
 ghost use Rattle.proof_tree.specs.Forest.{goal_by, value_by, value_of};
 ghost use Rattle.proof_tree.specs.Picking.{pick_at, pick_from};
-ghost use Rattle.proof_tree.specs.Rows.{Fits, settled_front};
+ghost use Rattle.proof_tree.specs.Rows.{Fits, settled_front, AreNoted};
 
 /// The side whose win is sought at a root with these numbers for Black.
 fn goal_by(black: Numbers) -> Side
@@ -255,11 +256,12 @@ fn pick_at<T: Taken>(rows: &[NodeRow], root: usize, taken: &T) -> Option<(NodeId
     }
 }
 
-/// The leaf to work on next, where so many roots at the front are settled.
+/// The leaf to work on next, where so many roots at the front are settled. Stretches of settled roots are passed as noted.
 pub(crate) fn pick_from<T: Taken>(
     rows: &[NodeRow],
     roots: &[usize],
     front: usize,
+    stretches: &Stretches,
     taken: &T,
 ) -> Option<(NodeId, Side)>
     requires linked { AreLinked rows.now }
@@ -268,19 +270,28 @@ pub(crate) fn pick_from<T: Taken>(
     requires tops { (i : ℕ) → i < length roots.now
         → (row_at rows.now (slice_index roots.now i)).parent ≡ None }
     requires settled { front ≤ settled_front (map (node_in (nodes_from 0 rows.now)) roots.now) }
+    requires noted { AreNoted (map (node_in (nodes_from 0 rows.now)) roots.now)
+        stretches.now.ends.items stretches.now.starts.items }
     ensures { result ≡ pick_from (T.taken taken.now)
         (map (node_in (nodes_from 0 rows.now)) roots.now) }
 {
-    for i in front..roots.len() {
-        if let Some(found) = pick_at(rows, roots[i], taken) {
-            return Some(found);
+    let mut place = front;
+    while place < roots.len() {
+        let end = stretches.end_of(place);
+        if place < end {
+            place = end;
+        } else {
+            if let Some(found) = pick_at(rows, roots[place], taken) {
+                return Some(found);
+            }
+            place += 1;
         }
     }
     None
 }
 
 /// The root has its value.
-fn is_settled(rows: &[NodeRow], root: usize) -> bool
+pub(crate) fn is_settled(rows: &[NodeRow], root: usize) -> bool
     requires inside { root < length rows.now }
     requires linked { AreLinked rows.now }
     requires fits { (k : ℕ) → k < length rows.now → Fits rows.now k }

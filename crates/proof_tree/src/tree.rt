@@ -1,9 +1,10 @@
 //! The proof tree.
 use crate::growing::{expand, push_root};
 use crate::numbering::learn;
-use crate::picking::{Taken, pick_from, settled_front, value_by};
+use crate::picking::{Taken, is_settled, pick_from, settled_front, value_by};
 use crate::roots::{add, top};
 use crate::rows::{Mark, NodeId, NodeRow};
+use crate::stretches::Stretches;
 use draughts_board::{Position, Side, Value};
 use indexmap::IndexMap;
 use proof_numbers::{Child, Facts, Numbers};
@@ -31,6 +32,8 @@ pub struct Tree {
     spare: usize,
     /// So many roots stand before the first that is unsettled.
     front: usize,
+    /// Stretches of settled roots, as far as they are noted.
+    stretches: Stretches,
 }
 
 impl Model for Tree {
@@ -50,7 +53,7 @@ impl Model for Tree {
 
     ghost invariant = { λ t.
         IsTreeFrom t.rows.items t.roots.entries (vec_capacity t.rows) (map_spare t.roots) t.spare
-        t.front };
+        t.front t.stretches.ends.items t.stretches.starts.items };
 }
 
 impl Tree {
@@ -75,6 +78,7 @@ impl Tree {
             roots: IndexMap::new(alloc),
             spare: 0,
             front: 0,
+            stretches: Stretches::new(alloc),
         }
     }
 
@@ -117,7 +121,14 @@ impl Tree {
         push_root(&mut self.rows, &root);
         add(&mut self.roots, &root.position, number);
         self.spare -= 1;
-        self.front = front_of(&self.rows, &self.roots, self.front);
+        self.stretches.add_root();
+        self.front = follow(
+            &self.rows,
+            &self.roots,
+            &mut self.stretches,
+            self.front,
+            number,
+        );
         self.roots.len() as u32
     }
 
@@ -133,9 +144,16 @@ impl Tree {
           spare = self.old.spare - length children.now;
         } }
     {
-        expand(&mut self.rows, n.number() as usize, children);
+        let row = n.number() as usize;
+        expand(&mut self.rows, row, children);
         self.spare -= children.len();
-        self.front = front_of(&self.rows, &self.roots, self.front);
+        self.front = follow(
+            &self.rows,
+            &self.roots,
+            &mut self.stretches,
+            self.front,
+            row,
+        );
     }
 
     /// Adds these facts to those of a node. The caller knows that the two do not contradict each
@@ -148,8 +166,15 @@ impl Tree {
           forest = with_facts n (known facts.now) self.old.forest;
         } }
     {
-        learn(&mut self.rows, n.number() as usize, facts);
-        self.front = front_of(&self.rows, &self.roots, self.front);
+        let row = n.number() as usize;
+        learn(&mut self.rows, row, facts);
+        self.front = follow(
+            &self.rows,
+            &self.roots,
+            &mut self.stretches,
+            self.front,
+            row,
+        );
     }
 
     /// How many roots there are, at most 65,536.
@@ -321,14 +346,21 @@ impl Tree {
             IsSomeAnd (node_at found.0 self.now.forest) (IsOpenLeaf found.1 (T.taken taken.now))) }
     {
         let roots = self.roots.values();
-        pick_from(&self.rows, roots.as_slice(), self.front, taken)
+        pick_from(
+            &self.rows,
+            roots.as_slice(),
+            self.front,
+            &self.stretches,
+            taken,
+        )
     }
 }
 
 ghost use Rattle.std.specs.Prelude.{◌≡◌, ◌≤◌, ◌<◌, ℕ, length};
 ghost use Rattle.std.specs.Map.{values_of};
+ghost use Rattle.proof_tree.specs.declared.tree.TheConstants.{MOST_ROOTS};
 ghost use Rattle.proof_tree.specs.Forest.{nodes};
-ghost use Rattle.proof_tree.specs.Rows.{roots_from, forest_of, settled_front, AreLinked, Fits};
+ghost use Rattle.proof_tree.specs.Rows.{roots_from, forest_of, settled_front, AreLinked, AreNoted, Fits};
 
 /// How many roots stand before the first that is unsettled, where at least so many do.
 fn front_of(rows: &[NodeRow], roots: &IndexMap<Position, usize>, front: usize) -> usize
@@ -340,4 +372,70 @@ fn front_of(rows: &[NodeRow], roots: &IndexMap<Position, usize>, front: usize) -
     ensures { result ≡ settled_front (nodes (forest_of rows.now (values_of roots.now.entries))) }
 {
     settled_front(rows, roots.values().as_slice(), front)
+}
+
+/// The row at the end of the way up from a row.
+fn top_of(rows: &[NodeRow], from: usize) -> usize
+    requires inside { from < length rows.now }
+    requires linked { AreLinked rows.now }
+    ensures { result < length rows.now }
+{
+    let mut at = from;
+    while let Some(parent) = rows[at].parent.get() {
+        at = parent;
+    }
+    at
+}
+
+/// Notes the root above a row where it is settled.
+fn note_above(
+    rows: &[NodeRow],
+    roots: &IndexMap<Position, usize>,
+    stretches: &mut Stretches,
+    at: usize,
+)
+    requires inside { at < length rows.now }
+    requires linked { AreLinked rows.now }
+    requires fits { (k : ℕ) → k < length rows.now → Fits rows.now k }
+    requires roots { values_of roots.now.entries ≡ roots_from 0 rows.now }
+    requires few { length roots.now.entries ≤ MOST_ROOTS }
+    requires noted { AreNoted (nodes (forest_of rows.now (values_of roots.now.entries)))
+        stretches.old.ends.items stretches.old.starts.items }
+    ensures { AreNoted (nodes (forest_of rows.now (values_of roots.now.entries)))
+        stretches.new.ends.items stretches.new.starts.items }
+{
+    let position = rows[top_of(rows, at)].position;
+    let Some(place) = roots.get_index_of(&position) else {
+        return;
+    };
+    if is_settled(rows, roots.values().as_slice()[place]) {
+        stretches.note(place);
+    }
+}
+
+/// Follows a change of a row: notes the root above it where it is settled, and gives how many roots stand before the first
+/// that is unsettled, where at least so many do.
+fn follow(
+    rows: &[NodeRow],
+    roots: &IndexMap<Position, usize>,
+    stretches: &mut Stretches,
+    front: usize,
+    at: usize,
+) -> usize
+    requires inside { at < length rows.now }
+    requires linked { AreLinked rows.now }
+    requires fits { (k : ℕ) → k < length rows.now → Fits rows.now k }
+    requires roots { values_of roots.now.entries ≡ roots_from 0 rows.now }
+    requires few { length roots.now.entries ≤ MOST_ROOTS }
+    requires settled { front
+        ≤ settled_front (nodes (forest_of rows.now (values_of roots.now.entries))) }
+    requires noted { AreNoted (nodes (forest_of rows.now (values_of roots.now.entries)))
+        stretches.old.ends.items stretches.old.starts.items }
+    ensures front { result
+        ≡ settled_front (nodes (forest_of rows.now (values_of roots.now.entries))) }
+    ensures noted { AreNoted (nodes (forest_of rows.now (values_of roots.now.entries)))
+        stretches.new.ends.items stretches.new.starts.items }
+{
+    note_above(rows, roots, stretches, at);
+    front_of(rows, roots, front)
 }

@@ -2,6 +2,9 @@
 //!
 //! Its threads share the endgame table and the positions, which nothing changes, so it shows how many times as much four
 //! threads of this machine make as one, whatever a lock costs.
+//!
+//! And threads that only calculate, in registers, for about as long as one worker takes for all: what this machine makes of
+//! four threads in so short a time, whatever they do.
 ghost use Rattle.std.specs.Prelude.{◌≡◌, IfSome};
 ghost use Rattle.bench_core.specs.Cores.{IsOutcomeOf};
 
@@ -20,6 +23,12 @@ use std::time::Instant;
 
 /// How many positions a thread remembers in which looking ahead shows no win.
 const REMEMBERED: usize = 65_536;
+
+/// So many steps are calculated for each position, which take about as long as a worker alone takes for its record.
+const STEPS: u64 = 3_500;
+
+/// The multiplier of a step. A step shifts too, so that no compiler makes one step of several.
+const MULTIPLIER: u64 = 0xff51_afd7_ed55_8ccd;
 
 /// What one thread has to do, and what it found.
 #[derive(Drop)]
@@ -130,6 +139,57 @@ pub(crate) fn search_alone<R: Threads + Sync>(
     }
     if found != positions.len() {
         bail!("some positions were not searched");
+    }
+    Ok(spent)
+}
+
+/// A chain of steps, each of which waits for the one before.
+#[derive(Clone, Copy, Drop)]
+struct Chain {
+    state: u64,
+    steps: u64,
+}
+
+impl Chain {
+    /// Goes through all its steps.
+    fn run(&mut self) {
+        let mut state = self.state;
+        for _ in 0..self.steps {
+            state = (state ^ state >> 33).wrapping_mul(MULTIPLIER);
+        }
+        self.state = state;
+    }
+}
+
+/// Calculates the steps of so many positions in so many threads: in how many nanoseconds by the clock.
+pub(crate) fn calculate_alone<R: Threads + Sync>(
+    threads: &R,
+    rt: &HostRuntime,
+    positions: usize,
+    count: usize,
+) -> Result<u128> {
+    let size = positions.div_ceil(count.max(1)) as u64;
+    let mut chains = Vec::new(rt.alloc());
+    for k in 0..count {
+        chains.push(Chain {
+            state: k as u64 + 1,
+            steps: size.saturating_mul(STEPS),
+        })?;
+    }
+    let start = Instant::now(rt)?;
+    thread::for_each_mut(
+        threads,
+        chains.as_mut_slice(),
+        count.max(1),
+        &|_: usize, chain: &mut Chain| {
+            chain.run();
+        },
+    );
+    let spent = start.elapsed(rt)?.as_nanos();
+    for (k, chain) in chains.as_slice().iter().enumerate() {
+        if chain.state == k as u64 + 1 {
+            bail!("some steps were not calculated");
+        }
     }
     Ok(spent)
 }

@@ -7,7 +7,7 @@
 //!
 //! With the words `time PATH` there are 2,000 roots in memory and 400 on a file at that path. It prints the work records a
 //! second of one worker and of four, without the beginning of the roots, for how much of its time one worker has the turn,
-//! and how many searches a second one thread and four make alone, with no turns.
+//! and how long one thread and four take with no turns: for the searches, and for as many steps in registers alone.
 #![tactic(auto)]
 
 ghost use Rattle.std.specs.Prelude.{◌≡◌};
@@ -19,7 +19,7 @@ mod places;
 mod roots;
 mod together;
 
-use crate::measure::{time, time_alone};
+use crate::measure::{time, time_alone, time_machine};
 use crate::places::{Place, run_by_hand, run_together};
 use crate::roots::{End, PIECES};
 use anyhow::Result;
@@ -86,6 +86,7 @@ fn time_at<R: Threads + Wait + Sync>(
     let many = capture_positions(rt.alloc(), SEED, IN_MEMORY)?;
     time(threads, rt, Place::Memory, many.as_slice(), table)?;
     time_alone(threads, rt, many.as_slice(), table)?;
+    time_machine(threads, rt, many.len())?;
     let some = capture_positions(rt.alloc(), SEED, ON_FILE)?;
     time(threads, rt, Place::File(path), some.as_slice(), table)?;
     let _ = fs::remove_file(rt, path);

@@ -1,7 +1,7 @@
 //! How many work records a second, and for how much of its time a worker has the turn.
 ghost use Rattle.std.specs.Prelude.{◌≡◌};
 
-use crate::alone::search_alone;
+use crate::alone::{calculate_alone, search_alone};
 use crate::by_hand::Spent;
 use crate::places::{Place, run_by_hand, run_together};
 use crate::roots::PIECES;
@@ -29,13 +29,18 @@ fn per_second(run: &Together) -> u128 {
     u128::from(run.end.work).saturating_mul(1_000_000_000) / run.spent.max(1)
 }
 
+/// How many times the one is the other: whole times, and hundredths.
+fn times(one: u128, other: u128) -> (u128, u128) {
+    let hundredths = one.saturating_mul(100) / other.max(1);
+    (hundredths / 100, hundredths % 100)
+}
+
 /// Prints the work records a second of one worker and of four, how many times as many those are, and the time that the
 /// processors took for one.
 fn print_rates(rt: &impl Print, place: Place, one: &Together, four: &Together) -> Result<()> {
     let (name, roots) = (place.name(), one.end.roots);
     let (slow, fast) = (per_second(one), per_second(four));
-    let hundredths = fast.saturating_mul(100) / slow.max(1);
-    let (whole, rest) = (hundredths / 100, hundredths % 100);
+    let (whole, rest) = times(fast, slow);
     let work = u128::from(one.end.work.max(1));
     let (alone, each) = (one.processors / work, four.processors / work);
     print!(rt; "{name}, {roots} roots: 1 worker {slow} records/s, 4 workers {fast} records/s, ")?;
@@ -108,6 +113,22 @@ fn time_turns<R: Wait>(
     print_turns(rt, place, best.end.work, &best.spent)
 }
 
+/// Prints how long one thread and four took for a position, and how many times as fast four are.
+fn print_alone(
+    rt: &impl Print,
+    what: &str,
+    positions: usize,
+    slow: u128,
+    fast: u128,
+) -> Result<()> {
+    let (whole, rest) = times(slow, fast);
+    let positions = (positions as u128).max(1);
+    let (one, four) = (slow / positions, fast / positions);
+    print!(rt; "no turns, {what}: 1 thread {one} ns, 4 threads {four} ns a position, ")?;
+    println!(rt; "ratio {whole}.{rest:02}")?;
+    Ok(())
+}
+
 /// Times what workers do between their turns, in one thread and in four, and prints the best of the runs.
 pub(crate) fn time_alone<R: Threads + Sync>(
     threads: &R,
@@ -120,20 +141,22 @@ pub(crate) fn time_alone<R: Threads + Sync>(
         slow = slow.min(search_alone(threads, rt, positions, table, 1)?);
         fast = fast.min(search_alone(threads, rt, positions, table, 4)?);
     }
-    let (whole, rest) = (
-        slow / fast.max(1),
-        slow.saturating_mul(100) / fast.max(1) % 100,
-    );
-    let each = |spent: u128| -> u128 { spent / (positions.len() as u128).max(1) };
-    print!(rt;
-        "no turns, searches and encoding alone: 1 thread {} ns, ",
-        each(slow)
-    )?;
-    println!(rt;
-        "4 threads {} ns a position, ratio {whole}.{rest:02}",
-        each(fast)
-    )?;
-    Ok(())
+    let what = "searches and encoding alone";
+    print_alone(rt, what, positions.len(), slow, fast)
+}
+
+/// Times threads that only calculate, one and four, and prints the best of the runs.
+pub(crate) fn time_machine<R: Threads + Sync>(
+    threads: &R,
+    rt: &HostRuntime,
+    positions: usize,
+) -> Result<()> {
+    let (mut slow, mut fast) = (u128::MAX, u128::MAX);
+    for _ in 0..RUNS {
+        slow = slow.min(calculate_alone(threads, rt, positions, 1)?);
+        fast = fast.min(calculate_alone(threads, rt, positions, 4)?);
+    }
+    print_alone(rt, "calculating in registers", positions, slow, fast)
 }
 
 /// Takes the time of workers at a place: of one and of four, and of one by hand.

@@ -3,8 +3,12 @@
 //! Without words it prints, for 1,000, 10,000 and 100,000 expansions, how many nodes the tree has
 //! and the numbers of its root for both goals. With the word `time` it prints expansions a second
 //! by the clock for each, how much of the time the tree itself takes, and how the rates compare.
+//!
+//! Behind that it does the same with 256, 4,096 and 65,536 roots, of which all but the first and the
+//! last are settled, and the first is taken: which node is picked, and how long a pick takes.
 #![tactic(auto)]
 
+mod crowds;
 mod grow;
 mod measure;
 
@@ -55,10 +59,11 @@ fn main(rt: HostRuntime) -> Result<()> {
         .nth(1)
         .is_some_and(|word| word.as_str() == "time");
     if is_timed {
-        return measure::time(&rt, &SIZES);
+        measure::time(&rt, &SIZES)?;
+        return crowds::time(&rt);
     }
     for size in SIZES {
         tell(&rt, size)?;
     }
-    Ok(())
+    crowds::tell(&rt)
 }

@@ -1,5 +1,5 @@
 //! What a worker has in hand, and what it does with it in a turn.
-ghost use Rattle.std.specs.Prelude.{◌≡◌, ◌≤◌, ◌<◌, [], length, All, OnOk, IfOk, IfErr, OnErr};
+ghost use Rattle.std.specs.Prelude.{◌≡◌, ◌≤◌, [], length, All, OnOk, IfOk, IfErr, OnErr};
 ghost use Rattle.tree_manager.specs.Lines.{recorded, applied_in};
 ghost use Rattle.tree_manager.specs.Turns.{GrowsByTurns, AsksForSearch, Leases};
 ghost use Rattle.worker_gate.specs.Work.{ShowsEnd};

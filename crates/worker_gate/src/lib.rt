@@ -1,5 +1,5 @@
-//! Workers at a shared bench: each leases a leaf, searches it, stages what was found and commits it, until there is
-//! nothing to lease.
+//! Workers at a shared bench: each leases leaves, searches them, stages what it found and commits it, until there is nothing
+//! to lease.
 //!
 //! How a worker ended is shown by the front of its pass (`specs/Work.antt`), and by nothing else: what the other workers
 //! did, and in which order, is known only as far as that front has it.

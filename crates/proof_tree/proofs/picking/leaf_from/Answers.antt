@@ -1,4 +1,4 @@
-use Rattle.std.proofs.Common.{◌≡◌, sym, ap, ◌∙◌}
+use Rattle.std.proofs.Common.{sym, ap, ◌∙◌}
 use Rattle.proof_numbers.specs.Numbers.{is_resolved}
 use Rattle.proof_tree.specs.Rows.{nodes_from}
 use Rattle.proof_tree.proofs.Meaning.{IsMeaning-nodes}

@@ -1,4 +1,4 @@
-use Rattle.std.proofs.Common.{ℕ, Option, arith, ap, sym, subst, ◌∙◌, ◌≡◌, ◌≤◌, ◌+◌}
+use Rattle.std.proofs.Common.{ℕ, Option, arith, ap, sym, subst, ◌∙◌, ◌+◌}
 use Rattle.proof_tree.specs.Rows.{row_at, blank}
 use Rattle.proof_tree.specs.declared.rows.NodeRow.{NodeRow}
 use Rattle.std.proofs.lemmas.List.{get_or_default}

@@ -1,4 +1,4 @@
-use Rattle.std.proofs.Common.{◌≡◌, ℕ, sym, ◌∙◌}
+use Rattle.std.proofs.Common.{sym, ◌∙◌}
 use Rattle.proof_tree.specs.Rows.{nodes_from}
 use Rattle.proof_tree.proofs.Meaning.{IsMeaning-nodes}
 use Rattle.proof_tree.proofs.Climbing.{walk-start, walk-leaf, walk-found, walk-busy, walk-repeats, walk-down, walk-root, walk-orphan, walk-up, parent_read}

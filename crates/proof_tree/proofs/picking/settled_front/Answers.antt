@@ -1,7 +1,7 @@
-use Rattle.std.proofs.Common.{rules, ◌≡◌, ◌≤◌, ◌<◌, ◌+◌, ℕ, suc, true, false, is_some, length, map, get_or, sym, ap, subst, arith, ◌∙◌}
+use Rattle.std.proofs.Common.{rules, ◌≡◌, ◌<◌, true, false, is_some, length, map, sym, ap, arith, ◌∙◌}
 use Rattle.std.proofs.lemmas.List.{get_or-map, length-map}
 use Rattle.proof_tree.specs.Forest.{Node, value_of}
-use Rattle.proof_tree.specs.Rows.{blank_node, node_in, nodes_from, settled_front}
+use Rattle.proof_tree.specs.Rows.{blank_node, node_in, nodes_from}
 use Rattle.proof_tree.proofs.Settled.{front_within, front_goes_on, front_ends}
 use Rattle.proof_tree.proofs.picking.settled_front.Goals as goal
 

@@ -1,6 +1,5 @@
-use Rattle.std.proofs.Common.{◌≡◌, ◌<◌, ◌≤◌, ℕ, List, length, map, get_or, sym, ap, subst, ◌∙◌}
+use Rattle.std.proofs.Common.{◌<◌, ◌≤◌, ℕ, List, length, map, get_or, sym, ap, subst, ◌∙◌}
 use Rattle.std.specs.Map.{values_of}
-use Rattle.proof_tree.specs.declared.rows.NodeRow.{NodeRow}
 use Rattle.proof_tree.specs.Rows.{node_in, nodes_from, settled_front}
 use Rattle.proof_tree.proofs.Choosing.{nodes-forest}
 use Rattle.proof_tree.proofs.Trees.{tops-are}

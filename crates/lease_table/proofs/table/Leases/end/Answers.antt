@@ -1,28 +1,30 @@
-use Rattle.std.proofs.Common.{◌≡◌, ◌∙◌, ◌++◌, ◌∷◌, [], ap, sym, subst, refl, rules, ℕ, List, Bool, true, false, Option, Some, None}
-use Rattle.std.specs.Prelude.{eqb, not, filter, find, ◌&&◌}
+use Rattle.std.proofs.Common.{◌≡◌, ◌∙◌, ap, sym, subst, List, true, false, None}
+use Rattle.std.specs.Prelude.{eqb, is_some}
 use Rattle.std.specs.Map.{lookup}
 use Rattle.std.specs.Option.{option_map_or}
-use Rattle.std.proofs.lemmas.Bool.{false≢true, eq-eqb, ne_eqb}
-use Rattle.std.proofs.lemmas.Map.Made.{filter_same_pairs}
 use Rattle.indexmap.specs.IndexMap.{insert_entry}
-use Rattle.indexmap.proofs.CallerLemmas.{insert_entry-new}
 use Rattle.lease_table.specs.declared.leases.Row.{Row}
-use Rattle.lease_table.specs.Rows.{LeaseRows, is_live_row, has_id, is_of, row_with, without, without_node, marked}
+use Rattle.lease_table.specs.Rows.{LeaseRows, is_live_row, row_with, without}
 use Rattle.lease_table.specs.Tables.{rows_of}
-use Rattle.lease_table.proofs.TableLemmas.{row_found, leased_is, noted_lives, node_lives, still_table, rows_filtered, marked_table, marked_is, given_table, none_filtered}
+use Rattle.lease_table.proofs.TableLemmas.{ended_is, ended_table, live_stands}
 use Rattle.lease_table.proofs.table.Leases.end.Goals as goal
+
+pub put-requires : goal.put-requires
+put-requires c =
+    let es = c.self.inside.rows.entries in
+    let live = subst (λ (t : LeaseRows). option_map_or (is_live_row t.limit c.args.now) (row_with c.args.id t.rows) false ≡ true) (sym c.self.view_is) (sym c.is_live.ensures ∙ c.if-not-is_live.false) in
+    ap (λ k. is_some (lookup (eqb k) es)) c.number.ensures ∙ live_stands (is_live_row c.self.inside.limit c.args.now) c.args.id es c.self.invariant.unique c.self.invariant.keyed live
 
 pub invariant_of-self : goal.invariant_of-self
 invariant_of-self c =
-    let test : Row → Bool = λ row. not (has_id c.number-number.result row) in
-    let kept = filter_same_pairs _ (λ (e : ℕ × Row). test e.1) _ (λ k v b w f' t. search rules) _ _ c.retain.ensures.filtered in
-    still_table test c.self.inside.rows.entries c.retain.new.self.entries c.self.inside.nodes.entries c.self.invariant c.retain.ensures.unique kept
+    let es = c.self.inside.rows.entries in
+    let same : c.put.new.rows.entries ≡ insert_entry eqb es c.args.id None = c.put.ensures.entries ∙ ap (λ k. insert_entry eqb es k None) c.number.ensures in
+    ended_table c.args.id es c.put.new.rows.entries c.self.inside.numbers.items c.self.invariant c.put.ensures.unique same
 
 pub returns-clause-ok : goal.returns-clause-ok
 returns-clause-ok c =
-    let test : Row → Bool = λ row. not (has_id c.number-number.result row) in
-    let kept = filter_same_pairs _ (λ (e : ℕ × Row). test e.1) _ (λ k v b w f' t. search rules) _ _ c.retain.ensures.filtered in
-    let rows : rows_of c.retain.new.self.entries ≡ without c.args.id (rows_of c.self.inside.rows.entries) =
-    ap rows_of kept ∙ rows_filtered test c.self.inside.rows.entries ∙ ap (λ n. without n (rows_of c.self.inside.rows.entries)) c.number-number.ensures in
+    let es = c.self.inside.rows.entries in
+    let same : c.put.new.rows.entries ≡ insert_entry eqb es c.args.id None = c.put.ensures.entries ∙ ap (λ k. insert_entry eqb es k None) c.number.ensures in
+    let rows : rows_of c.put.new.rows.entries ≡ without c.args.id (rows_of es) = ap rows_of same ∙ ended_is c.args.id es c.self.invariant.unique c.self.invariant.keyed in
     let Make : List Row → LeaseRows = λ rs. record { limit = c.self.inside.limit; rows = rs } in
     rw (← c.self.view_is) (ap Make rows)

@@ -1,61 +1,70 @@
-use Rattle.std.proofs.Common.{◌≡◌, ◌∙◌, ◌++◌, ◌∷◌, [], ap, sym, subst, refl, rules, ℕ, List, Bool, true, false, Option, Some, None}
-use Rattle.std.specs.Prelude.{eqb, is_some, not, filter, find, ◌&&◌}
+use Rattle.std.proofs.Common.{◌≡◌, ◌∙◌, ◌++◌, ◌∷◌, [], ap, sym, subst, refl, List, false, Some, None}
+use Rattle.std.specs.Prelude.{eqb, slice_get, length}
 use Rattle.std.specs.Map.{lookup}
-use Rattle.std.specs.Option.{option_map_or}
-use Rattle.std.proofs.lemmas.Bool.{false≢true, eq-eqb, ne_eqb}
-use Rattle.std.proofs.lemmas.Map.Made.{filter_same_pairs}
-use Rattle.indexmap.specs.IndexMap.{insert_entry}
+use Rattle.std.proofs.lemmas.Option.{slice_get_read}
 use Rattle.indexmap.proofs.CallerLemmas.{insert_entry-new}
 use Rattle.lease_table.specs.declared.leases.Row.{Row}
-use Rattle.lease_table.specs.Rows.{LeaseRows, is_live_row, has_id, is_of, row_with, without, without_node, marked}
-use Rattle.lease_table.specs.Tables.{rows_of, IsLeaseTable}
-use Rattle.lease_table.proofs.TableLemmas.{row_found, leased_is, noted_lives, node_lives, still_table, rows_filtered, marked_table, marked_is, given_table, none_standing}
-use Rattle.lease_table.proofs.TableLemmas.{none_known, absent_filtered}
-use Rattle.std.proofs.lemmas.List.{map_push}
+use Rattle.lease_table.specs.Rows.{LeaseRows, row_with, without_node}
+use Rattle.lease_table.specs.Tables.{Entry, rows_of, IsLeaseTable}
+use Rattle.lease_table.proofs.TableLemmas.{row_found, roomy_rows, roomy_table, given_rows, given_table, freed, freed_absent, on_err}
 use Rattle.lease_table.proofs.table.Leases.give.Goals as goal
 
-pub drop_rows_of-requires : goal.drop_rows_of-requires
-drop_rows_of-requires c =
-    λ stands.
-    let known : c.in-Ok.last ≡ lookup (eqb c.args.lease.node) c.self.inside.nodes.entries =
-    c.in-Ok.ensures.old ∙ ap (lookup (eqb c.args.lease.node)) c.in_ok-reserve-2.ensures.entries in
-    let none = sym c.has_row-stands.ensures ∙ stands in
-    subst (λ (es : List (ℕ × Row)). filter (λ e. not (is_of c.args.lease.node e.1)) es ≡ es) (sym c.in_ok-reserve.ensures.entries)
-    (none_standing c.args.lease.node c.self.inside.nodes.entries c.self.inside.rows.entries c.self.invariant.noted c.in-Ok.last known
-    (ap (λ (es : List (ℕ × Row)). option_map_or (λ id. is_some (lookup (eqb id) es)) c.in-Ok.last false) (sym c.in_ok-reserve.ensures.entries) ∙ none))
+pub make_room-requires-clause-none : goal.make_room-requires-clause-none
+make_room-requires-clause-none c =
+    let es = c.self.inside.rows.entries in
+    sym (row_found c.args.now es c.self.invariant.unique c.self.invariant.keyed) ∙ subst (λ (t : LeaseRows). row_with c.args.now t.rows ≡ None) (sym c.self.view_is) c.requires.new
+
+pub invariant_of-self : goal.invariant_of-self
+invariant_of-self c =
+    roomy_table c.self.inside.rows.entries c.make_room.new.rows.entries c.self.inside.numbers.items c.self.inside.numbers.items c.self.invariant c.make_room.ensures.unique c.make_room.ensures.entries (λ k n known. known)
+
+pub returns-in_err-make_room-clause-err : goal.returns-in_err-make_room-clause-err
+returns-in_err-make_room-clause-err c =
+    let Make : List Row → LeaseRows = λ rs. record { limit = c.self.inside.limit; rows = rs } in
+    rw (← c.self.view_is) (on_err _ c.from_residual.result (ap Make (roomy_rows c.self.inside.rows.entries c.make_room.new.rows.entries c.make_room.ensures.entries)))
+
+pub invariant_of-self-in_err-reach : goal.invariant_of-self-in_err-reach
+invariant_of-self-in_err-reach c =
+    roomy_table c.self.inside.rows.entries c.make_room.new.rows.entries c.self.inside.numbers.items c.reach.new.numbers.items c.self.invariant c.make_room.ensures.unique c.make_room.ensures.entries c.reach.ensures.kept
+
+pub returns-in_err-reach-clause-err : goal.returns-in_err-reach-clause-err
+returns-in_err-reach-clause-err c =
+    let Make : List Row → LeaseRows = λ rs. record { limit = c.self.inside.limit; rows = rs } in
+    rw (← c.self.view_is) (on_err _ c.from_residual-in_err-reach.result (ap Make (roomy_rows c.self.inside.rows.entries c.make_room.new.rows.entries c.make_room.ensures.entries)))
 
 pub invariant_of-self-2 : goal.invariant_of-self-2
 invariant_of-self-2 c =
+    let es = c.self.inside.rows.entries in
+    let roomy = c.make_room.new.rows.entries in
+    let numbers = c.reach.new.numbers.items in
     let node = c.args.lease.node in
     let now = c.args.now in
     let row : Row = record { lease = c.args.lease; kept = false } in
-    let es = c.self.inside.rows.entries in
-    let test : Row → Bool = λ r. not (is_of node r) in
-    let mid : c.drop_rows_of.new.rows.entries ≡ filter (λ (e : ℕ × Row). test e.1) es =
-    c.drop_rows_of.ensures.entries ∙ ap (filter (λ (e : ℕ × Row). test e.1)) c.in_ok-reserve.ensures.entries in
-    let fresh : lookup (eqb now) es ≡ None = row_found now es c.self.invariant.keyed ∙ subst (λ (t : LeaseRows). row_with now t.rows ≡ None) (sym c.self.view_is) c.requires.new in
-    let absent : lookup (eqb now) c.drop_rows_of.new.rows.entries ≡ None = ap (lookup (eqb now)) mid ∙ absent_filtered test now es fresh in
-    let same : c.insert-2.new.self.entries ≡ filter (λ (e : ℕ × Row). test e.1) es ++ (now, row) ∷ [] =
-    c.in-Ok-insert.ensures.entries ∙ insert_entry-new eqb c.drop_rows_of.new.rows now row absent ∙ ap (λ (l : List (ℕ × Row)). l ++ (now, row) ∷ []) mid in
-    let nodes : c.insert.new.self.entries ≡ insert_entry eqb c.self.inside.nodes.entries node now =
-    c.in-Ok.ensures.entries ∙ ap (λ (ns : List (ℕ × ℕ)). insert_entry eqb ns node now) c.in_ok-reserve-2.ensures.entries in
-    subst (λ (ns : List (ℕ × ℕ)). IsLeaseTable c.insert-2.new.self.entries ns) (sym nodes)
-    (given_table node now c.args.lease es c.insert-2.new.self.entries c.self.inside.nodes.entries c.self.invariant c.in-Ok-insert.ensures.unique c.requires.number refl same)
+    let table : IsLeaseTable roomy numbers = roomy_table es roomy c.self.inside.numbers.items numbers c.self.invariant c.make_room.ensures.unique c.make_room.ensures.entries c.reach.ensures.kept in
+    let last = c.index.result.now in
+    let known : slice_get numbers node ≡ Some last = slice_get_read numbers (length numbers) node last refl c.in_ok-reach.ensures.there c.index.ensures in
+    let left : c.end_last_of.new.rows.entries ≡ freed node last roomy = c.end_last_of.ensures.entries in
+    let absent : lookup (eqb now) c.end_last_of.new.rows.entries ≡ None = ap (lookup (eqb now)) left ∙ freed_absent node last now roomy c.make_room.ensures.absent in
+    let same : c.insert.new.self.entries ≡ freed node last roomy ++ (now, Some row) ∷ [] =
+    c.in-Ok.ensures.entries ∙ insert_entry-new eqb c.end_last_of.new.rows now (Some row) absent ∙ ap (λ (l : List Entry). l ++ (now, Some row) ∷ []) left in
+    given_table node last now row roomy c.insert.new.self.entries numbers table known c.in-Ok.ensures.unique c.requires.number refl same
 
 pub returns-clause-ok : goal.returns-clause-ok
 returns-clause-ok c =
+    let es = c.self.inside.rows.entries in
+    let roomy = c.make_room.new.rows.entries in
+    let numbers = c.reach.new.numbers.items in
     let node = c.args.lease.node in
     let now = c.args.now in
     let row : Row = record { lease = c.args.lease; kept = false } in
-    let es = c.self.inside.rows.entries in
-    let test : Row → Bool = λ r. not (is_of node r) in
-    let mid : c.drop_rows_of.new.rows.entries ≡ filter (λ (e : ℕ × Row). test e.1) es =
-    c.drop_rows_of.ensures.entries ∙ ap (filter (λ (e : ℕ × Row). test e.1)) c.in_ok-reserve.ensures.entries in
-    let fresh : lookup (eqb now) es ≡ None = row_found now es c.self.invariant.keyed ∙ subst (λ (t : LeaseRows). row_with now t.rows ≡ None) (sym c.self.view_is) c.requires.new in
-    let absent : lookup (eqb now) c.drop_rows_of.new.rows.entries ≡ None = ap (lookup (eqb now)) mid ∙ absent_filtered test now es fresh in
-    let same : c.insert-2.new.self.entries ≡ filter (λ (e : ℕ × Row). test e.1) es ++ (now, row) ∷ [] =
-    c.in-Ok-insert.ensures.entries ∙ insert_entry-new eqb c.drop_rows_of.new.rows now row absent ∙ ap (λ (l : List (ℕ × Row)). l ++ (now, row) ∷ []) mid in
-    let rows : rows_of c.insert-2.new.self.entries ≡ without_node node (rows_of es) ++ row ∷ [] =
-    ap rows_of same ∙ map_push (λ (e : ℕ × Row). e.1) (filter (λ (e : ℕ × Row). test e.1) es) (now, row) ∙ ap (λ (rs : List Row). rs ++ row ∷ []) (rows_filtered test es) in
+    let table : IsLeaseTable roomy numbers = roomy_table es roomy c.self.inside.numbers.items numbers c.self.invariant c.make_room.ensures.unique c.make_room.ensures.entries c.reach.ensures.kept in
+    let last = c.index.result.now in
+    let known : slice_get numbers node ≡ Some last = slice_get_read numbers (length numbers) node last refl c.in_ok-reach.ensures.there c.index.ensures in
+    let left : c.end_last_of.new.rows.entries ≡ freed node last roomy = c.end_last_of.ensures.entries in
+    let absent : lookup (eqb now) c.end_last_of.new.rows.entries ≡ None = ap (lookup (eqb now)) left ∙ freed_absent node last now roomy c.make_room.ensures.absent in
+    let same : c.insert.new.self.entries ≡ freed node last roomy ++ (now, Some row) ∷ [] =
+    c.in-Ok.ensures.entries ∙ insert_entry-new eqb c.end_last_of.new.rows now (Some row) absent ∙ ap (λ (l : List Entry). l ++ (now, Some row) ∷ []) left in
+    let rows : rows_of c.insert.new.self.entries ≡ without_node node (rows_of es) ++ row ∷ [] =
+    given_rows node last now row roomy c.insert.new.self.entries numbers table known same ∙ ap (λ (rs : List Row). without_node node rs ++ row ∷ []) (roomy_rows es roomy c.make_room.ensures.entries) in
     let Make : List Row → LeaseRows = λ rs. record { limit = c.self.inside.limit; rows = rs } in
     rw (← c.self.view_is) (ap Make rows)

@@ -1,63 +1,40 @@
-use Rattle.std.proofs.Common.{◌≡◌, ◌∙◌, ◌++◌, ◌∷◌, [], ap, sym, subst, refl, rules, ℕ, List, Bool, true, false, Option, Some, None}
-use Rattle.std.specs.Prelude.{eqb, not, filter, find, ◌&&◌}
+use Rattle.std.proofs.Common.{◌≡◌, ◌∙◌, ap, sym, List, true, Option, Some}
+use Rattle.std.specs.Prelude.{eqb, is_some}
 use Rattle.std.specs.Map.{lookup}
-use Rattle.std.specs.Option.{option_map_or}
-use Rattle.std.proofs.lemmas.Bool.{false≢true, eq-eqb, ne_eqb}
-use Rattle.std.proofs.lemmas.Map.Made.{filter_same_pairs}
 use Rattle.indexmap.specs.IndexMap.{insert_entry}
-use Rattle.indexmap.proofs.CallerLemmas.{insert_entry-new}
 use Rattle.lease_table.specs.declared.leases.Row.{Row}
-use Rattle.lease_table.specs.Rows.{LeaseRows, is_live_row, has_id, is_of, row_with, without, without_node, marked}
+use Rattle.lease_table.specs.Rows.{LeaseRows, row_with, marked}
 use Rattle.lease_table.specs.Tables.{rows_of}
-use Rattle.lease_table.proofs.TableLemmas.{row_found, leased_is, noted_lives, node_lives, still_table, rows_filtered, marked_table, marked_is, given_table, none_filtered}
+use Rattle.lease_table.proofs.TableLemmas.{stands_under, marked_is, marked_table}
 use Rattle.lease_table.proofs.table.Leases.keep.Goals as goal
 
-pub returns-in_default-clause-stale : goal.returns-in_default-clause-stale
-returns-in_default-clause-stale c =
-    let es = c.self.inside.rows.entries in
-    let id = c.args.id in
-    let known : lookup (eqb id) es ≡ None = sym (c.in_default.ensures ∙ c.get.ensures.value ∙ ap (λ k. lookup (eqb k) es) c.number.ensures) in
-    let none : row_with id (rows_of es) ≡ None = sym (row_found id es c.self.invariant.keyed) ∙ known in
-    rw (← c.self.view_is) (λ _. ap (λ o. option_map_or (is_live_row c.self.inside.limit c.args.now) o false) none, λ _. refl)
-
-pub returns-then-not-is_live-clause-stale : goal.returns-then-not-is_live-clause-stale
-returns-then-not-is_live-clause-stale c =
+pub put-requires : goal.put-requires
+put-requires c =
     let es = c.self.inside.rows.entries in
     let id = c.args.id in
     let row = c.in-Some.row in
-    let known : lookup (eqb id) es ≡ Some row = sym (c.in-Some.ensures ∙ c.get.ensures.value ∙ ap (λ k. lookup (eqb k) es) c.number.ensures) in
-    let found : row_with id (rows_of es) ≡ Some row = sym (row_found id es c.self.invariant.keyed) ∙ known in
-    let live : option_map_or (is_live_row c.self.inside.limit c.args.now) (row_with id (rows_of es)) false ≡ is_live_row c.self.inside.limit c.args.now row =
-    ap (λ o. option_map_or (is_live_row c.self.inside.limit c.args.now) o false) found in
-    rw (← c.self.view_is) (λ _. live ∙ sym c.if-not-is_live.ensures, λ _. refl)
+    let found : row_with id (rows_of es) ≡ Some row = sym (c.in-Some.ensures ∙ ap (λ (t : LeaseRows). row_with c.number.result t.rows) (sym c.self.view_is) ∙ ap (λ k. row_with k (rows_of es)) c.number.ensures) in
+    let known : lookup (eqb id) es ≡ Some (Some row) = stands_under id es row c.self.invariant.unique c.self.invariant.keyed found in
+    ap (λ k. is_some (lookup (eqb k) es)) c.number-2.ensures ∙ ap (λ (o : Option (Option Row)). is_some o) known
 
 pub invariant_of-self : goal.invariant_of-self
 invariant_of-self c =
     let es = c.self.inside.rows.entries in
     let id = c.args.id in
     let row = c.in-Some.row in
-    let known : lookup (eqb id) es ≡ Some row = sym (c.in-Some.ensures ∙ c.get.ensures.value ∙ ap (λ k. lookup (eqb k) es) c.number.ensures) in
-    let same : c.insert.new.self.entries ≡ insert_entry eqb es id (record row { kept = true }) = c.in-Ok.ensures.entries ∙ ap (λ k. insert_entry eqb es k (record row { kept = true })) c.number-2.ensures in
-    marked_table id true es c.insert.new.self.entries row c.self.inside.nodes.entries c.self.invariant c.in-Ok.ensures.unique known same
-
-pub returns-clause-stale : goal.returns-clause-stale
-returns-clause-stale c =
-    let es = c.self.inside.rows.entries in
-    let id = c.args.id in
-    let row = c.in-Some.row in
-    let known : lookup (eqb id) es ≡ Some row = sym (c.in-Some.ensures ∙ c.get.ensures.value ∙ ap (λ k. lookup (eqb k) es) c.number.ensures) in
-    let found : row_with id (rows_of es) ≡ Some row = sym (row_found id es c.self.invariant.keyed) ∙ known in
-    let live : option_map_or (is_live_row c.self.inside.limit c.args.now) (row_with id (rows_of es)) false ≡ is_live_row c.self.inside.limit c.args.now row =
-    ap (λ o. option_map_or (is_live_row c.self.inside.limit c.args.now) o false) found in
-    rw (← c.self.view_is) (λ e. absurd (false≢true e), λ dead. absurd (false≢true (sym dead ∙ live ∙ sym c.if-not-is_live.ensures)))
+    let found : row_with id (rows_of es) ≡ Some row = sym (c.in-Some.ensures ∙ ap (λ (t : LeaseRows). row_with c.number.result t.rows) (sym c.self.view_is) ∙ ap (λ k. row_with k (rows_of es)) c.number.ensures) in
+    let known : lookup (eqb id) es ≡ Some (Some row) = stands_under id es row c.self.invariant.unique c.self.invariant.keyed found in
+    let same : c.put.new.rows.entries ≡ insert_entry eqb es id (Some (record row { kept = true })) = c.put.ensures.entries ∙ ap (λ k. insert_entry eqb es k (Some (record row { kept = true }))) c.number-2.ensures in
+    marked_table id true es c.put.new.rows.entries row c.self.inside.numbers.items c.self.invariant c.put.ensures.unique known same
 
 pub returns-clause-ok : goal.returns-clause-ok
 returns-clause-ok c =
     let es = c.self.inside.rows.entries in
     let id = c.args.id in
     let row = c.in-Some.row in
-    let known : lookup (eqb id) es ≡ Some row = sym (c.in-Some.ensures ∙ c.get.ensures.value ∙ ap (λ k. lookup (eqb k) es) c.number.ensures) in
-    let same : c.insert.new.self.entries ≡ insert_entry eqb es id (record row { kept = true }) = c.in-Ok.ensures.entries ∙ ap (λ k. insert_entry eqb es k (record row { kept = true })) c.number-2.ensures in
-    let rows : rows_of c.insert.new.self.entries ≡ marked id true (rows_of es) = ap rows_of same ∙ marked_is id true es row c.self.invariant.unique c.self.invariant.keyed known in
+    let found : row_with id (rows_of es) ≡ Some row = sym (c.in-Some.ensures ∙ ap (λ (t : LeaseRows). row_with c.number.result t.rows) (sym c.self.view_is) ∙ ap (λ k. row_with k (rows_of es)) c.number.ensures) in
+    let known : lookup (eqb id) es ≡ Some (Some row) = stands_under id es row c.self.invariant.unique c.self.invariant.keyed found in
+    let same : c.put.new.rows.entries ≡ insert_entry eqb es id (Some (record row { kept = true })) = c.put.ensures.entries ∙ ap (λ k. insert_entry eqb es k (Some (record row { kept = true }))) c.number-2.ensures in
+    let rows : rows_of c.put.new.rows.entries ≡ marked id true (rows_of es) = ap rows_of same ∙ marked_is id true es row c.self.invariant.unique c.self.invariant.keyed known in
     let Make : List Row → LeaseRows = λ rs. record { limit = c.self.inside.limit; rows = rs } in
     rw (← c.self.view_is) (ap Make rows)

@@ -1,4 +1,4 @@
-use Rattle.std.proofs.Common.{◌≡◌, ◌≤◌, ◌<◌, ◌+◌, ◌-◌, ◌++◌, ◌∷◌, [], ℕ, List, length, arith, refl, sym, ap, subst, ◌∙◌}
+use Rattle.std.proofs.Common.{◌≡◌, ◌≤◌, ◌<◌, ◌-◌, ◌++◌, ◌∷◌, [], ℕ, List, length, arith, refl, sym, ap, subst, ◌∙◌}
 use Rattle.std.specs.Prelude.{Contains}
 use Rattle.std.specs.Map.{values_of}
 use Rattle.std.specs.Vec.{vec_capacity}
@@ -6,9 +6,9 @@ use Rattle.indexmap.specs.IndexMap.{spare}
 use Rattle.draughts_board.specs.Board.{Board}
 use Rattle.proof_tree.specs.declared.rows.NodeRow.{NodeRow}
 use Rattle.proof_tree.specs.Forest.{nodes}
-use Rattle.proof_tree.specs.Rows.{root_row, roots_from, forest_of, settled_front, AreLinked, Fits, IsTree}
+use Rattle.proof_tree.specs.Rows.{roots_from, forest_of, settled_front, AreNoted, AreLinked, Fits}
 use Rattle.proof_tree.proofs.Fronts.{next-added}
-use Rattle.proof_tree.proofs.Adding.{with_root-is, IsTree-added}
+use Rattle.proof_tree.proofs.Adding.{with_root-is}
 use Rattle.proof_tree.proofs.Trees.{seen, spare_is, positions-are, roots-many, length-roots}
 use Rattle.proof_tree.proofs.tree.Tree.add_root.Goals as goal
 
@@ -25,20 +25,65 @@ add-requires-clause-room c =
     let room = c.requires.room in
     omega (arith, r, m, s, few, room)
 
-pub front_of-self-inside-requires : goal.front_of-self-inside-requires
-front_of-self-inside-requires c =
+pub follow-self-inside-requires-clause-linked : goal.follow-self-inside-requires-clause-linked
+follow-self-inside-requires-clause-linked c =
     let number : c.len-number.result ≡ length c.self.inside.rows.items = (let l = c.len-number.ensures in let o = c.self.inside.rows.ok.0 in omega (arith, l, o)) in
     let next = next-added c.self.inside.rows.items c.self.inside.roots.entries _ _ c.self.inside.spare c.self.invariant.tree c.args.self.now c.self.view_is
     c.self.inside.front c.self.invariant.settled c.args.root c.requires.room c.requires.few c.push_root.ensures.lawful c.requires.absent
     c.push_root.new.rows.items c.add.new.roots.entries c.len-number.result c.push_root.ensures.items c.add.ensures.entries number
     (vec_capacity c.push_root.new.rows) (spare c.add.new.roots) c.push_root.ensures.room c.add.ensures.room in
     let D = c.deref.ensures.value in
-    record {
-      linked = subst AreLinked (sym D) next.tree.linked;
-      fits = subst (λ (xs : List NodeRow). (k : ℕ) → k < length xs → Fits xs k) (sym D) next.tree.fits;
-      roots = subst (λ (xs : List NodeRow). values_of c.add.new.roots.entries ≡ roots_from 0 xs) (sym D) next.tree.roots;
-      settled = subst (λ (xs : List NodeRow). c.self.inside.front ≤ settled_front (nodes (forest_of xs (values_of c.add.new.roots.entries)))) (sym D) next.settled;
-    }
+    subst AreLinked (sym D) next.tree.linked
+
+pub follow-self-inside-requires-clause-fits : goal.follow-self-inside-requires-clause-fits
+follow-self-inside-requires-clause-fits c =
+    let number : c.len-number.result ≡ length c.self.inside.rows.items = (let l = c.len-number.ensures in let o = c.self.inside.rows.ok.0 in omega (arith, l, o)) in
+    let next = next-added c.self.inside.rows.items c.self.inside.roots.entries _ _ c.self.inside.spare c.self.invariant.tree c.args.self.now c.self.view_is
+    c.self.inside.front c.self.invariant.settled c.args.root c.requires.room c.requires.few c.push_root.ensures.lawful c.requires.absent
+    c.push_root.new.rows.items c.add.new.roots.entries c.len-number.result c.push_root.ensures.items c.add.ensures.entries number
+    (vec_capacity c.push_root.new.rows) (spare c.add.new.roots) c.push_root.ensures.room c.add.ensures.room in
+    let D = c.deref.ensures.value in
+    subst (λ (xs : List NodeRow). (k : ℕ) → k < length xs → Fits xs k) (sym D) next.tree.fits
+
+pub follow-self-inside-requires-clause-roots : goal.follow-self-inside-requires-clause-roots
+follow-self-inside-requires-clause-roots c =
+    let number : c.len-number.result ≡ length c.self.inside.rows.items = (let l = c.len-number.ensures in let o = c.self.inside.rows.ok.0 in omega (arith, l, o)) in
+    let next = next-added c.self.inside.rows.items c.self.inside.roots.entries _ _ c.self.inside.spare c.self.invariant.tree c.args.self.now c.self.view_is
+    c.self.inside.front c.self.invariant.settled c.args.root c.requires.room c.requires.few c.push_root.ensures.lawful c.requires.absent
+    c.push_root.new.rows.items c.add.new.roots.entries c.len-number.result c.push_root.ensures.items c.add.ensures.entries number
+    (vec_capacity c.push_root.new.rows) (spare c.add.new.roots) c.push_root.ensures.room c.add.ensures.room in
+    let D = c.deref.ensures.value in
+    subst (λ (xs : List NodeRow). values_of c.add.new.roots.entries ≡ roots_from 0 xs) (sym D) next.tree.roots
+
+pub follow-self-inside-requires-clause-few : goal.follow-self-inside-requires-clause-few
+follow-self-inside-requires-clause-few c =
+    let number : c.len-number.result ≡ length c.self.inside.rows.items = (let l = c.len-number.ensures in let o = c.self.inside.rows.ok.0 in omega (arith, l, o)) in
+    let next = next-added c.self.inside.rows.items c.self.inside.roots.entries _ _ c.self.inside.spare c.self.invariant.tree c.args.self.now c.self.view_is
+    c.self.inside.front c.self.invariant.settled c.args.root c.requires.room c.requires.few c.push_root.ensures.lawful c.requires.absent
+    c.push_root.new.rows.items c.add.new.roots.entries c.len-number.result c.push_root.ensures.items c.add.ensures.entries number
+    (vec_capacity c.push_root.new.rows) (spare c.add.new.roots) c.push_root.ensures.room c.add.ensures.room in
+    let D = c.deref.ensures.value in
+    next.tree.few_roots
+
+pub follow-self-inside-requires-clause-settled : goal.follow-self-inside-requires-clause-settled
+follow-self-inside-requires-clause-settled c =
+    let number : c.len-number.result ≡ length c.self.inside.rows.items = (let l = c.len-number.ensures in let o = c.self.inside.rows.ok.0 in omega (arith, l, o)) in
+    let next = next-added c.self.inside.rows.items c.self.inside.roots.entries _ _ c.self.inside.spare c.self.invariant.tree c.args.self.now c.self.view_is
+    c.self.inside.front c.self.invariant.settled c.args.root c.requires.room c.requires.few c.push_root.ensures.lawful c.requires.absent
+    c.push_root.new.rows.items c.add.new.roots.entries c.len-number.result c.push_root.ensures.items c.add.ensures.entries number
+    (vec_capacity c.push_root.new.rows) (spare c.add.new.roots) c.push_root.ensures.room c.add.ensures.room in
+    let D = c.deref.ensures.value in
+    subst (λ (xs : List NodeRow). c.self.inside.front ≤ settled_front (nodes (forest_of xs (values_of c.add.new.roots.entries)))) (sym D) next.settled
+
+pub follow-self-inside-requires-clause-noted : goal.follow-self-inside-requires-clause-noted
+follow-self-inside-requires-clause-noted c =
+    let number : c.len-number.result ≡ length c.self.inside.rows.items = (let l = c.len-number.ensures in let o = c.self.inside.rows.ok.0 in omega (arith, l, o)) in
+    let next = next-added c.self.inside.rows.items c.self.inside.roots.entries _ _ c.self.inside.spare c.self.invariant.tree c.args.self.now c.self.view_is
+    c.self.inside.front c.self.invariant.settled c.args.root c.requires.room c.requires.few c.push_root.ensures.lawful c.requires.absent
+    c.push_root.new.rows.items c.add.new.roots.entries c.len-number.result c.push_root.ensures.items c.add.ensures.entries number
+    (vec_capacity c.push_root.new.rows) (spare c.add.new.roots) c.push_root.ensures.room c.add.ensures.room in
+    let D = c.deref.ensures.value in
+    subst (λ (xs : List NodeRow). AreNoted (nodes (forest_of xs (values_of c.add.new.roots.entries))) c.add_root.new.self.ends.items c.add_root.new.self.starts.items) (sym D) (c.add_root.ensures (nodes (forest_of c.push_root.new.rows.items (values_of c.add.new.roots.entries))) (next.noted c.self.inside.stretches.ends.items c.self.inside.stretches.starts.items c.self.invariant.noted))
 
 pub invariant_of-self : goal.invariant_of-self
 invariant_of-self c =
@@ -49,7 +94,8 @@ invariant_of-self c =
     (vec_capacity c.push_root.new.rows) (spare c.add.new.roots) c.push_root.ensures.room c.add.ensures.room in
     record {
       tree = next.tree;
-      settled = c.front_of-self-inside.ensures ∙ ap (λ (xs : List NodeRow). settled_front (nodes (forest_of xs (values_of c.add.new.roots.entries)))) c.deref.ensures.value;
+      settled = c.follow-self-inside.ensures.front ∙ ap (λ (xs : List NodeRow). settled_front (nodes (forest_of xs (values_of c.add.new.roots.entries)))) c.deref.ensures.value;
+      noted = subst (λ (xs : List NodeRow). AreNoted (nodes (forest_of xs (values_of c.add.new.roots.entries))) c.follow-self-inside.new.stretches.ends.items c.follow-self-inside.new.stretches.starts.items) c.deref.ensures.value c.follow-self-inside.ensures.noted;
     }
 
 pub returns-clause-tree : goal.returns-clause-tree

@@ -1,4 +1,4 @@
-use Rattle.std.proofs.Common.{◌≡◌, eqb, is_some, length, sym, ap, ◌∙◌}
+use Rattle.std.proofs.Common.{eqb, is_some, sym, ap, ◌∙◌}
 use Rattle.std.specs.List.{list_all}
 use Rattle.std.specs.Map.{values_of}
 use Rattle.proof_tree.specs.Forest.{nodes, value_of}

@@ -1,4 +1,4 @@
-use Rattle.std.proofs.Common.{◌≡◌, ◌≤◌, ◌+◌, ◌-◌, ◌↔◌, ℕ, List, Option, Some, None, arith, sym, ap, subst, ◌∙◌}
+use Rattle.std.proofs.Common.{◌≡◌, ◌+◌, ◌-◌, ◌↔◌, ℕ, List, Some, None, arith, sym, ap, subst, ◌∙◌}
 use Rattle.std.specs.Prelude.{Contains, IsNone, slice_get}
 use Rattle.std.specs.Map.{keys_of}
 use Rattle.draughts_board.specs.Board.{Board}

@@ -1,4 +1,4 @@
-use Rattle.std.proofs.Common.{◌≡◌, ℕ, eqb, length, vec_len, arith, ap, ◌∙◌}
+use Rattle.std.proofs.Common.{◌≡◌, ℕ, eqb, vec_len, arith, ap, ◌∙◌}
 use Rattle.proof_tree.specs.Forest.{size}
 use Rattle.proof_tree.proofs.Trees.{size-is}
 use Rattle.proof_tree.proofs.tree.Tree.is_empty.Goals as goal

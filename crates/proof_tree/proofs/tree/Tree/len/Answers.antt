@@ -1,4 +1,4 @@
-use Rattle.std.proofs.Common.{◌≡◌, length, arith}
+use Rattle.std.proofs.Common.{arith}
 use Rattle.proof_tree.proofs.Trees.{size-is, valid}
 use Rattle.proof_tree.proofs.tree.Tree.len.Goals as goal
 

@@ -1,4 +1,4 @@
-use Rattle.std.proofs.Common.{◌≡◌, ◌<◌, length, arith, refl}
+use Rattle.std.proofs.Common.{arith, refl}
 use Rattle.std.proofs.lemmas.Bool.{false≢true}
 use Rattle.proof_tree.proofs.Trees.{there, is_there}
 use Rattle.proof_tree.proofs.tree.Tree.node.Goals as goal

@@ -1,8 +1,9 @@
 use Rattle.std.proofs.Common.{◌≡◌, ◌<◌, ◌≤◌, ℕ, None, List, length, map, get_or, arith, sym, ap, subst, ◌∙◌}
 use Rattle.std.specs.Map.{values_of}
 use Rattle.proof_tree.specs.declared.rows.NodeRow.{NodeRow}
+use Rattle.proof_tree.specs.Forest.{Node}
 use Rattle.proof_tree.specs.Picking.{pick, pick_from}
-use Rattle.proof_tree.specs.Rows.{row_at, node_in, nodes_from, settled_front}
+use Rattle.proof_tree.specs.Rows.{row_at, node_in, nodes_from, settled_front, AreNoted}
 use Rattle.proof_tree.specs.Sound.{TreeState}
 use Rattle.proof_tree.proofs.Choosing.{nodes-forest}
 use Rattle.proof_tree.proofs.Picked.{picked-clause}
@@ -34,6 +35,16 @@ pick_from-requires-clause-settled g c =
     subst (λ (ts : List ℕ). c.self.inside.front ≤ settled_front (map (node_in (nodes_from 0 c.deref.result.now)) ts)) (sym R)
     (subst (λ (rs : List NodeRow). c.self.inside.front ≤ settled_front (map (node_in (nodes_from 0 rs)) (values_of c.self.inside.roots.entries))) (sym D)
     (let same = c.self.invariant.settled ∙ ap settled_front (nodes-forest (map (node_in (nodes_from 0 c.self.inside.rows.items)) (values_of c.self.inside.roots.entries))) in omega (arith, same)))
+
+pub pick_from-requires-clause-noted : goal.pick_from-requires-clause-noted
+pick_from-requires-clause-noted g c =
+    let R = c.as_slice.ensures ∙ c.values-roots.ensures.rest in
+    let D = c.deref.ensures.value in
+    let ends = c.self.inside.stretches.ends.items in
+    let starts = c.self.inside.stretches.starts.items in
+    subst (λ (ts : List ℕ). AreNoted (map (node_in (nodes_from 0 c.deref.result.now)) ts) ends starts) (sym R)
+    (subst (λ (rs : List NodeRow). AreNoted (map (node_in (nodes_from 0 rs)) (values_of c.self.inside.roots.entries)) ends starts) (sym D)
+    (subst (λ (xs : List Node). AreNoted xs ends starts) (nodes-forest (map (node_in (nodes_from 0 c.self.inside.rows.items)) (values_of c.self.inside.roots.entries))) c.self.invariant.noted))
 
 pub returns-clause-value : goal.returns-clause-value
 returns-clause-value g c =

@@ -1,4 +1,4 @@
-use Rattle.std.proofs.Common.{◌≡◌, ◌<◌, ◌-◌, length, arith}
+use Rattle.std.proofs.Common.{◌-◌, arith}
 use Rattle.proof_tree.proofs.Trees.{roots-many, root-number}
 use Rattle.proof_tree.proofs.tree.Tree.root_node.Goals as goal
 

@@ -1,4 +1,4 @@
-use Rattle.std.proofs.Common.{◌≡◌, arith}
+use Rattle.std.proofs.Common.{arith}
 use Rattle.proof_tree.proofs.Trees.{roots-many, valid}
 use Rattle.proof_tree.proofs.tree.Tree.roots.Goals as goal
 

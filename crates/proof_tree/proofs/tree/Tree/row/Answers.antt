@@ -1,4 +1,4 @@
-use Rattle.std.proofs.Common.{◌≡◌, ◌<◌, ℕ, length, get_or, arith, ap, ◌∙◌}
+use Rattle.std.proofs.Common.{ℕ, get_or, arith, ap, ◌∙◌}
 use Rattle.proof_tree.proofs.Trees.{there, read-row}
 use Rattle.proof_tree.proofs.tree.Tree.row.Goals as goal
 

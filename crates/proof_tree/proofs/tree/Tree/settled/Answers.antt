@@ -1,4 +1,4 @@
-use Rattle.std.proofs.Common.{◌≡◌, ◌<◌, ◌-◌, length, arith, ◌∙◌}
+use Rattle.std.proofs.Common.{◌-◌, arith, ◌∙◌}
 use Rattle.proof_tree.specs.Forest.{value_by}
 use Rattle.proof_tree.proofs.Trees.{roots-many, root-inside, root-value, valid}
 use Rattle.proof_tree.proofs.tree.Tree.settled.Goals as goal
