@@ -54,7 +54,7 @@ def main():
         rows = {name: cell(stands_on, name) for name in rows if name in stands_on}
     failed = False
     for name in stands_on:
-        is_beside = name.endswith(("_bench", "_tests")) and name != "opening_bench"
+        is_beside = name.endswith(("_bench", "_trial", "_tests")) and name != "opening_bench"
         named = any(f"`{name}`" in line for line in lines)
         if (is_beside and named) or rows.get(name) == cell(stands_on, name):
             continue

@@ -10,17 +10,17 @@
 mod captures;
 mod cell_board;
 mod jumps;
+mod legal_test;
 mod move_lists;
 mod near_squares;
 mod next;
-mod path_tests;
 mod pieces;
 mod resolution;
 mod square_list;
 mod steps;
 
 pub use draughts_board::ResolveRefusal;
+pub use legal_test::is_legal;
 pub use move_lists::{has_move, legal_moves};
 pub use next::{apply, move_to, successors};
-pub use path_tests::is_legal;
 pub use resolution::resolve;

@@ -1,4 +1,4 @@
-//! What stands on a shelf. Tests of `join` stand in `joiner_bench`: they need a search, a table and
+//! What stands on a shelf. Tests of `join` stand in `joiner_trial`: they need a search, a table and
 //! the checker.
 use crate::trees::{grow_at, planted};
 use certificate_joiner::PartShelf;

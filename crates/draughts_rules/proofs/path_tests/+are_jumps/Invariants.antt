@@ -1,5 +1,0 @@
-use Rattle.std.proofs.Common.{length}
-use Rattle.draughts_rules.proofs.path_tests.+are_jumps.Given as goal
-
-abbrev pub decreases-are_jumps : goal.decreases-are_jumps
-decreases-are_jumps l = length l.path.now

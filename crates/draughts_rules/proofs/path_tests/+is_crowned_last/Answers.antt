@@ -1,5 +1,0 @@
-use Rattle.draughts_board.proofs.LegalTests.{but_last-short}
-use Rattle.draughts_rules.proofs.path_tests.+is_crowned_last.Goals as goal
-
-pub returns-in_default : goal.returns-in_default
-returns-in_default t c = but_last-short _ c.args.path.now c.in_default.len_below

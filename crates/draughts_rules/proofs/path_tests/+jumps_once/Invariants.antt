@@ -1,5 +1,0 @@
-use Rattle.std.proofs.Common.{length}
-use Rattle.draughts_rules.proofs.path_tests.+jumps_once.Given as goal
-
-abbrev pub decreases-jumps_once : goal.decreases-jumps_once
-decreases-jumps_once l = length l.path.now
