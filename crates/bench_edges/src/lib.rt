@@ -1,13 +1,17 @@
 //! The edges of the program: where its bytes come from, where they go, and the words that it is
 //! called with.
 //!
-//! A [`Source`] gives bytes and a [`Sink`] takes them. Each counts its own faults, and a call fails
-//! only where that count rose, so that no layer above can claim a fault that did not happen. What a
-//! source has left and what a sink has taken are values that contracts see, where the object tells
-//! them. [`read_to_limit`] and [`write_all`] are the two loops over them.
+//! A [`Source`] gives bytes and a [`Sink`] takes them. Each counts its own faults. What a source
+//! has left and what a sink has taken are values that contracts see, where the object tells them.
+//! [`read_to_limit`] and [`write_all`] are the two loops over them. [`Status`] is how a run ends.
 //!
-//! [`read_words`] reads the words of the command line by the grammar of the manual, and names the
-//! first word that cannot stand where it stands. [`Status`] is how a run ends.
+//! Proved: what a read takes from a source and a write gives to a sink; a fault is answered only
+//! where its count rose, so that no layer above can claim one that did not happen. [`read_words`]
+//! reads exactly the grammar of the words, with numbers within their limits, and else names the
+//! first word that cannot stand where it stands.
+//!
+//! Tests: edge_tests/src/words.rt, edge_tests/src/sources.rt, edge_tests/src/sinks.rt,
+//! edge_tests/src/printed.rt
 #![tactic(auto)]
 
 mod memory_sink;

@@ -1,5 +1,7 @@
-//! Tests of the public calls of the board, its rules, its two generators, indices, numbers and leases. Both generators
-//! resolve the same written moves; else there is a file for each crate.
+//! Tests of the public calls of the board, its rules, its two generators, indices, numbers and
+//! leases.
+//!
+//! Each crate that is tested has a file here. Both generators resolve the same written moves.
 #![tactic(auto)]
 
 #[cfg(test)]

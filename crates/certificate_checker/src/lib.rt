@@ -1,5 +1,15 @@
 //! The checker of certificates. It knows the rules of play and the answers of an endgame table, and
 //! nothing of search: what it accepts is true, however it was found.
+//!
+//! A [`Proved`] is a certificate that was accepted; its claim is true by its type. An [`Exhausted`]
+//! says by its type that looking as far ahead as was asked shows neither the goal's win nor the
+//! other side's hold.
+//!
+//! Proved: `check` accepts exactly the certificates that are good by a sound oracle, and refuses
+//! exactly for what fails first, with part and entry from 1. It hands the certificate back.
+//! `child_at_sight` and `children_at_sight` give a position and its successors, in order, with
+//! exactly the facts that are known at sight. `told` and `told_by_all` give exactly the facts that
+//! a claim, or certificates of one position together, say or imply.
 #![tactic(auto)]
 
 mod checking;

@@ -1,8 +1,18 @@
-//! One certificate for each settled root of a proof tree, joined from what leaves were searched for.
+//! One certificate for each settled root of a proof tree, joined from what leaves were searched
+//! for.
 //!
-//! What is known of a node is seen at sight, or a certificate that stands on a shelf for the node shows it
-//! (`specs/Certified.antt`). Where that is so of every node, the certificates of the nodes of a strategy make up one
-//! certificate of the root that claims its value (`join`), and the value is true (`laws`).
+//! What is known of a node is seen at sight, or a certificate that stands on a shelf for the node
+//! shows it (`specs/Certified.antt`). Certificates stand on the shelf under their node, batch by
+//! batch, and none is dropped or changed.
+//!
+//! Proved: if every fact of a tree is seen at sight or shown by a certificate on the shelf for its
+//! node, `join` gives of each settled root one certificate that claims its value and is good by
+//! each sound table, or fails for want of memory. `laws`: such a root's value is that of its
+//! position. Facts stay certified as the tree grows: by roots and children with their facts at
+//! sight, and by facts that a batch put on the shelf shows. Such facts never contradict those of
+//! the node, and nothing stands on the shelf for nodes that are not there.
+//!
+//! Tests: proof_tests/src/joining.rt, joiner_trial/src/tests.rt
 #![tactic(auto)]
 
 mod certificates;

@@ -1,16 +1,18 @@
-//! Plays lists of events on benches, seeded and in an order that looks random: workers ask for leases and hand in results,
-//! in time or too late, results are taken back, leases are released, roots begin, and what is staged is applied.
+//! Plays lists of events on benches, seeded and in an order that looks random: workers ask for
+//! leases and hand in results, in time or too late, results are taken back, leases are released,
+//! roots begin, and what is staged is applied.
 //!
-//! Each answer is compared with that of a plain list of leases. At the end of a list the records that came of it are read
-//! back into another bench, whose tree is compared, and the certificate of each settled root is checked. A difference
-//! ends the program with an error. For each setting it prints how many events there were of each kind.
+//! Each answer is compared with that of a plain list of leases. At the end of a list the records
+//! that came of it are read back into another bench, whose tree is compared, and the certificate of
+//! each settled root is checked. A difference ends the program with an error. For each setting it
+//! prints how many events there were of each kind.
 //!
-//! Before that it prints the answers in worked rows of events, and of how many of 100,000 leases, 64 of them alive at a
-//! time, the leaf was leased already.
+//! Before that it prints the answers in worked rows of events, and of how many of 100,000 leases,
+//! 64 of them alive at a time, the leaf was leased already.
 //!
-//! With the word `time` it prints how long a lease takes, at the first of a million leases and behind the last, and how
-//! long a pick of the same tree among the same taken leaves; with one root, and with 4,096 and 65,536 of which only the
-//! last is unsettled.
+//! With the word `time` it prints how long a lease takes, at the first of a million leases and
+//! behind the last, and how long a pick of the same tree among the same taken leaves; with one
+//! root, and with 4,096 and 65,536 of which only the last is unsettled.
 #![tactic(auto)]
 
 ghost use Rattle.std.specs.Prelude.{◌≤◌};

@@ -2,9 +2,14 @@
 //! that they lead to.
 //!
 //! What the rules say stands in `specs/Rules.antt` of `draughts_board`, as relations on whole
-//! paths, which compute nothing. Each call here is proved to give exactly what those relations say:
-//! every legal move and no other, each once and in rising order of path; every successor, each
-//! once, in the order of the first move that gives it.
+//! paths, which compute nothing.
+//!
+//! Proved: `legal_moves` gives exactly the legal paths, each once, in rising order. `successors`
+//! gives exactly the distinct positions, each at the first move that gives it. `is_legal`, `apply`
+//! and `has_move` are the definitions. `resolve` says which legal move a written one means, or that
+//! it is illegal or ambiguous. `move_to` gives the first move to a position.
+//!
+//! Tests: board_tests/src/rules.rt
 #![tactic(auto)]
 
 mod captures;

@@ -1,5 +1,7 @@
-//! Tests of the public calls of the program's edges: the words that it is called with, its sources, its sinks and its
-//! statuses.
+//! Tests of the public calls of the program's edges: the words that it is called with, its sources,
+//! its sinks and its statuses.
+//!
+//! Each has a file here.
 #![tactic(auto)]
 
 #[cfg(test)]

@@ -1,10 +1,13 @@
 //! FEN, the text of a position: read whole, and printed in one spelling.
 //!
 //! `B:W16,19:B12` is Black to move, with White men on 16 and 19 and a Black man on 12; `K` before a
-//! square stands for a king. The grammar stands in `specs/Grammar.antt`. Reading accepts every
-//! spelling in it of a position that keeps the rule on pieces, and refuses everything else with the
-//! first fault and its place; printing gives one spelling, and what was printed is read back as the
-//! same position.
+//! square stands for a king. The grammar stands in `specs/Grammar.antt`.
+//!
+//! Proved: `read_fen` accepts exactly the texts of the grammar that spell a position, and refuses
+//! every other with its first fault and place. `print_fen` gives the one printed spelling, which is
+//! read back as the same position.
+//!
+//! Tests: text_tests/src/fens.rt
 #![tactic(auto)]
 
 mod fault;

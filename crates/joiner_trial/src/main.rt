@@ -1,10 +1,14 @@
-//! Grows proof trees from small positions that a seeded program makes, searches their leaves, joins a certificate for
-//! each settled root, and has it checked.
+//! Grows proof trees from small positions that a seeded program makes, searches their leaves, joins
+//! a certificate for each settled root, and has it checked.
 //!
-//! For each number of pieces of the table and of the positions it prints how many forests were grown, with how many roots
-//! and nodes; how many roots are settled, by value, each with a joined certificate that the checker accepted; how many
-//! entries these have; and at how many settled roots with at most three pieces the table of three says another value. A
-//! certificate that is refused ends the program with an error.
+//! For each number of pieces of the table and of the positions it prints how many forests were
+//! grown, with how many roots and nodes; how many roots are settled, by value, each with a joined
+//! certificate that the checker accepted; how many entries these have; and at how many settled
+//! roots with at most three pieces the table of three says another value. A certificate that is
+//! refused ends the program with an error.
+//!
+//! Its type `CertifiedTree` keeps that every fact of the tree is certified, so `join` is called
+//! with nothing assumed.
 #![tactic(auto)]
 
 mod certified;

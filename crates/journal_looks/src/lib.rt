@@ -2,6 +2,16 @@
 //! a root's value. Nothing is written to it.
 //!
 //! What is shown, and what is left of the disk, stands in `specs/Looks.antt`.
+//!
+//! Proved, whatever the disk tells: the values are true, and the certificate of `certify` is good
+//! by each sound table, and checked before it is given. Proved of an honest disk: the report is on
+//! the roots of the records that it reads as, and says whether each is settled; the certificate
+//! claims the value of the root that was asked, counted from 1. A journal's flaw, the first payload
+//! that is no lawful record, a root that is not there and one without a value are each refused
+//! exactly where they stand, unless the disk failed or memory ran out. The disk reads as before,
+//! and a crash may leave of it what it might have left before.
+//!
+//! Tests: session_tests/src/looks.rt
 #![tactic(auto)]
 
 mod looks;

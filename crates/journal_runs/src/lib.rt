@@ -1,7 +1,25 @@
-//! A run on a journal by any number of workers: it goes on with what the journal has, works, and reports.
+//! A run on a journal by any number of workers: it goes on with what the journal has, works, and
+//! reports.
 //!
-//! What a run leaves of its disk, and what it writes, stands in `specs/Journals.antt`. A crash at any moment loses
-//! nothing that was acknowledged, and the next run goes on from there.
+//! What a run leaves of its disk, and what it writes, stands in `specs/Journals.antt`. `solve`
+//! works with as many workers as it is asked for, and then alone: how it ends is said of the
+//! session that comes back, and rests on no answer of a worker. Asked for the summary (`Account`),
+//! it writes the line that counts the roots in place of the report.
+//!
+//! Proved, whatever the disk does: each value in the report is true, each opening stands in it
+//! once, and a fault of the disk is answered only where it was counted. Proved of an honest disk
+//! with nothing pending, however the run ends: each image that a crash may leave, since the opening
+//! sync or now, reads as the records of before and the first few of those that the run added. A
+//! disk that reads as no journal stays as it was, each refusal comes for its cause, and nothing is
+//! pending unless the disk's faults rose.
+//!
+//! Where the run on such a disk comes to its report, the journal reads as the old records and the
+//! added ones, and the report is that of their forest. Its roots are the old ones and then the new
+//! openings. A root is unsettled only if the run added as many work records as the session's
+//! budget. None is unsettled where the budget was ample: looking ahead shows a value at each root
+//! without one, and there is a record for each.
+//!
+//! Tests: session_tests/src/runs.rt
 #![tactic(auto)]
 
 mod alone;

@@ -1,4 +1,6 @@
-//! Tests of the public calls of disks and journals, one file for each crate.
+//! Tests of the public calls of disks and journals.
+//!
+//! Each crate that is tested has a file here.
 #![tactic(auto)]
 
 #[cfg(test)]

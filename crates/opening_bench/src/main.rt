@@ -5,6 +5,9 @@
 //! source, any sink and any disk, and promises what it writes and what it leaves; `main` only gives
 //! it the words, standard input, standard output and the journal's file, and answers `--help` and
 //! `--version` itself.
+//!
+//! Proved: the clauses of [`run`], which the pages call `bench`, in `docs/PROVED.md`;
+//! [`bench_quiet`] has them too, for the commands that search nothing.
 #![tactic(auto)]
 
 mod bench;

@@ -1,10 +1,10 @@
 //! Reads files of games in Portable Draughts Notation.
 //!
-//! With names of files it prints how many games, tags and moves each has, and then what as many
-//! games as a text may have give, and one game more. With the word `time`, a number of parts and
-//! one name it cuts the file into so many parts of one length, each a text of its own, and prints
-//! how many bytes a second are read, how many a plain copy of the same bytes takes, and how often
-//! the copy is faster.
+//! With names of files it prints how many games, tags and moves each has, and then what comes of a
+//! text with the most games that one may have, and of one game more. With the word `time`, a number
+//! of parts and one name it cuts the file into that many parts of one length, each a text of its
+//! own, and prints how many bytes a second are read, how many a plain copy of the same bytes takes,
+//! and how many times as fast the copy is.
 #![tactic(auto)]
 
 mod measure;

@@ -4,12 +4,13 @@
 //! The accepted texts are a profile of PDN 3.0's tags and movetext. A text consists of items, one
 //! after the other: tags, moves, results, move numbers, annotations, comments, variations, blanks.
 //! `specs/Grammar.antt` says what each item is, `specs/Games.antt` which games the items make, and
-//! `specs/Pdn.antt` which fault stands first.
+//! `specs/Pdn.antt` which fault stands first. Places are byte offsets from 0.
 //!
-//! `item_at` answers the item at a place, or the fault there, for callers that want more of a text than
-//! its games.
+//! Proved: `read_games` gives exactly the games that the items make, with their tags, moves and
+//! spans of bytes. It refuses exactly where a fault stands first, with its place. `item_at` gives
+//! exactly the item at a place, or the fault there.
 //!
-//! Places are byte offsets from 0.
+//! Tests: text_tests/src/games.rt
 #![tactic(auto)]
 
 mod form;

@@ -1,4 +1,6 @@
-//! Tests of the public calls on certificates, tables, trees and searches, one file for each crate.
+//! Tests of the public calls on certificates, tables, trees and searches.
+//!
+//! Each crate that is tested has a file here.
 #![tactic(auto)]
 
 #[cfg(test)]

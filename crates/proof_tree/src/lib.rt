@@ -5,6 +5,15 @@
 //! tree keeps stands in `specs/Sound.antt`, what a change makes of it in `specs/Changes.antt`, and
 //! which leaf is next in `specs/Picking.antt`. The nodes are rows of one table that name each other
 //! by number; no walk over it recurses.
+//!
+//! Proved: the forest changes exactly as a new root, new facts or new children change it. The
+//! numbers of every node for both goals, a root's value, whether each root has one, and the leaf
+//! that `pick` gives are those of the definitions, whatever is taken. In every forest children are
+//! the successors in order, a node repeats exactly where its position stands above it, and each
+//! number names one node. `laws`: while a root is unsettled and nothing is taken there is a leaf to
+//! work on.
+//!
+//! Tests: proof_tests/src/trees.rt
 #![tactic(auto)]
 
 mod children;

@@ -1,10 +1,14 @@
 //! What a person at a terminal is told of a refusal: a text that says where its cause stands, how
 //! the source reads there, what is wrong, and what may be written in its place.
 //!
-//! [`hint`] makes it of the refusal, the words of the command line and the source's bytes, and reads
-//! nothing else. The text is printable ASCII and line ends, whatever the source holds. Where the
-//! refusal names a byte, it begins with the line and the column of that byte by the definitions of
-//! `terminal_text/Places.antt`.
+//! [`hint`] makes it of the refusal, the words of the command line and the source's bytes, and
+//! reads nothing else.
+//!
+//! Proved: whatever these hold, the text is printable ASCII and line ends. Where the refusal names
+//! a byte, it begins with the line and the column of exactly that byte. `legal_moves_text` lists
+//! exactly the legal moves. The wording is tested.
+//!
+//! Tests: report_tests/src/hints.rt
 #![tactic(auto)]
 
 mod boards;

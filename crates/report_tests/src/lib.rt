@@ -1,4 +1,6 @@
-//! Tests of the public calls that write reports, refusals and hints, one file for each crate.
+//! Tests of the public calls that write reports, refusals and hints.
+//!
+//! Each crate that is tested has a file here.
 #![tactic(auto)]
 
 #[cfg(test)]

@@ -1,15 +1,19 @@
 //! Searches lists of positions, and prints what is settled.
 //!
-//! Without words it prints for each list, table and depth how many positions are settled by value, and how many nodes that
-//! takes (a node is a position of which the table is asked); for the first list also the nodes with a memory of one
-//! position, which has to settle the same. `fixed.txt` has positions 30 to 119 plies into random games, and `values.txt`
-//! positions of three to six pieces. `random.txt` has one position of each of 168 random games, drawn evenly among its
-//! positions with at most three pieces a side and more than three pieces, and `first.txt` the first position with at most
-//! three pieces a side of each of 168 others. The values in these lists were worked out backwards from the end by programs of
-//! another kind. A value that is found and is not the list's ends the program with an error.
+//! Without words it prints for each list, table and depth how many positions are settled by value,
+//! and how many nodes that takes (a node is a position of which the table is asked); for the first
+//! list also the nodes with a memory of one position, which has to settle the same. The values in
+//! these lists were worked out backwards from the end by programs of another kind. A value that is
+//! found and is not the list's ends the program with an error.
 //!
-//! With the word `time` it prints nodes a second, the time that a position of the first list takes, and what share of the
-//! nodes a memory of one position takes.
+//! `fixed.txt` has positions 30 to 119 plies into random games, and `values.txt` 96 positions of
+//! three to six pieces. How many positions are draws depends on how a list was made, so there are
+//! two of random games, with one position of each of 168: `random.txt` draws it evenly among those
+//! with at most three pieces a side and more than three pieces, and `first.txt` takes the first
+//! with at most three pieces a side.
+//!
+//! With the word `time` it prints nodes a second, the time that a position of the first list takes,
+//! and what share of the nodes a memory of one position takes.
 #![tactic(auto)]
 
 ghost use Rattle.std.specs.Prelude.{◌≤◌};

@@ -1,11 +1,13 @@
 //! Stops a session at each call of its disk, and attaches again what a crash leaves.
 //!
-//! A session begins three roots and works until all are settled, on a disk in memory that refuses every call from one on.
-//! Of the images that a crash may then leave, each attaches, has the records that were acknowledged and all or none of the
-//! commit that failed, and goes on to the end. Its tree is compared node by node with that of the session that stopped or,
-//! where the image has the commit that failed, with that of a session that was never stopped, as it was behind that commit.
-//! A difference ends the program with an error. For each number of calls that the disk takes it prints how many images have
-//! how many records, and how many nodes were compared. Before, it plays a session worked out by hand.
+//! A session begins three roots and works until all are settled, on a disk in memory that refuses
+//! every call from one on. Of the images that a crash may then leave, each attaches, has the
+//! records that were acknowledged and all or none of the commit that failed, and goes on to the
+//! end. Its tree is compared node by node with that of the session that stopped or, where the image
+//! has the commit that failed, with that of a session that was never stopped, as it was behind that
+//! commit. A difference ends the program with an error. For each number of calls that the disk
+//! takes it prints how many images have how many records, and how many nodes were compared. Before,
+//! it plays a session worked out by hand.
 #![tactic(auto)]
 
 mod images;

@@ -1,10 +1,13 @@
 //! The rules of play of English draughts (WCDF) on masks: the legal moves of a position, and the
-//! positions that they lead to, with the calls and the contracts of `draughts_rules`.
+//! positions that they lead to, with the calls of `draughts_rules`.
 //!
 //! A mask of 32 bits holds squares: square n is the bit of value 2^(n - 1). Steps and jumps of all
-//! pieces together are shifts of whole boards. What the rules say stands in `specs/Rules.antt` of
-//! `draughts_board`; each call here is proved to give exactly that, and no line of the plain
-//! generator is used.
+//! pieces together are shifts of whole boards.
+//!
+//! Proved: each call of `draughts_rules` by its clauses there, word for word, and lists that are
+//! filled anew without a `Vec` of their own. The two generators share no line that finds a move.
+//!
+//! Tests: board_tests/src/rules.rt, move_count_bench/src/main.rt
 #![tactic(auto)]
 
 mod captures;

@@ -1,8 +1,9 @@
 //! Fills the endgame tables of two and three pieces and checks their bytes.
 //!
 //! Without words it prints how many entries each table has, how many positions are won, lost and
-//! drawn for the side to move, and the greatest rank. With the word `time` it prints how long
-//! filling and checking take, in milliseconds of the clock.
+//! drawn for the side to move, and the greatest rank. A separate solver in another language, which
+//! is not kept here, worked these numbers out. With the word `time` it prints how long filling and
+//! checking take, in milliseconds of the clock.
 #![tactic(auto)]
 
 ghost use Rattle.strategy_certificate.specs.Tables.{IsTableSize};

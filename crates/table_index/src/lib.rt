@@ -1,9 +1,14 @@
-//! The order of an endgame table's positions: which index each position with at most three pieces has, and which
-//! position stands at each index.
+//! The order of an endgame table's positions: which index each position with at most three pieces
+//! has, and which position stands at each index.
 //!
-//! The indices run over blocks of 0, 1, 2 and 3 pieces. A block has a place for each choice of squares, each choice of
-//! kinds and each side to move: the choices of squares in lexicographic order, the kinds as digits to base 4. Each
-//! position has one index, and an index is one position or none.
+//! The indices run over blocks of 0, 1, 2 and 3 pieces. A block has a place for each choice of
+//! squares, each choice of kinds and each side to move: the choices of squares in lexicographic
+//! order, the kinds as digits to base 4.
+//!
+//! Proved: each position with at most three pieces has one index, and each index is one position or
+//! none. `index_of` and `position_at` compute both.
+//!
+//! Tests: board_tests/src/indices.rt
 #![tactic(auto)]
 
 mod counts;

@@ -1,5 +1,7 @@
-//! Tests of the public calls that read and write words, games, certificates and records, and of what warns of games,
-//! one file for each crate.
+//! Tests of the public calls that read and write words, games, certificates and records, and of
+//! what warns of games.
+//!
+//! Each crate that is tested has a file here.
 #![tactic(auto)]
 
 #[cfg(test)]

@@ -3,8 +3,9 @@
 //!
 //! A value stands for a list of entries (`Kept`). A `TurnLock` owns it, and a thread reaches it
 //! with a `Pass`. The pass that has the turn has the value in hand, until it gives both back.
-//! Beside that, each pass has a front: the entries of the value as this pass last saw them. Three
-//! things hold at every moment, whatever the other threads do:
+//! Beside that, each pass has a front: the entries of the value as this pass last saw them.
+//!
+//! Proved, at every moment and whatever the other threads do:
 //!
 //! - Each front is a beginning of the value's entries, and the entries behind it pass the value's
 //!   own test.

@@ -1,13 +1,15 @@
-//! Eight workers at one session, a thousand times, each time with other pauses before their searches.
+//! Eight workers at one session, a thousand times, each time with other pauses before their
+//! searches.
 //!
-//! One worker alone settles the roots first. Then, for each number from 0 to 999, eight workers share a session of the same
-//! roots, in which a lease lasts for one, two or three leases given, so that many results come too late. Before each search a
-//! worker yields, and turns in place, as often as a sequence says that the number begins. A root whose value differs from that
-//! of the one worker ends the program with an error, also where the session's journal is read again. It prints the same at
-//! each run.
+//! One worker alone settles the roots first. Then, for each number from 0 to 999, eight workers
+//! share a session of the same roots, in which a lease lasts for one, two or three leases given, so
+//! that many results come too late. Before each search a worker yields, and turns in place, as
+//! often as a sequence says that the number begins: that changes the order of the turns, and does
+//! not fix it. A root whose value differs from that of the one worker ends the program with an
+//! error, also where the session's journal is read again. It prints the same at each run.
 //!
-//! With the word `counts` it also prints how many searches there were and how many of them left no record; these numbers
-//! differ from run to run.
+//! With the word `counts` it also prints how many searches there were and how many of them left no
+//! record; these numbers differ from run to run.
 #![tactic(auto)]
 
 mod pauses;
