@@ -1,5 +1,6 @@
 #!/usr/bin/env python3
-"""Which definitions the clauses of `bench` rest on, over the `specs/` of all crates.
+"""Which definitions the clauses of `bench` rest on, over the `specs/` of all crates; and those of the traits of disks, sources and
+sinks, which say what such an object means.
 
 Without an argument it fails where a file of the closure is not named in docs/DEFINITIONS.md, or where the table there,
 between the two marks, is not the one that is computed. With `--write` it writes that table, with `--list` it prints the
@@ -10,6 +11,8 @@ import re
 import sys
 
 BENCH = pathlib.Path("crates/opening_bench/src/bench.rt")
+TRAITS = {"Disk": pathlib.Path("crates/bench_disk/src/disk.rt"), "Source": pathlib.Path("crates/bench_edges/src/source.rt"),
+          "Sink": pathlib.Path("crates/bench_edges/src/sink.rt")}
 DOCUMENT = pathlib.Path("docs/DEFINITIONS.md")
 MARKS = ("<!-- begin: clauses, written by .ci/definitions.py -->", "<!-- end: clauses -->")
 WORD = re.compile(r"[\w?']+(?:-[\w?']+)*")
@@ -67,8 +70,8 @@ class Spec:
 
     @staticmethod
     def is_inner(body):
-        """A definition in a module of parameters; a field of a record is none."""
-        return body.startswith(("abbrev ", "pub record ", "record ", "unfoldable ", "pub data "))
+        """A definition in a module of parameters; a field of a record is none, and no value of one."""
+        return not body.startswith("record {") and body.startswith(("abbrev ", "pub record ", "record ", "unfoldable ", "pub data "))
 
     def used(self, text, own=None):
         """The definitions that a text of this file names."""
@@ -97,6 +100,16 @@ def clauses_of(text):
             at += 1
         clauses.append((match.group(1), body[match.end(): at - 1]))
     return clauses
+
+
+def named_by_traits():
+    """The definitions that the clauses of the traits name."""
+    for name, path in TRAITS.items():
+        text = path.read_text(encoding="utf-8")
+        names, _ = read_imports(text, "ghost use")
+        body = text[text.index(f"pub trait {name}"):]
+        body = re.sub(r"//[^\n]*", "", body[: body.index("\n}\n")])
+        yield from (names[word] for word in set(re.findall(r"\w+", body)) if word in names)
 
 
 def closure(roots, specs):
@@ -134,7 +147,7 @@ def main(arguments):
     names, _ = read_imports(text, "ghost use")
     clauses, specs = clauses_of(text), {}
     words = {word for _, clause in clauses for word in re.findall(r"\w+", clause)}
-    reached = closure([names[word] for word in words if word in names], specs)
+    reached = closure([names[word] for word in words if word in names] + list(named_by_traits()), specs)
     files = sorted({path for path, _ in reached}, key=short)
     if "--list" in arguments:
         for path in files:

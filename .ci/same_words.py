@@ -1,12 +1,14 @@
 #!/usr/bin/env python3
-"""Fails where `--help`, the manual page and the README name other commands, options or exit statuses than each other, or
-where the manual page has other numbers at an option than `--help`.
+"""Fails where `--help`, the manual page and the README name other commands or exit statuses than each other; where the manual page
+has other options than `--help`, or other numbers at one, and the README one that `--help` has not; and where what the program says of
+a number past an option's limit has other limits.
 
-What `--help` writes comes on standard input. Of the README the part on what the program does is looked at. So a command or
-an option that is new in one of them has to come into the others.
+What `--help` writes comes on standard input. Of the README the table of commands is looked at, and what follows it up to the next
+part. The program is run with each option of `--help` and a number that is one past its greatest.
 """
 import pathlib
 import re
+import subprocess
 import sys
 
 COMMAND = re.compile(r"opening_bench PATH ([a-z][a-z-]*)")
@@ -39,6 +41,13 @@ def of_help(text):
     return set(COMMAND.findall(text)), set(OPTION.findall(text)), set(statuses), limits
 
 
+def of_placeholders(text):
+    """The numbers that --help says of each option, and of the letter that stands for its number."""
+    letters = items(text, re.compile(r"([A-Z]+)  +(?=\S)"))
+    options = items(text, re.compile(r"(--[a-z-]+)(?= [A-Z])"))
+    return {name: numbers(said) | numbers(letters.get(said.split()[0], "")) for name, said in options.items()}
+
+
 def of_manual(text):
     options = {"-" + name for name in re.findall(r"\bFl (-[a-z][a-z-]*)", text)}
     commands = set(re.findall(r"\bCm ([a-z][a-z-]*)", text))
@@ -50,30 +59,44 @@ def of_manual(text):
 def of_readme(text):
     part = text[text.index("## What the program does"):]
     part = part[:part.index("\n## ", 3)]
-    statuses = re.findall(r"^\| (\d+) \|", part[part.index("| Exit status |"):], re.M)
-    return set(COMMAND.findall(part)), set(OPTION.findall(part)), set(statuses)
+    cells = re.findall(r"^\| `opening_bench .*\| ([^|]*) \|$", part, re.M)
+    spans = re.findall(r"(\d+)(?: to (\d+))?", ", ".join(cells))
+    statuses = {str(number) for first, last in spans for number in range(int(first), int(last or first) + 1)}
+    return set(COMMAND.findall(part)), set(OPTION.findall(text)), statuses
+
+
+def limits_told(program, name, most):
+    """The numbers that the program says on standard error of a number that is one past the greatest of an option."""
+    words = [program, "-", "solve", name, str(most + 1)]
+    told = subprocess.run(words, stdin=subprocess.DEVNULL, stdout=subprocess.DEVNULL, stderr=subprocess.PIPE, check=False)
+    return numbers(told.stderr.decode("utf-8", "replace"))
 
 
 def main():
     top = pathlib.Path(__file__).resolve().parent.parent
-    told = of_help(sys.stdin.read())
+    text = sys.stdin.read()
+    told = of_help(text)
     manual = of_manual((top / "docs/opening_bench.1").read_text(encoding="utf-8"))
     readme = of_readme((top / "README.md").read_text(encoding="utf-8"))
-    failed = not (told[0] and told[1] and told[2] and told[3])
-    if failed:
-        print("look: --help names no commands, options or statuses", file=sys.stderr)
-    for place, others in (("docs/opening_bench.1", manual), ("README.md", readme)):
-        for what, here, there in zip(("commands", "options", "statuses"), told, others):
-            if here != there:
-                failed = True
-                only, missing = sorted(there - here), sorted(here - there)
-                print(f"look: {place} has the {what} {only} beside those of --help, and lacks {missing}", file=sys.stderr)
+    faults = [] if all(told) else ["--help names no commands, options, statuses or limits"]
+    for what, here, there in zip(("commands", "options", "statuses"), told, manual):
+        if here != there:
+            faults.append(f"docs/opening_bench.1 has the {what} {sorted(there - here)} beside those of --help, and lacks {sorted(here - there)}")
+    for what, here, there in zip(("commands", "options", "statuses"), told, readme):
+        lacks = set() if what == "options" else here - there
+        if there - here or lacks:
+            faults.append(f"README.md has the {what} {sorted(there - here)} beside those of --help, and lacks {sorted(lacks)}")
     for name in sorted(told[3].keys() | manual[3].keys()):
-        if told[3].get(name) != manual[3].get(name):
-            failed = True
-            print(f"look: at {name} --help has the numbers {sorted(told[3].get(name, ()))} and docs/opening_bench.1 "
-                  f"{sorted(manual[3].get(name, ()))}", file=sys.stderr)
-    sys.exit(1 if failed else 0)
+        here, there = told[3].get(name, set()), manual[3].get(name, set())
+        if here != there:
+            faults.append(f"at {name} --help has the numbers {sorted(here)} and docs/opening_bench.1 {sorted(there)}")
+    for name, here in sorted(of_placeholders(text).items()):
+        said = limits_told(top / "bin/opening_bench", name, max(here))
+        if not said or not said <= here or max(said) != max(here):
+            faults.append(f"at {name} --help has the numbers {sorted(here)}, and the text on a number that is too great {sorted(said)}")
+    for fault in faults:
+        print(f"look: {fault}", file=sys.stderr)
+    sys.exit(1 if faults else 0)
 
 
 main()

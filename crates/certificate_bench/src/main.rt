@@ -1,6 +1,8 @@
 //! Makes a certificate that White wins out of the endgame table of three pieces, prints it, reads
-//! it back and checks it by the table of two; merges its part out of two that overlap; writes it in
-//! a record of a journal and reads it back.
+//! it back and checks it by the table of two.
+//!
+//! It also merges its part out of two that overlap, and writes it in a record of a journal and
+//! reads it back.
 //!
 //! Without words it prints how many entries the certificate has and how many bytes its text, what
 //! it claims of which position, and how many entries the merged parts and the record have. With the

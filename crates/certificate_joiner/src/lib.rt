@@ -5,10 +5,10 @@
 //! shows it (`specs/Certified.antt`). Certificates stand on the shelf under their node, batch by
 //! batch, and none is dropped or changed.
 //!
-//! Proved: if every fact of a tree is seen at sight or shown by a certificate on the shelf for its
-//! node, `join` gives of each settled root one certificate that claims its value and is good by
-//! each sound table, or fails for want of memory. `laws`: such a root's value is that of its
-//! position. Facts stay certified as the tree grows: by roots and children with their facts at
+//! Proved: let every fact of a tree be seen at sight, or shown by a certificate on the shelf for
+//! its node. Then `join` gives of each settled root one certificate that claims its value and is
+//! good by each sound table, or fails for want of memory. `laws`: such a root's value is that of
+//! its position. Facts stay certified as the tree grows: by roots and children with their facts at
 //! sight, and by facts that a batch put on the shelf shows. Such facts never contradict those of
 //! the node, and nothing stands on the shelf for nodes that are not there.
 //!

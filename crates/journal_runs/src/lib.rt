@@ -8,9 +8,9 @@
 //!
 //! Proved, whatever the disk does: each value in the report is true, each opening stands in it
 //! once, and a fault of the disk is answered only where it was counted. Proved of an honest disk
-//! with nothing pending, however the run ends: each image that a crash may leave, since the opening
-//! sync or now, reads as the records of before and the first few of those that the run added. A
-//! disk that reads as no journal stays as it was, each refusal comes for its cause, and nothing is
+//! with nothing pending, however the run ends: each image that a crash may leave, from the opening
+//! sync on, reads as the records of before and the first few of those that the run added. A disk
+//! that reads as no journal stays as it was, each refusal comes for its cause, and nothing is
 //! pending unless the disk's faults rose.
 //!
 //! Where the run on such a disk comes to its report, the journal reads as the old records and the

@@ -8,8 +8,8 @@
 //! Proved: `report`, `verified_line`, `sound_line` and `refusal_line` write exactly the texts of
 //! `specs/`. `report_text` writes a value only behind a joined certificate that the checker
 //! accepted. [`laws`] says what a reader of any front of a report may believe: values of true roots
-//! are true, each root's line is of one of the roots, roots that are apart stand in one line each,
-//! no other line is a root's, and no text without `root ` has one.
+//! are true, and roots that are apart stand in one line each. Each root's line is of one of the
+//! roots, no other line is a root's, and no text without `root ` has one.
 //!
 //! Tests: report_tests/src/reports.rt
 #![tactic(auto)]

@@ -1,6 +1,5 @@
 //! What texts for a person at a terminal are made of: the line and the column of a byte of a
-//! source, the piece of the source round it with a mark under the byte, words and numbers, and
-//! bytes as a terminal may be given them.
+//! source, the piece round it, words and numbers, and bytes as a terminal may be given them.
 //!
 //! It knows nothing of draughts. Lines and columns count from 1 (`specs/Places.antt`); what a
 //! terminal is given is printable ASCII and line ends (`specs/Shown.antt`).

@@ -10,8 +10,8 @@
 //! Proved: each call appends exactly its entries, each of which might come next, and the bench
 //! stands where the line leads. A session has failed exactly where its line ends with its fault,
 //! which the disk counted. A commit raises the disk's moment by at most four; of several roots all
-//! are begun or none. On an honest disk `attach` replays exactly what it has, each refusal says its
-//! cause, and every image of a crash since an acknowledged moment reads as lawful records, which
+//! are begun or none. On an honest disk `attach` replays exactly what it has, and each refusal says
+//! its cause. Every image of a crash since an acknowledged moment reads as lawful records, which
 //! begin with all those acknowledged by then and end within those of the line.
 //!
 //! Proved of a `SharedBench`, which threads enter each with a pass: what a pass has seen is a
