@@ -16,6 +16,7 @@
 mod cells;
 mod display;
 pub mod examples;
+mod generators;
 pub mod laws;
 mod masks;
 pub mod path_ends;
@@ -25,6 +26,7 @@ mod positions;
 mod resolution;
 mod squares;
 
+pub use generators::{MoveGenerator, resolve};
 pub use paths::Move;
 pub use pieces::{Cell, Side, Value};
 pub use positions::{PlaceRefusal, Position};

@@ -28,4 +28,4 @@ pub use draughts_board::ResolveRefusal;
 pub use legal_test::is_legal;
 pub use move_lists::{has_move, legal_moves};
 pub use next::{apply, move_to, successors};
-pub use resolution::resolve;
+pub use resolution::{PlainMoves, resolve};

@@ -1,38 +1,24 @@
 //! Which legal move a written one means.
-ghost use Rattle.std.specs.Prelude.{◌≡◌, ℕ, List, Contains, IfOk};
+ghost use Rattle.std.specs.Prelude.{◌≡◌, IfOk};
 ghost use Rattle.draughts_board.specs.Rules.{IsLegal};
-ghost use Rattle.draughts_board.specs.Resolution.{elsewhere, first_of, matches, meaning, resolve_wants_memory};
+ghost use Rattle.draughts_board.specs.Resolution.{matches, meaning, resolve_wants_memory};
 ghost use Rattle.shared_words.specs.Answers.{Unless};
 
 use crate::move_lists::legal_moves;
 use crate::next::apply;
-use draughts_board::{Move, Position, ResolveRefusal, Square, is_written};
-use std::alloc::Global;
+use draughts_board::{Move, MoveGenerator, Position, ResolveRefusal, Square};
+use std::alloc::{AllocError, Global};
 
-/// The first of the moves, which are legal, that leads elsewhere than to `next`.
-fn first_elsewhere(p: &Position, next: &Position, moves: &[Move]) -> Option<Move>
-    requires { (path : List ℕ) → Contains moves.now path → IsLegal p.now path }
-    ensures { result ≡ first_of (elsewhere p.now next.now moves.now) }
-{
-    for m in moves {
-        if apply(p, m) != *next {
-            return Some(*m);
-        }
+/// This crate's moves, for calls that take any generator.
+pub struct PlainMoves;
+
+impl MoveGenerator for PlainMoves {
+    fn legal_moves(alloc: Global, p: &Position) -> Result<Vec<Move>, AllocError> {
+        legal_moves(alloc, p)
     }
-    None
-}
 
-/// What the moves, which are legal, mean together.
-fn meaning(p: &Position, moves: &[Move]) -> Result<Move, ResolveRefusal>
-    requires { (path : List ℕ) → Contains moves.now path → IsLegal p.now path }
-    ensures { result ≡ meaning p.now moves.now }
-{
-    let [chosen, ..] = moves else {
-        return Err(ResolveRefusal::Illegal);
-    };
-    match first_elsewhere(p, &apply(p, chosen), &moves[1..]) {
-        None => Ok(*chosen),
-        Some(other) => Err(ResolveRefusal::Ambiguous(*chosen, other)),
+    fn apply(p: &Position, m: &Move) -> Position {
+        apply(p, m)
     }
 }
 
@@ -53,7 +39,5 @@ pub fn resolve(
         (result ≡ meaning p.now (matches p.now from middle.now to)) }
     ensures legal { IfOk result (IsLegal p.now) }
 {
-    let mut moves = legal_moves(alloc, p).map_err(ResolveRefusal::Memory)?;
-    moves.retain(|m| is_written(m, from, middle, to));
-    meaning(p, &moves)
+    draughts_board::resolve::<PlainMoves>(alloc, p, from, middle, to)
 }

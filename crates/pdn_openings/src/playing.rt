@@ -7,9 +7,9 @@ ghost use Rattle.pdn_openings.specs.Playing.{LeadTo, meaning_of};
 
 use crate::refusal::OpeningRefusal;
 use draughts_board::Position;
-use draughts_rules::{ResolveRefusal, apply, resolve};
 use pdn_text::MoveText;
 use std::alloc::Global;
+use swift_moves::{ResolveRefusal, apply, resolve};
 
 /// The position after the one move that is written so.
 #[tactic(auto, unfolding(crate::specs::Playing::meaning_of))]

@@ -26,4 +26,4 @@ pub use draughts_board::ResolveRefusal;
 pub use legal_test::is_legal;
 pub use move_lists::{has_move, legal_moves, legal_moves_into};
 pub use next::{apply, move_to, successors, successors_into};
-pub use resolution::resolve;
+pub use resolution::{MaskMoves, resolve};

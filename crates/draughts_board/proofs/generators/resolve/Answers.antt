@@ -8,10 +8,10 @@ use Rattle.draughts_board.proofs.Members.{Contains-from_filter}
 use Rattle.draughts_board.specs.declared.resolution.ResolveRefusal.{ResolveRefusal}
 use Rattle.draughts_board.specs.Resolution.{is_written, matches, meaning}
 use Rattle.draughts_board.proofs.Written.{meaning-among, unless-memory, behind-map_err}
-use Rattle.swift_moves.proofs.resolution.resolve.Goals as goal
+use Rattle.draughts_board.proofs.generators.resolve.Goals as goal
 
 pub meaning-requires : goal.meaning-requires
-meaning-requires c =
+meaning-requires g c =
     let p : Board = c.args.p.now in
     let test : List ℕ → Bool = is_written c.args.«from» c.args.middle.now c.args.to in
     let kept : c.retain.new.self.items ≡ filter test c.in_ok-moves.moves.items = filter_same _ _ _ (λ x b f' k. search rules) _ _ c.retain.ensures.filtered in
@@ -20,7 +20,7 @@ meaning-requires c =
 
 pub returns-clause-exact : goal.returns-clause-exact
 unfolding matches
-returns-clause-exact c =
+returns-clause-exact g c =
     let p : Board = c.args.p.now in
     let test : List ℕ → Bool = is_written c.args.«from» c.args.middle.now c.args.to in
     let kept : c.retain.new.self.items ≡ filter test c.in_ok-moves.moves.items = filter_same _ _ _ (λ x b f' k. search rules) _ _ c.retain.ensures.filtered in
@@ -28,7 +28,7 @@ returns-clause-exact c =
     unless-memory c.meaning.result _ (c.meaning.ensures ∙ ap (meaning p) (c.deref.ensures.value ∙ kept ∙ ap (filter test) exact))
 
 pub returns-clause-legal : goal.returns-clause-legal
-returns-clause-legal c =
+returns-clause-legal g c =
     let p : Board = c.args.p.now in
     let test : List ℕ → Bool = is_written c.args.«from» c.args.middle.now c.args.to in
     let kept : c.retain.new.self.items ≡ filter test c.in_ok-moves.moves.items = filter_same _ _ _ (λ x b f' k. search rules) _ _ c.retain.ensures.filtered in

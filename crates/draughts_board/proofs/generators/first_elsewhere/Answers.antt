@@ -3,10 +3,10 @@ use Rattle.std.specs.Prelude.{Some}
 use Rattle.draughts_board.specs.Board.{Board, same_board}
 use Rattle.draughts_board.specs.Rules.{after}
 use Rattle.draughts_board.proofs.Written.{first-found}
-use Rattle.swift_moves.proofs.resolution.first_elsewhere.Goals as goal
+use Rattle.draughts_board.proofs.generators.first_elsewhere.Goals as goal
 
 pub returns-then-ne : goal.returns-then-ne
-returns-then-ne c =
+returns-then-ne g c =
     let p : Board = c.args.p.now in
     let q : Board = c.args.next.now in
     let leads : List ℕ → Bool = λ path. not (same_board (after p path) q) in
