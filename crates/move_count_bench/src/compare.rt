@@ -53,12 +53,17 @@ fn position_of(state: u64) -> Option<Position> {
     Position::place(cells, to_move).ok()
 }
 
-/// Both generators find the same moves and successors, in the same order.
+/// Both generators find the same moves and successors, in the same order, and as many successors are counted.
 fn find_the_same(alloc: Global, p: &Position, moves: &[Move]) -> Result<bool, AllocError> {
     let swift = swift_moves::legal_moves(alloc, p)?;
     let plain_next = draughts_rules::successors(alloc, p)?;
     let swift_next = swift_moves::successors(alloc, p)?;
-    Ok(moves == swift.as_slice() && plain_next.as_slice() == swift_next.as_slice())
+    let counted = swift_moves::count_successors(alloc, p)?;
+    Ok(
+        moves == swift.as_slice()
+            && plain_next.as_slice() == swift_next.as_slice()
+            && counted == plain_next.len(),
+    )
 }
 
 /// Both generators say the same of the move written with its ends alone, and with all its squares.

@@ -12,3 +12,4 @@ pub mod StepsApart
 pub mod CapturePrefixes
 pub mod ForcesOf
 pub mod JumpedOver
+pub mod StepCounts

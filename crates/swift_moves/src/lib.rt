@@ -11,6 +11,7 @@
 #![tactic(auto)]
 
 mod captures;
+mod counts;
 mod forces;
 mod legal_test;
 mod masks;
@@ -22,6 +23,7 @@ mod resolution;
 mod steps;
 mod ways;
 
+pub use counts::count_successors;
 pub use draughts_board::ResolveRefusal;
 pub use legal_test::is_legal;
 pub use move_lists::{has_move, legal_moves, legal_moves_into};

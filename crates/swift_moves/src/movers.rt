@@ -14,7 +14,7 @@ use draughts_board::{Position, Square};
 /// The pieces that go one of the ways: `up` and `down` hold the squares from which some way up or
 /// down is open.
 #[inline]
-fn going(f: &Forces, up: u32, down: u32) -> u32
+pub(crate) fn going(f: &Forces, up: u32, down: u32) -> u32
     ensures { IsMaskOf (λ n. (stands_in f.now.men n && stands_in (forward f.now.mover up down) n)
         || (stands_in f.now.kings n && (stands_in up n || stands_in down n))) result }
 {

@@ -121,7 +121,7 @@ fn add_distinct(p: &Position, moves: &[Move], next: &mut Vec<Position>) -> Resul
 
 /// Adds the positions after the captures, each at its first place only; `jumpers` holds the mover's
 /// pieces that have a jump.
-fn add_captured(
+pub(crate) fn add_captured(
     alloc: Global,
     p: &Position,
     f: &Forces,
