@@ -9,7 +9,7 @@ use crate::shown::is_same_lease;
 use crate::staged::Staged;
 use crate::taken::{LeasedNodes, lease_at};
 use bench_records::{BenchRecord, encode};
-use certificate_checker::{Outcome, child_at_sight};
+use certificate_checker::Outcome;
 use draughts_board::Position;
 use lease_table::{Lease, LeaseId, Leases, Stale};
 use proof_numbers::Child;
@@ -17,6 +17,7 @@ use proof_tree::Tree;
 use std::alloc::{AllocError, Global};
 use std::marker::Model;
 use strategy_certificate::{Certificate, Oracle};
+use swift_sight::child_at_sight;
 
 /// A proof tree with its certificates, the leases of its leaves, and what is staged.
 ///

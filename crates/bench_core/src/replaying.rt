@@ -21,14 +21,13 @@ use crate::grown::GrownTree;
 use crate::refusals::ReplayRefusal;
 use crate::shown::certificates_of;
 use bench_records::CertificateList;
-use certificate_checker::{
-    CheckRefusal, ProofList, Proved, check, child_at_sight, children_at_sight, told_by_all,
-};
+use certificate_checker::{CheckRefusal, ProofList, Proved, check, told_by_all};
 use draughts_board::{Position, Side};
 use proof_numbers::Child;
 use proof_tree::{MOST_ROOTS, NodeId, Tree};
 use std::alloc::{AllocError, Global};
 use strategy_certificate::{Certificate, MOST_FOUND_RANK, Oracle, Part};
+use swift_sight::{child_at_sight, children_at_sight};
 
 /// A root may begin at the position: none has it, and there is room for one more.
 fn may_begin(tree: &Tree, p: Position) -> bool

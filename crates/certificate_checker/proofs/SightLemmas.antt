@@ -1,7 +1,7 @@
 -- Positions that are decided at sight, and what is known there.
-use Rattle.std.proofs.Common.{◌≡◌, ℕ, ◌⊎◌, inl, inr, Bool, true, false, List, [], ◌∷◌, ◌==◌, Option, refl, sym, ap, ◌∙◌, arith, length, suc}
-use Rattle.std.specs.Prelude.{IsTrue, IsSome, is_some, ◌||◌, ◌↔◌, nat_le}
-use Rattle.std.proofs.lemmas.Bool.{leb-true, le-leb, eqb-true, false≢true}
+use Rattle.std.proofs.Common.{◌≡◌, ℕ, ◌⊎◌, inl, inr, Bool, true, false, List, [], ◌∷◌, Option, refl, sym, ap, ◌∙◌}
+use Rattle.std.specs.Prelude.{IsSome, is_some, ◌||◌, nat_le}
+use Rattle.std.proofs.lemmas.Bool.{leb-true, le-leb, false≢true}
 use Rattle.draughts_board.specs.declared.pieces.Side.{Side}
 use Rattle.draughts_board.specs.declared.pieces.Side.TheVariants.{Black, White}
 use Rattle.draughts_board.specs.declared.pieces.Value.TheVariants as value
@@ -34,14 +34,6 @@ nil_from (x ∷ xs) e = cc
 not_true : (b : Bool) → (b ≡ true → ⊥) → b ≡ false
 not_true true never = absurd (never refl)
 not_true false never = refl
-
--- a list is empty exactly where its length is 0
-pub empty-iff : {X : Type 0} (xs : List X) (n : ℕ) → length xs ≡ n → IsTrue (n == 0) ↔ (xs ≡ [])
-empty-iff [] n is = (λ _. refl, λ _. ap (λ m. m == 0) (sym is))
-empty-iff (x ∷ xs) n is = (
-  λ zero. (let none = eqb-true n 0 zero in let more : suc (length xs) ≡ 0 = is ∙ none in let no : ⊥ = omega (arith, more) in absurd no),
-  λ none. cc,
-)
 
 pub blocked_at_sight : (k : ℕ) (p : Board) → successors_of p ≡ [] → is_at_sight draughts k p ≡ true
 blocked_at_sight k p none = ap (λ next. is_nil next || nat_le (piece_count p) k) none

@@ -22,7 +22,6 @@ mod outcomes;
 mod parts;
 mod refusals;
 mod shown;
-mod sight;
 #[cfg(test)]
 mod tests;
 mod wins;
@@ -31,4 +30,3 @@ pub use checking::{Proved, check};
 pub use claimed::{told, told_by_all};
 pub use outcomes::{ChildList, Exhausted, Outcome, ProofList};
 pub use refusals::CheckRefusal;
-pub use sight::{child_at_sight, children_at_sight};

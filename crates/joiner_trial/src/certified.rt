@@ -1,6 +1,6 @@
 //! A tree whose every fact is certified.
 use anyhow::Result;
-use certificate_checker::{Outcome, Proved, check, child_at_sight, children_at_sight, told};
+use certificate_checker::{Outcome, Proved, check, told};
 use certificate_joiner::{PartShelf, join};
 use draughts_board::{Position, Side, Value};
 use endgame_table::Table;
@@ -8,6 +8,7 @@ use leaf_search::{Memo, is_undecided, search};
 use proof_tree::{MOST_ROOTS, NodeId, Tree};
 use std::alloc::{AllocError, Global};
 use std::marker::Model;
+use swift_sight::{child_at_sight, children_at_sight};
 
 /// How many positions a memory of searches keeps.
 const REMEMBERED: usize = 1_024;

@@ -12,12 +12,11 @@ use crate::fortress::prove_fortress;
 use crate::holds::find_hold;
 use crate::memo::Memo;
 use crate::wins::find_win;
-use certificate_checker::{
-    CheckRefusal, Exhausted, Outcome, ProofList, Proved, check, children_at_sight,
-};
+use certificate_checker::{CheckRefusal, Exhausted, Outcome, ProofList, Proved, check};
 use draughts_board::{Position, Side};
 use std::alloc::{AllocError, Global};
 use strategy_certificate::{Certificate, HoldPart, Oracle, Part, PartList, WinPart};
+use swift_sight::children_at_sight;
 
 /// No search looks further ahead.
 pub const MOST_DEPTH: u8 = 12;

@@ -1,4 +1,4 @@
-use Rattle.std.proofs.Common.{◌≡◌, ◌∙◌, false, length, map, ap, sym}
+use Rattle.std.proofs.Common.{◌≡◌, ◌∙◌, false, length, ap, sym}
 use Rattle.std.proofs.lemmas.List.{length-map}
 use Rattle.draughts_board.specs.Board.{Board}
 use Rattle.draughts_board.specs.Rules.{after, has_jump}

@@ -10,7 +10,7 @@ use Rattle.strategy_certificate.specs.declared.oracle.Answer.TheVariants.{Win, L
 use Rattle.strategy_certificate.proofs.Tables.{TableWins-wins, TableHolds-holds}
 use Rattle.proof_numbers.specs.Sight.{AreFactsAtSight}
 use Rattle.certificate_checker.proofs.SightLemmas.{answered_at_sight, blocked_at_sight, won_facts, drawn_facts}
-use Rattle.certificate_checker.proofs.sight.facts_where.Goals as goal
+use Rattle.swift_sight.proofs.sight.facts_where.Goals as goal
 
 pub returns-in-Some-Win : goal.returns-in-Some-Win
 returns-in-Some-Win g c =

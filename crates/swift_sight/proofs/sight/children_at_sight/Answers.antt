@@ -6,7 +6,7 @@ use Rattle.proof_numbers.specs.Facts.{known}
 use Rattle.proof_numbers.specs.Sight.{AreFactsAtSight}
 use Rattle.proof_numbers.specs.declared.leaves.Child.{Child}
 use Rattle.certificate_checker.specs.Sight.{IsAtSight}
-use Rattle.certificate_checker.proofs.sight.children_at_sight.Goals as goal
+use Rattle.swift_sight.proofs.sight.children_at_sight.Goals as goal
 
 pub loop-q-preserved : goal.loop-q-preserved
 loop-q-preserved g c =

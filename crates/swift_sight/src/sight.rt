@@ -5,12 +5,12 @@ ghost use Rattle.proof_numbers.specs.Facts.{known};
 ghost use Rattle.proof_numbers.specs.Sight.{AreFactsAtSight};
 ghost use Rattle.certificate_checker.specs.Sight.{AreChildren};
 
-use crate::outcomes::ChildList;
+use certificate_checker::ChildList;
 use draughts_board::{Position, Value};
-use draughts_rules::successors;
 use proof_numbers::{Child, Facts, mobility};
 use std::alloc::{AllocError, Global};
 use strategy_certificate::{Answer, Oracle};
+use swift_moves::{count_successors, successors};
 
 /// What is known of a position at sight, where it is said whether its mover is blocked.
 fn facts_where<O: Oracle>(p: &Position, blocked: bool, oracle: &O) -> Facts
@@ -41,12 +41,12 @@ pub fn child_at_sight<O: Oracle>(
     ensures facts { IfOk result
         (λ child. AreFactsAtSight (O.piece_limit oracle.now) p.now (known child.facts)) }
 {
-    let next = successors(alloc, p)?;
-    let facts = facts_where(p, next.is_empty(), oracle);
+    let count = count_successors(alloc, p)?;
+    let facts = facts_where(p, count == 0, oracle);
     Ok(Child {
         position: *p,
         facts,
-        moves: mobility(next.len()),
+        moves: mobility(count),
     })
 }
 

@@ -1,7 +1,7 @@
 use Rattle.std.proofs.Common.{◌≡◌, take, map}
 use Rattle.std.specs.Prelude.{All}
 use Rattle.certificate_checker.specs.Sight.{IsAtSight}
-use Rattle.certificate_checker.proofs.sight.children_at_sight.Given as goal
+use Rattle.swift_sight.proofs.sight.children_at_sight.Given as goal
 
 abbrev pub invariant-loop-q : goal.invariant-loop-q
 invariant-loop-q g l = record {
