@@ -2,9 +2,9 @@
 use crate::picking::Taken;
 use crate::rows::NodeId;
 use draughts_board::Position;
-use draughts_rules::successors;
 use proof_numbers::{Child, Facts, mobility};
 use std::alloc::{AllocError, Global};
+use swift_moves::{count_successors, successors};
 
 /// Nothing is taken: one worker alone picks from the tree.
 #[derive(Clone, Copy, Debug)]
@@ -31,7 +31,7 @@ pub fn unknown_child(alloc: Global, p: Position) -> Result<Child, AllocError>
     ensures position { IfOk result (λ child. child.position ≡ p) }
     ensures unknown { IfOk result (λ child. known child.facts ≡ nothing_known) }
 {
-    let moves = mobility(successors(alloc, &p)?.len());
+    let moves = mobility(count_successors(alloc, &p)?);
     Ok(Child {
         position: p,
         facts: Facts::none(),
