@@ -1,5 +1,5 @@
 -- The numbers of a node are no greater than 64 times the number of nodes, so they have room.
-use Rattle.std.proofs.Common.{◌≡◌, ℕ, suc, ◌+◌, ◌-◌, ◌*◌, ◌<◌, ◌≤◌, ◌^◌, min, Bool, true, false, cond, eqb, ◌||◌, List, [], ◌∷◌, map, length, take, drop, get_or, refl, sym, ap, ◌∙◌, subst, arith, ⊎_elim}
+use Rattle.std.proofs.Common.{◌≡◌, ℕ, suc, ◌+◌, ◌-◌, ◌*◌, ◌<◌, ◌≤◌, ◌^◌, min, Bool, true, false, not, cond, eqb, ◌||◌, List, [], ◌∷◌, map, length, take, drop, get_or, refl, sym, ap, ◌∙◌, subst, arith, ⊎_elim}
 use Rattle.draughts_board.specs.declared.pieces.Side.{Side}
 use Rattle.draughts_board.specs.declared.pieces.Side.TheVariants.{Black, White}
 use Rattle.draughts_board.specs.Board.{Board, other, same_side}
@@ -8,7 +8,7 @@ use Rattle.proof_numbers.specs.declared.numbers.Number.{Number}
 use Rattle.proof_numbers.specs.declared.numbers.Number.TheVariants.{Finite, Infinite}
 use Rattle.proof_numbers.specs.declared.numbers.Numbers.{Numbers}
 use Rattle.proof_numbers.specs.Known.{Known, knows_win, knows_hold}
-use Rattle.proof_numbers.specs.Numbers.{least, least_of, total_of, proved, refuted, unknown, mobility, leaf_numbers, IsFinitely}
+use Rattle.proof_numbers.specs.Numbers.{least, least_of, total_of, proved, refuted, unknown, mobility, leaf_numbers}
 use Rattle.proof_tree.specs.Sums.{finite_sum, finite_part, IsKeepable}
 use Rattle.proof_tree.specs.declared.rows.NodeRow.{NodeRow}
 use Rattle.proof_tree.specs.declared.rows.Mark.{Mark}
@@ -100,10 +100,6 @@ pub fits_for : (rows : List NodeRow) (goal : Side) (k : ℕ) → Fits rows k →
 fits_for rows Black k h = h.black
 fits_for rows White k h = h.white
 
-keepable_part : (n : Number) → finite_part n < 2 ^ 63 → IsFinitely (2 ^ 64 - 1) n
-keepable_part Infinite h = tt
-keepable_part (Finite n) h = omega arith
-
 unknown_keepable : (moves : ℕ) (b : Bool) → moves < 256
     → IsKeepable (cond b (record { proof = Finite 1; disproof = Finite moves }) (record { proof = Finite moves; disproof = Finite 1 }))
 unknown_keepable moves true h = record { proof = omega arith; disproof = omega arith }
@@ -159,38 +155,19 @@ module _ (rows : List NodeRow) (links : AreLinked rows) (small : AreSmall rows) 
       rw count
       (subst (λ (r : NodeRow). finite_sum (map (λ (q : NodeRow). left_to_show by_proof (kept_numbers goal q)) (slice_of r rows)) < 2 ^ 63) (sym same) (room by_proof))
 
-folded_fits : (moves : Bool) (below : List Numbers) → finite_sum (map (λ x. x.proof) below) < 2 ^ 63
-    → finite_sum (map (λ x. x.disproof) below) < 2 ^ 63 → IsKeepable (folded moves below)
-folded_fits true below p d =
-    let proof : finite_part (least_of (map (λ x. x.proof) below)) < 2 ^ 63 = let h = least_of_small (map (λ x. x.proof) below) in omega (arith, h) in
-    let disproof : finite_part (total_of (map (λ x. x.disproof) below)) < 2 ^ 63 = let h = total_of_small (map (λ x. x.disproof) below) in omega (arith, h) in
-    record { proof = keepable_part _ proof; disproof = keepable_part _ disproof }
-folded_fits false below p d =
-    let proof : finite_part (total_of (map (λ x. x.proof) below)) < 2 ^ 63 = let h = total_of_small (map (λ x. x.proof) below) in omega (arith, h) in
-    let disproof : finite_part (least_of (map (λ x. x.disproof) below)) < 2 ^ 63 = let h = least_of_small (map (λ x. x.disproof) below) in omega (arith, h) in
-    record { proof = keepable_part _ proof; disproof = keepable_part _ disproof }
-
--- what is folded of the numbers that rows keep has room
-pub folded-keepable : (goal : Side) (moves : Bool) (xs : List NodeRow) (x : Numbers) → x ≡ folded moves (map (kept_numbers goal) xs)
-    → ((by_proof : Bool) → finite_sum (map (λ (r : NodeRow). left_to_show by_proof (kept_numbers goal r)) xs) < 2 ^ 63) → IsKeepable x
-folded-keepable goal moves xs x e room =
-    subst IsKeepable (sym e)
-    (folded_fits moves (map (kept_numbers goal) xs)
-    (subst (λ (ns : List Number). finite_sum ns < 2 ^ 63) (map-shown true goal xs) (room true))
-    (subst (λ (ns : List Number). finite_sum ns < 2 ^ 63) (map-shown false goal xs) (room false)))
-
 shown : (fold : List Number → Number) (by_proof : Bool) (goal : Side) (xs : List NodeRow) (a : Number)
     → a ≡ fold (map (λ (r : NodeRow). left_to_show by_proof (kept_numbers goal r)) xs) → a ≡ fold (map (left_to_show by_proof) (map (kept_numbers goal) xs))
 shown fold by_proof goal xs a e = e ∙ ap fold (map-shown by_proof goal xs)
 
-pub below_moving : (goal : Side) (moves : Bool) (xs : List NodeRow) (a b : Number) → moves ≡ true
-    → a ≡ least_of (map (λ (r : NodeRow). left_to_show true (kept_numbers goal r)) xs) → b ≡ total_of (map (λ (r : NodeRow). left_to_show false (kept_numbers goal r)) xs)
-    → record { proof = a; disproof = b } ≡ folded moves (map (kept_numbers goal) xs)
-below_moving goal true xs a b t p d = λ i. record { proof = (shown least_of true goal xs a p) i; disproof = (shown total_of false goal xs b d) i }
-below_moving goal false xs a b t p d = absurd (false≢true t)
+-- what a node's children keep, folded by the least of what its mover needs and by the sum of the other
+pub below_moving : (goal : Side) (moves : Bool) (xs : List NodeRow) (best sum : Number) → moves ≡ true
+    → best ≡ least_of (map (λ (r : NodeRow). left_to_show moves (kept_numbers goal r)) xs) → sum ≡ total_of (map (λ (r : NodeRow). left_to_show (not moves) (kept_numbers goal r)) xs)
+    → record { proof = best; disproof = sum } ≡ folded moves (map (kept_numbers goal) xs)
+below_moving goal true xs best sum t b s = λ i. record { proof = (shown least_of true goal xs best b) i; disproof = (shown total_of false goal xs sum s) i }
+below_moving goal false xs best sum t b s = absurd (false≢true t)
 
-pub below_waiting : (goal : Side) (moves : Bool) (xs : List NodeRow) (a b : Number) → moves ≡ false
-    → a ≡ total_of (map (λ (r : NodeRow). left_to_show true (kept_numbers goal r)) xs) → b ≡ least_of (map (λ (r : NodeRow). left_to_show false (kept_numbers goal r)) xs)
-    → record { proof = a; disproof = b } ≡ folded moves (map (kept_numbers goal) xs)
-below_waiting goal false xs a b t p d = λ i. record { proof = (shown total_of true goal xs a p) i; disproof = (shown least_of false goal xs b d) i }
-below_waiting goal true xs a b t p d = absurd (false≢true (sym t))
+pub below_waiting : (goal : Side) (moves : Bool) (xs : List NodeRow) (best sum : Number) → moves ≡ false
+    → best ≡ least_of (map (λ (r : NodeRow). left_to_show moves (kept_numbers goal r)) xs) → sum ≡ total_of (map (λ (r : NodeRow). left_to_show (not moves) (kept_numbers goal r)) xs)
+    → record { proof = sum; disproof = best } ≡ folded moves (map (kept_numbers goal) xs)
+below_waiting goal false xs best sum t b s = λ i. record { proof = (shown total_of true goal xs sum s) i; disproof = (shown least_of false goal xs best b) i }
+below_waiting goal true xs best sum t b s = absurd (false≢true (sym t))

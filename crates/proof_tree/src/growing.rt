@@ -4,8 +4,9 @@ ghost use Rattle.draughts_board.specs.Board.{Board, IsLawful};
 ghost use Rattle.proof_tree.specs.Changes.{stands_on};
 ghost use Rattle.proof_tree.specs.Rows.{row_at, path, new_row, new_rows, root_row, opened, AreLinked, AreRekept, AreExpanded, AreCounted, Fits};
 
+use crate::kept::KeptNumbers;
 use crate::numbering::mend;
-use crate::rows::{KeptNumbers, Mark, NodeRow, ParentLink};
+use crate::rows::{Mark, NodeRow, ParentLink};
 use draughts_board::{Position, Side};
 use proof_numbers::{Child, leaf};
 

@@ -19,6 +19,7 @@
 mod children;
 pub mod examples;
 mod growing;
+mod kept;
 pub mod laws;
 mod numbering;
 mod picking;

@@ -1,92 +1,61 @@
 //! The numbers of nodes, by those of their children.
-ghost use Rattle.std.specs.Prelude.{◌≡◌, ◌≢◌, ℕ, true, false, ◌<◌, ◌≤◌, ◌+◌, ◌^◌, length, map, Some};
+ghost use Rattle.std.specs.Prelude.{◌≡◌, ◌≢◌, ℕ, Bool, ◌<◌, ◌≤◌, ◌+◌, ◌^◌, length, map, Some};
 ghost use Rattle.proof_numbers.specs.Facts.{known};
 ghost use Rattle.proof_numbers.specs.Known.{joined, IsConsistent};
-ghost use Rattle.proof_numbers.specs.Numbers.{least_of, total_of};
 ghost use Rattle.proof_tree.specs.Changes.{learn};
 ghost use Rattle.proof_tree.specs.Forest.{folded, numbers_at};
 ghost use Rattle.proof_tree.specs.Picking.{left_to_show};
 ghost use Rattle.proof_tree.specs.Rows.{kept_numbers, row_at, own_of, slice_of, AreLinked, AreRekept, HaveSameLinks, Fits, AreCounted, IsCounted};
-ghost use Rattle.proof_tree.specs.Sums.{finite_sum, IsKeepable};
+ghost use Rattle.proof_tree.specs.Sums.{finite_sum};
 
-use crate::rows::{KeptNumbers, Mark, NodeRow};
+use crate::kept::{KeptNumber, KeptNumbers};
+use crate::rows::{Mark, NodeRow};
 use draughts_board::Side;
-use proof_numbers::{Facts, Number, Numbers, leaf, least, total};
-
-/// The proof number, or the disproof number.
-pub(crate) fn left_to_show(by_proof: bool, numbers: Numbers) -> Number
-    ensures { result ≡ left_to_show by_proof numbers }
-{
-    if by_proof {
-        numbers.proof
-    } else {
-        numbers.disproof
-    }
-}
-
-/// The least of the children's proof numbers, or of their disproof numbers.
-fn least_among(children: &[NodeRow], goal: Side, by_proof: bool) -> Number
-    ensures { result
-        ≡ least_of (map (λ r. left_to_show by_proof (kept_numbers goal r)) children.now) }
-{
-    let mut best = Number::Infinite;
-    for child in children {
-        best = least(best, left_to_show(by_proof, child.kept(goal)));
-    }
-    best
-}
-
-/// The sum of the children's proof numbers, or of their disproof numbers.
-fn total_among(children: &[NodeRow], goal: Side, by_proof: bool) -> Number
-    requires { finite_sum (map (λ r. left_to_show by_proof (kept_numbers goal r)) children.now)
-        < 2 ^ 128 }
-    ensures { result
-        ≡ total_of (map (λ r. left_to_show by_proof (kept_numbers goal r)) children.now) }
-{
-    let mut sum = Number::Finite(0);
-    for child in children {
-        sum = total(sum, left_to_show(by_proof, child.kept(goal)));
-    }
-    sum
-}
+use proof_numbers::{Facts, leaf};
 
 /// The numbers of an expanded node that its facts do not decide, by those that its children keep.
-fn folded(children: &[NodeRow], goal: Side, goal_moves: bool) -> Numbers
-    requires proof { finite_sum (map (λ r. left_to_show true (kept_numbers goal r)) children.now)
+fn folded(children: &[NodeRow], goal: Side, goal_moves: bool) -> KeptNumbers
+    requires { (by_proof : Bool)
+        → finite_sum (map (λ r. left_to_show by_proof (kept_numbers goal r)) children.now)
         < 2 ^ 63 }
-    requires disproof { finite_sum
-        (map (λ r. left_to_show false (kept_numbers goal r)) children.now) < 2 ^ 63 }
     ensures { result ≡ folded goal_moves (map (kept_numbers goal) children.now) }
 {
+    let mut best = KeptNumber::infinite();
+    let mut sum = KeptNumber::zero();
+    for child in children {
+        let kept = child.kept(goal);
+        best = best.least(kept.left_to_show(goal_moves));
+        sum = sum.total(kept.left_to_show(!goal_moves));
+    }
     if goal_moves {
-        Numbers {
-            proof: least_among(children, goal, true),
-            disproof: total_among(children, goal, false),
+        KeptNumbers {
+            proof: best,
+            disproof: sum,
         }
     } else {
-        Numbers {
-            proof: total_among(children, goal, true),
-            disproof: least_among(children, goal, false),
+        KeptNumbers {
+            proof: sum,
+            disproof: best,
         }
     }
 }
 
 /// The numbers of a row's node, by those that its children keep, where each row behind it keeps
 /// right ones.
-fn numbers_of(rows: &[NodeRow], at: usize, goal: Side) -> Numbers
+fn numbers_of(rows: &[NodeRow], at: usize, goal: Side) -> KeptNumbers
     requires inside { at < length rows.now }
     requires linked { AreLinked rows.now }
     requires few { length rows.now < 2 ^ 57 }
     requires counted { IsCounted rows.now at }
     requires fits { (k : ℕ) → at < k → k < length rows.now → Fits rows.now k }
-    ensures value { result ≡ numbers_at goal (own_of at (row_at rows.now at))
+    ensures { result ≡ numbers_at goal (own_of at (row_at rows.now at))
         (map (kept_numbers goal) (slice_of (row_at rows.now at) rows.now)) }
-    ensures keepable { IsKeepable result }
 {
     let row = &rows[at];
     let repeats = row.mark == Mark::Repeats;
     if row.mark != Mark::Expanded || row.facts.decide(goal) {
-        return leaf(row.facts, repeats, goal, row.position.to_move(), row.moves);
+        let numbers = leaf(row.facts, repeats, goal, row.position.to_move(), row.moves);
+        return KeptNumbers::of(numbers);
     }
     let children = &rows[row.first..row.first + row.count];
     folded(children, goal, goal == row.position.to_move())
@@ -107,8 +76,8 @@ pub(crate) fn mend(rows: &mut [NodeRow], from: usize)
         let black = numbers_of(rows, k, Side::Black);
         let white = numbers_of(rows, k, Side::White);
         let row = &mut rows[k];
-        row.black = KeptNumbers::of(black);
-        row.white = KeptNumbers::of(white);
+        row.black = black;
+        row.white = white;
         at = row.parent.get();
     }
 }

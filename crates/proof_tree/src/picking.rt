@@ -5,35 +5,22 @@
 //! where it stands and the child that was tried last.
 ghost use Rattle.std.specs.Prelude.{◌≡◌, ℕ, ◌<◌, ◌≤◌, ◌+◌, ◌^◌, true, false, length, Some, None};
 ghost use Rattle.draughts_board.specs.Board.{same_side};
-ghost use Rattle.proof_tree.specs.Picking.{is_below, left_to_show};
 ghost use Rattle.proof_tree.specs.Rows.{row_at, kept_numbers, AreLinked};
 ghost use Rattle.proof_tree.specs.Walking.{is_before, key, comes, is_behind, is_candidate, first_child_of, IsFirst};
 
-use crate::numbering::left_to_show;
+use crate::kept::{KeptNumber, KeptNumbers};
 use crate::rows::{Mark, NodeId, NodeRow};
 use crate::stretches::Stretches;
 use draughts_board::{Side, Value};
-use proof_numbers::{Number, Numbers};
-
-/// Less left to show.
-fn is_below(x: Number, y: Number) -> bool
-    ensures { result ≡ is_below x y }
-{
-    match (x, y) {
-        (Number::Finite(m), Number::Finite(n)) => m < n,
-        (Number::Finite(_), Number::Infinite) => true,
-        (Number::Infinite, _) => false,
-    }
-}
 
 /// Less left to show, or the same and an earlier place.
-fn is_before(x: Number, a: usize, y: Number, b: usize) -> bool
+fn is_before(x: KeptNumber, a: usize, y: KeptNumber, b: usize) -> bool
     ensures { result ≡ is_before x a y b }
 {
-    if is_below(x, y) {
+    if x.is_below(y) {
         return true;
     }
-    if is_below(y, x) {
+    if y.is_below(x) {
         return false;
     }
     a < b
@@ -45,8 +32,8 @@ fn comes(rows: &[NodeRow], goal: Side, by_proof: bool, a: usize, b: usize) -> bo
     requires other { b < length rows.now }
     ensures { result ≡ comes rows.now goal by_proof a b }
 {
-    let x = left_to_show(by_proof, rows[a].kept(goal));
-    let y = left_to_show(by_proof, rows[b].kept(goal));
+    let x = rows[a].kept(goal).left_to_show(by_proof);
+    let y = rows[b].kept(goal).left_to_show(by_proof);
     is_before(x, a, y, b)
 }
 
@@ -210,7 +197,7 @@ ghost use Rattle.proof_tree.specs.Picking.{pick_at, pick_from};
 ghost use Rattle.proof_tree.specs.Rows.{Fits, settled_front, AreNoted};
 
 /// The side whose win is sought at a root with these numbers for Black.
-fn goal_by(black: Numbers) -> Side
+fn goal_by(black: KeptNumbers) -> Side
     ensures { result ≡ goal_by black }
 {
     if black.is_resolved() {
@@ -221,7 +208,7 @@ fn goal_by(black: Numbers) -> Side
 }
 
 /// The value of a root with these numbers for Black and for White.
-pub(crate) fn value_by(black: Numbers, white: Numbers) -> Option<Value>
+pub(crate) fn value_by(black: KeptNumbers, white: KeptNumbers) -> Option<Value>
     ensures { result ≡ value_by black white }
 {
     if black.proof.is_zero() {

@@ -1,6 +1,7 @@
 //! The nodes as rows of one table.
+use crate::kept::KeptNumbers;
 use draughts_board::{Position, Side};
-use proof_numbers::{Facts, Number, Numbers};
+use proof_numbers::Facts;
 use std::marker::Model;
 
 /// Names a node. Nodes are numbered from 0 in the order in which they were made, and a contract
@@ -38,85 +39,7 @@ pub enum Mark {
     Repeats,
 }
 
-/// The word that stands for infinity.
-const INFINITE: u64 = u64::MAX;
-
-/// The word of a number, which is below 2^64 - 1 where it is finite.
-fn word_of(number: Number) -> u64
-    requires { IsFinitely (2 ^ 64 - 1) number }
-    ensures { result ≡ word_of number }
-{
-    match number {
-        Number::Finite(n) => n as u64,
-        Number::Infinite => INFINITE,
-    }
-}
-
-/// The number of a word.
-fn number_of(word: u64) -> Number
-    ensures { result ≡ number_of_word word }
-{
-    if word == INFINITE {
-        Number::Infinite
-    } else {
-        Number::Finite(word as u128)
-    }
-}
-
-ghost use Rattle.std.specs.Prelude.{◌≡◌, ◌-◌, ◌<◌, ◌^◌};
-ghost use Rattle.proof_numbers.specs.Numbers.{IsFinitely};
-ghost use Rattle.proof_tree.specs.Kept.{number_of_word, word_of};
-ghost use Rattle.proof_tree.specs.Sums.{IsKeepable};
-
-/// A proof and a disproof number as a row keeps them, in eight bytes each. A contract sees the
-/// numbers.
-#[derive(Clone, Copy)]
-pub(crate) struct KeptNumbers {
-    proof: u64,
-    disproof: u64,
-}
-
-impl Model for KeptNumbers {
-    ghost use Rattle.proof_numbers.specs.declared.numbers.Numbers.{Numbers};
-    ghost use Rattle.proof_tree.specs.Kept.{number_of_word, word_of, word_back};
-
-    ghost Value = { Numbers };
-
-    ghost view = { λ k. record {
-      proof = number_of_word k.proof;
-      disproof = number_of_word k.disproof;
-    } };
-
-    ghost inverse = { λ n. record { proof = word_of n.proof; disproof = word_of n.disproof } };
-
-    ghost inverse_ok = { λ k h i. record {
-      proof = word_back k.proof i;
-      disproof = word_back k.disproof i;
-    } };
-}
-
-impl KeptNumbers {
-    /// These numbers, each below 2^64 - 1 where it is finite.
-    pub(crate) fn of(numbers: Numbers) -> KeptNumbers
-        requires { IsKeepable numbers }
-        ensures { result ≡ numbers }
-    {
-        KeptNumbers {
-            proof: word_of(numbers.proof),
-            disproof: word_of(numbers.disproof),
-        }
-    }
-
-    /// The numbers.
-    pub(crate) fn numbers(&self) -> Numbers
-        ensures { result ≡ self.now }
-    {
-        Numbers {
-            proof: number_of(self.proof),
-            disproof: number_of(self.disproof),
-        }
-    }
-}
+ghost use Rattle.std.specs.Prelude.{◌≡◌, ◌<◌, ◌^◌};
 
 /// The number of a row's parent, or none, in eight bytes. A contract sees an option.
 #[derive(Clone, Copy)]
@@ -190,12 +113,12 @@ impl NodeRow {
     ghost use Rattle.proof_tree.specs.Rows.{kept_numbers};
 
     /// The numbers that it keeps for the goal.
-    pub(crate) fn kept(&self, goal: Side) -> Numbers
+    pub(crate) fn kept(&self, goal: Side) -> KeptNumbers
         ensures { result ≡ kept_numbers goal self.now }
     {
         match goal {
-            Side::Black => self.black.numbers(),
-            Side::White => self.white.numbers(),
+            Side::Black => self.black,
+            Side::White => self.white,
         }
     }
 }

@@ -330,7 +330,7 @@ impl Tree {
         requires { IsSome (node_at n self.now.forest) }
         ensures { IfSome (node_at n self.now.forest) (λ x. result ≡ node_numbers goal x) }
     {
-        self.row(n).kept(goal)
+        self.row(n).kept(goal).numbers()
     }
 
     /// The leaf to work on next, and the side whose win is sought there; none exactly where no

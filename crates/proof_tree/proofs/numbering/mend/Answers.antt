@@ -1,4 +1,4 @@
-use Rattle.std.proofs.Common.{ℕ, ◌<◌, Option, sym, subst, ◌∙◌}
+use Rattle.std.proofs.Common.{ℕ, ◌<◌, Option, sym, subst}
 use Rattle.proof_tree.proofs.Mending.{links_now, few_now, counted_now, falls, mending_step, IsMending, steps_left}
 use Rattle.proof_tree.proofs.numbering.mend.Goals as goal
 
@@ -35,5 +35,5 @@ pub loop-at-preserved : goal.loop-at-preserved
 loop-at-preserved c =
     subst (IsMending c.args.rows.now _) (sym c.get-at.ensures)
     (mending_step c.args.rows.now c.loop-at.rows c.requires.linked c.loop-at.at c.in-Some.k c.in-Some.is c.loop-at.invariant
-    c.index-rows-k.result c.of-row.result c.of-row-in-Some.result (c.of-row.ensures ∙ c.numbers_of-black.ensures.value)
-    (c.of-row-in-Some.ensures ∙ c.numbers_of-white.ensures.value))
+    c.index-rows-k.result c.numbers_of-black.result c.numbers_of-white.result c.numbers_of-black.ensures
+    c.numbers_of-white.ensures)

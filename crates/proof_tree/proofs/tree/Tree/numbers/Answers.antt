@@ -13,5 +13,5 @@ by_goal White n row x r = r.white
 
 pub returns : goal.returns
 returns c =
-    if_some-map (IsRowOf c.args.n c.row.result.now) (λ x. c.kept.result ≡ node_numbers c.args.goal x)
-    (λ x r. c.kept.ensures ∙ by_goal c.args.goal c.args.n c.row.result.now x r) (node_at c.args.n c.args.self.now.forest) c.row.ensures
+    if_some-map (IsRowOf c.args.n c.row.result.now) (λ x. c.numbers.result ≡ node_numbers c.args.goal x)
+    (λ x r. c.numbers.ensures ∙ c.kept.ensures ∙ by_goal c.args.goal c.args.n c.row.result.now x r) (node_at c.args.n c.args.self.now.forest) c.row.ensures
