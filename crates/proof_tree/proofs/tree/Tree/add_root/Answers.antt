@@ -7,7 +7,7 @@ use Rattle.draughts_board.specs.Board.{Board}
 use Rattle.proof_tree.specs.declared.rows.NodeRow.{NodeRow}
 use Rattle.proof_tree.specs.Forest.{nodes}
 use Rattle.proof_tree.specs.Rows.{roots_from, forest_of, settled_front, AreNoted, AreLinked, Fits}
-use Rattle.proof_tree.proofs.Fronts.{next-added}
+use Rattle.proof_tree.proofs.Fronts.{IsNext, next-added}
 use Rattle.proof_tree.proofs.Adding.{with_root-is}
 use Rattle.proof_tree.proofs.Trees.{seen, spare_is, positions-are, roots-many, length-roots}
 use Rattle.proof_tree.proofs.tree.Tree.add_root.Goals as goal
@@ -25,72 +25,51 @@ add-requires-clause-room c =
     let room = c.requires.room in
     omega (arith, r, m, s, few, room)
 
+module _ (c : goal.After-follow-arg-2-1) where
+  number : c.len-number.result ≡ length c.self.inside.rows.items
+  number = let l = c.len-number.ensures in let o = c.self.inside.rows.ok.0 in omega (arith, l, o)
+
+  -- the rows with the new root
+  next : IsNext (forest_of c.self.inside.rows.items (values_of c.self.inside.roots.entries)) c.push_root.new.rows.items c.add.new.roots.entries
+      (vec_capacity c.push_root.new.rows) (spare c.add.new.roots) (c.self.inside.spare - 1) c.self.inside.front
+  next =
+      next-added c.self.inside.rows.items c.self.inside.roots.entries _ _ c.self.inside.spare c.self.invariant.tree c.args.self.now c.self.view_is
+      c.self.inside.front c.self.invariant.settled c.args.root c.requires.room c.requires.few c.push_root.ensures.lawful c.requires.absent
+      c.push_root.new.rows.items c.add.new.roots.entries c.len-number.result c.push_root.ensures.items c.add.ensures.entries number
+      (vec_capacity c.push_root.new.rows) (spare c.add.new.roots) c.push_root.ensures.room c.add.ensures.room
+
 pub follow-self-inside-requires-clause-linked : goal.follow-self-inside-requires-clause-linked
 follow-self-inside-requires-clause-linked c =
-    let number : c.len-number.result ≡ length c.self.inside.rows.items = (let l = c.len-number.ensures in let o = c.self.inside.rows.ok.0 in omega (arith, l, o)) in
-    let next = next-added c.self.inside.rows.items c.self.inside.roots.entries _ _ c.self.inside.spare c.self.invariant.tree c.args.self.now c.self.view_is
-    c.self.inside.front c.self.invariant.settled c.args.root c.requires.room c.requires.few c.push_root.ensures.lawful c.requires.absent
-    c.push_root.new.rows.items c.add.new.roots.entries c.len-number.result c.push_root.ensures.items c.add.ensures.entries number
-    (vec_capacity c.push_root.new.rows) (spare c.add.new.roots) c.push_root.ensures.room c.add.ensures.room in
-    let D = c.deref.ensures.value in
-    subst AreLinked (sym D) next.tree.linked
+    subst AreLinked (sym c.deref.ensures.value) (next c).tree.linked
 
 pub follow-self-inside-requires-clause-fits : goal.follow-self-inside-requires-clause-fits
 follow-self-inside-requires-clause-fits c =
-    let number : c.len-number.result ≡ length c.self.inside.rows.items = (let l = c.len-number.ensures in let o = c.self.inside.rows.ok.0 in omega (arith, l, o)) in
-    let next = next-added c.self.inside.rows.items c.self.inside.roots.entries _ _ c.self.inside.spare c.self.invariant.tree c.args.self.now c.self.view_is
-    c.self.inside.front c.self.invariant.settled c.args.root c.requires.room c.requires.few c.push_root.ensures.lawful c.requires.absent
-    c.push_root.new.rows.items c.add.new.roots.entries c.len-number.result c.push_root.ensures.items c.add.ensures.entries number
-    (vec_capacity c.push_root.new.rows) (spare c.add.new.roots) c.push_root.ensures.room c.add.ensures.room in
-    let D = c.deref.ensures.value in
-    subst (λ (xs : List NodeRow). (k : ℕ) → k < length xs → Fits xs k) (sym D) next.tree.fits
+    subst (λ (xs : List NodeRow). (k : ℕ) → k < length xs → Fits xs k) (sym c.deref.ensures.value) (next c).tree.fits
 
 pub follow-self-inside-requires-clause-roots : goal.follow-self-inside-requires-clause-roots
 follow-self-inside-requires-clause-roots c =
-    let number : c.len-number.result ≡ length c.self.inside.rows.items = (let l = c.len-number.ensures in let o = c.self.inside.rows.ok.0 in omega (arith, l, o)) in
-    let next = next-added c.self.inside.rows.items c.self.inside.roots.entries _ _ c.self.inside.spare c.self.invariant.tree c.args.self.now c.self.view_is
-    c.self.inside.front c.self.invariant.settled c.args.root c.requires.room c.requires.few c.push_root.ensures.lawful c.requires.absent
-    c.push_root.new.rows.items c.add.new.roots.entries c.len-number.result c.push_root.ensures.items c.add.ensures.entries number
-    (vec_capacity c.push_root.new.rows) (spare c.add.new.roots) c.push_root.ensures.room c.add.ensures.room in
-    let D = c.deref.ensures.value in
-    subst (λ (xs : List NodeRow). values_of c.add.new.roots.entries ≡ roots_from 0 xs) (sym D) next.tree.roots
+    subst (λ (xs : List NodeRow). values_of c.add.new.roots.entries ≡ roots_from 0 xs) (sym c.deref.ensures.value) (next c).tree.roots
 
 pub follow-self-inside-requires-clause-few : goal.follow-self-inside-requires-clause-few
 follow-self-inside-requires-clause-few c =
-    let number : c.len-number.result ≡ length c.self.inside.rows.items = (let l = c.len-number.ensures in let o = c.self.inside.rows.ok.0 in omega (arith, l, o)) in
-    let next = next-added c.self.inside.rows.items c.self.inside.roots.entries _ _ c.self.inside.spare c.self.invariant.tree c.args.self.now c.self.view_is
-    c.self.inside.front c.self.invariant.settled c.args.root c.requires.room c.requires.few c.push_root.ensures.lawful c.requires.absent
-    c.push_root.new.rows.items c.add.new.roots.entries c.len-number.result c.push_root.ensures.items c.add.ensures.entries number
-    (vec_capacity c.push_root.new.rows) (spare c.add.new.roots) c.push_root.ensures.room c.add.ensures.room in
-    let D = c.deref.ensures.value in
-    next.tree.few_roots
+    (next c).tree.few_roots
 
 pub follow-self-inside-requires-clause-settled : goal.follow-self-inside-requires-clause-settled
 follow-self-inside-requires-clause-settled c =
-    let number : c.len-number.result ≡ length c.self.inside.rows.items = (let l = c.len-number.ensures in let o = c.self.inside.rows.ok.0 in omega (arith, l, o)) in
-    let next = next-added c.self.inside.rows.items c.self.inside.roots.entries _ _ c.self.inside.spare c.self.invariant.tree c.args.self.now c.self.view_is
-    c.self.inside.front c.self.invariant.settled c.args.root c.requires.room c.requires.few c.push_root.ensures.lawful c.requires.absent
-    c.push_root.new.rows.items c.add.new.roots.entries c.len-number.result c.push_root.ensures.items c.add.ensures.entries number
-    (vec_capacity c.push_root.new.rows) (spare c.add.new.roots) c.push_root.ensures.room c.add.ensures.room in
-    let D = c.deref.ensures.value in
-    subst (λ (xs : List NodeRow). c.self.inside.front ≤ settled_front (nodes (forest_of xs (values_of c.add.new.roots.entries)))) (sym D) next.settled
+    subst (λ (xs : List NodeRow). c.self.inside.front ≤ settled_front (nodes (forest_of xs (values_of c.add.new.roots.entries)))) (sym c.deref.ensures.value) (next c).settled
 
 pub follow-self-inside-requires-clause-noted : goal.follow-self-inside-requires-clause-noted
 follow-self-inside-requires-clause-noted c =
-    let number : c.len-number.result ≡ length c.self.inside.rows.items = (let l = c.len-number.ensures in let o = c.self.inside.rows.ok.0 in omega (arith, l, o)) in
-    let next = next-added c.self.inside.rows.items c.self.inside.roots.entries _ _ c.self.inside.spare c.self.invariant.tree c.args.self.now c.self.view_is
-    c.self.inside.front c.self.invariant.settled c.args.root c.requires.room c.requires.few c.push_root.ensures.lawful c.requires.absent
-    c.push_root.new.rows.items c.add.new.roots.entries c.len-number.result c.push_root.ensures.items c.add.ensures.entries number
-    (vec_capacity c.push_root.new.rows) (spare c.add.new.roots) c.push_root.ensures.room c.add.ensures.room in
-    let D = c.deref.ensures.value in
-    subst (λ (xs : List NodeRow). AreNoted (nodes (forest_of xs (values_of c.add.new.roots.entries))) c.add_root.new.self.ends.items c.add_root.new.self.starts.items) (sym D) (c.add_root.ensures (nodes (forest_of c.push_root.new.rows.items (values_of c.add.new.roots.entries))) (next.noted c.self.inside.stretches.ends.items c.self.inside.stretches.starts.items c.self.invariant.noted))
+    subst (λ (xs : List NodeRow). AreNoted (nodes (forest_of xs (values_of c.add.new.roots.entries))) c.add_root.new.self.ends.items c.add_root.new.self.starts.items) (sym c.deref.ensures.value) (c.add_root.ensures (nodes (forest_of c.push_root.new.rows.items (values_of c.add.new.roots.entries))) ((next c).noted c.self.inside.stretches.ends.items c.self.inside.stretches.starts.items c.self.invariant.noted))
+
+number_now : (c : goal.After-len) → c.len-number.result ≡ length c.self.inside.rows.items
+number_now c = let l = c.len-number.ensures in let o = c.self.inside.rows.ok.0 in omega (arith, l, o)
 
 pub invariant_of-self : goal.invariant_of-self
 invariant_of-self c =
-    let number : c.len-number.result ≡ length c.self.inside.rows.items = (let l = c.len-number.ensures in let o = c.self.inside.rows.ok.0 in omega (arith, l, o)) in
     let next = next-added c.self.inside.rows.items c.self.inside.roots.entries _ _ c.self.inside.spare c.self.invariant.tree c.args.self.now c.self.view_is
     c.self.inside.front c.self.invariant.settled c.args.root c.requires.room c.requires.few c.push_root.ensures.lawful c.requires.absent
-    c.push_root.new.rows.items c.add.new.roots.entries c.len-number.result c.push_root.ensures.items c.add.ensures.entries number
+    c.push_root.new.rows.items c.add.new.roots.entries c.len-number.result c.push_root.ensures.items c.add.ensures.entries (number_now c)
     (vec_capacity c.push_root.new.rows) (spare c.add.new.roots) c.push_root.ensures.room c.add.ensures.room in
     record {
       tree = next.tree;
@@ -100,8 +79,7 @@ invariant_of-self c =
 
 pub returns-clause-tree : goal.returns-clause-tree
 returns-clause-tree c =
-    let number : c.len-number.result ≡ length c.self.inside.rows.items = (let l = c.len-number.ensures in let o = c.self.inside.rows.ok.0 in omega (arith, l, o)) in
-    let entries = c.add.ensures.entries ∙ ap (λ (k : ℕ). c.self.inside.roots.entries ++ (c.args.root.position, k) ∷ []) number in
+    let entries = c.add.ensures.entries ∙ ap (λ (k : ℕ). c.self.inside.roots.entries ++ (c.args.root.position, k) ∷ []) (number_now c) in
     (λ i. seen (c.push_root.ensures.items i) (entries i) (c.self.inside.spare - 1))
     ∙ with_root-is c.self.inside.rows.items c.self.inside.roots.entries _ _ c.self.inside.spare c.self.invariant.tree c.args.self.now c.self.view_is
     c.args.root (c.self.inside.spare - 1) refl

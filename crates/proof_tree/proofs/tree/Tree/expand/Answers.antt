@@ -1,10 +1,12 @@
 use Rattle.std.proofs.Common.{◌≡◌, ◌≤◌, ◌-◌, ℕ, List, length, arith, refl, sym, ap, subst, ◌∙◌}
 use Rattle.std.specs.Map.{values_of}
+use Rattle.std.specs.Vec.{vec_capacity}
+use Rattle.indexmap.specs.IndexMap.{spare}
 use Rattle.proof_tree.specs.declared.rows.NodeRow.{NodeRow}
 use Rattle.proof_tree.specs.declared.rows.Mark.TheVariants.{Unexpanded}
 use Rattle.proof_tree.specs.Forest.{nodes, node_at}
 use Rattle.proof_tree.specs.Rows.{row_at, roots_from, forest_of, settled_front, AreNoted, AreLinked, AreExpanded}
-use Rattle.proof_tree.proofs.Fronts.{next-expanded}
+use Rattle.proof_tree.proofs.Fronts.{IsNext, next-expanded}
 use Rattle.proof_tree.proofs.Trees.{leaf_there, is_some-from, opening-from, with_children-is}
 use Rattle.proof_tree.proofs.tree.Tree.expand.Goals as goal
 
@@ -19,41 +21,30 @@ expand-requires-clause-leaf c =
     let at = leaf_there c.self.inside.rows.items c.self.inside.roots.entries _ _ c.self.inside.spare c.self.invariant.tree c.args.self.now c.self.view_is c.args.n c.requires.there in
     ap (λ (k : ℕ). (row_at c.self.inside.rows.items k).count) c.number-row.ensures ∙ at.1
 
-pub follow-self-inside-requires-clause-linked : goal.follow-self-inside-requires-clause-linked
-follow-self-inside-requires-clause-linked c =
-    let next = next-expanded c.self.inside.rows.items c.self.inside.roots.entries _ _ c.self.inside.spare c.self.invariant.tree c.args.self.now c.self.view_is
+-- the rows with the children
+next : (c : goal.After-follow-arg-2-1) → IsNext (forest_of c.self.inside.rows.items (values_of c.self.inside.roots.entries)) c.expand.new.rows.items c.self.inside.roots.entries
+    (vec_capacity c.expand.new.rows) (spare c.self.inside.roots) (c.self.inside.spare - length c.args.children.now) c.self.inside.front
+next c =
+    next-expanded c.self.inside.rows.items c.self.inside.roots.entries _ _ c.self.inside.spare c.self.invariant.tree c.args.self.now c.self.view_is
     c.self.inside.front c.self.invariant.settled c.args.n c.requires.there c.args.children.now c.expand.new.rows.items
     (opening-from c.args.children.now (node_at c.args.n c.args.self.now.forest) c.requires.there c.requires.successors)
-    c.number-row.result c.number-row.ensures c.expand.ensures.step c.requires.room _ c.expand.ensures.room c.expand.ensures.fits in
-    let D = c.deref.ensures.value in
-    subst AreLinked (sym D) next.tree.linked
+    c.number-row.result c.number-row.ensures c.expand.ensures.step c.requires.room _ c.expand.ensures.room c.expand.ensures.fits
+
+pub follow-self-inside-requires-clause-linked : goal.follow-self-inside-requires-clause-linked
+follow-self-inside-requires-clause-linked c =
+    subst AreLinked (sym c.deref.ensures.value) (next c).tree.linked
 
 pub follow-self-inside-requires-clause-roots : goal.follow-self-inside-requires-clause-roots
 follow-self-inside-requires-clause-roots c =
-    let next = next-expanded c.self.inside.rows.items c.self.inside.roots.entries _ _ c.self.inside.spare c.self.invariant.tree c.args.self.now c.self.view_is
-    c.self.inside.front c.self.invariant.settled c.args.n c.requires.there c.args.children.now c.expand.new.rows.items
-    (opening-from c.args.children.now (node_at c.args.n c.args.self.now.forest) c.requires.there c.requires.successors)
-    c.number-row.result c.number-row.ensures c.expand.ensures.step c.requires.room _ c.expand.ensures.room c.expand.ensures.fits in
-    let D = c.deref.ensures.value in
-    subst (λ (xs : List NodeRow). values_of c.self.inside.roots.entries ≡ roots_from 0 xs) (sym D) next.tree.roots
+    subst (λ (xs : List NodeRow). values_of c.self.inside.roots.entries ≡ roots_from 0 xs) (sym c.deref.ensures.value) (next c).tree.roots
 
 pub follow-self-inside-requires-clause-settled : goal.follow-self-inside-requires-clause-settled
 follow-self-inside-requires-clause-settled c =
-    let next = next-expanded c.self.inside.rows.items c.self.inside.roots.entries _ _ c.self.inside.spare c.self.invariant.tree c.args.self.now c.self.view_is
-    c.self.inside.front c.self.invariant.settled c.args.n c.requires.there c.args.children.now c.expand.new.rows.items
-    (opening-from c.args.children.now (node_at c.args.n c.args.self.now.forest) c.requires.there c.requires.successors)
-    c.number-row.result c.number-row.ensures c.expand.ensures.step c.requires.room _ c.expand.ensures.room c.expand.ensures.fits in
-    let D = c.deref.ensures.value in
-    subst (λ (xs : List NodeRow). c.self.inside.front ≤ settled_front (nodes (forest_of xs (values_of c.self.inside.roots.entries)))) (sym D) next.settled
+    subst (λ (xs : List NodeRow). c.self.inside.front ≤ settled_front (nodes (forest_of xs (values_of c.self.inside.roots.entries)))) (sym c.deref.ensures.value) (next c).settled
 
 pub follow-self-inside-requires-clause-noted : goal.follow-self-inside-requires-clause-noted
 follow-self-inside-requires-clause-noted c =
-    let next = next-expanded c.self.inside.rows.items c.self.inside.roots.entries _ _ c.self.inside.spare c.self.invariant.tree c.args.self.now c.self.view_is
-    c.self.inside.front c.self.invariant.settled c.args.n c.requires.there c.args.children.now c.expand.new.rows.items
-    (opening-from c.args.children.now (node_at c.args.n c.args.self.now.forest) c.requires.there c.requires.successors)
-    c.number-row.result c.number-row.ensures c.expand.ensures.step c.requires.room _ c.expand.ensures.room c.expand.ensures.fits in
-    let D = c.deref.ensures.value in
-    subst (λ (xs : List NodeRow). AreNoted (nodes (forest_of xs (values_of c.self.inside.roots.entries))) c.self.inside.stretches.ends.items c.self.inside.stretches.starts.items) (sym D) (next.noted c.self.inside.stretches.ends.items c.self.inside.stretches.starts.items c.self.invariant.noted)
+    subst (λ (xs : List NodeRow). AreNoted (nodes (forest_of xs (values_of c.self.inside.roots.entries))) c.self.inside.stretches.ends.items c.self.inside.stretches.starts.items) (sym c.deref.ensures.value) ((next c).noted c.self.inside.stretches.ends.items c.self.inside.stretches.starts.items c.self.invariant.noted)
 
 pub invariant_of-self : goal.invariant_of-self
 invariant_of-self c =
