@@ -12,7 +12,7 @@ use crate::origins::{MOST_LINKS, Origins};
 use draughts_board::Position;
 use std::alloc::{AllocError, Global};
 use swift_moves::successors_into;
-use table_index::{entry_count, index_of, position_at};
+use table_index::{PositionWalk, entry_count, index_of};
 
 /// The number of a loss of rank 0: there is no move.
 const LOST_AT_ONCE: u32 = 1;
@@ -52,6 +52,7 @@ fn add_origins(origins: &mut Origins, index: u32, next: &[Position]) -> Result<(
 fn add_moves(
     alloc: Global,
     index: u32,
+    walk: &mut PositionWalk,
     origins: &mut Origins,
     next: &mut Vec<Position>,
 ) -> Result<(u32, u32), AllocError>
@@ -66,7 +67,7 @@ fn add_moves(
     ensures count { IfOk result (λ found. found.0 ≡ length (indices_after (position_at index))) }
     ensures number { IfOk result (λ found. found.1 ≡ begun_number (position_at index)) }
 {
-    let Some(p) = position_at(index) else {
+    let Some(p) = walk.position_at(index) else {
         return Ok((0, NO_POSITION));
     };
     successors_into(alloc, &p, next)?;
@@ -100,8 +101,9 @@ pub(crate) fn list_moves(alloc: Global, pieces: u8) -> Result<Moves, AllocError>
     let mut numbers = Vec::new(alloc);
     let mut lost = Vec::new(alloc);
     let mut next = Vec::new(alloc);
+    let mut walk = PositionWalk::new();
     for index in 0..count {
-        let (targets, number) = add_moves(alloc, index, &mut origins, &mut next)?;
+        let (targets, number) = add_moves(alloc, index, &mut walk, &mut origins, &mut next)?;
         waiting.push(targets)?;
         numbers.push(number)?;
         add_lost(index, number, &mut lost)?;

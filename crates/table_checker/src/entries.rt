@@ -14,7 +14,7 @@ use draughts_rules::successors;
 use endgame_table::{NO_POSITION, answer_of};
 use std::alloc::{AllocError, Global};
 use strategy_certificate::Answer;
-use table_index::{entry_count, index_of, position_at};
+use table_index::{PositionWalk, entry_count, index_of};
 
 /// The answers that the numbers keep for these positions.
 fn kept_answers(
@@ -50,14 +50,20 @@ fn fits_position(
 }
 
 /// The rule holds at this index of a table of so many pieces.
-fn fits_at(alloc: Global, pieces: u8, numbers: &[u32], index: u32) -> Result<bool, AllocError>
+fn fits_at(
+    alloc: Global,
+    pieces: u8,
+    numbers: &[u32],
+    walk: &mut PositionWalk,
+    index: u32,
+) -> Result<bool, AllocError>
     requires size { IsTableSize pieces }
     requires entries { length numbers.now ≡ entry_count pieces }
     requires index { index < entry_count pieces }
     ensures { IfOk result (λ fits. IsTrue fits ↔ FitsAt pieces numbers.now index) }
 {
     let kept = numbers[index as usize];
-    match position_at(index) {
+    match walk.position_at(index) {
         None => Ok(kept == NO_POSITION),
         Some(p) => match answer_of(kept) {
             None => Ok(false),
@@ -78,8 +84,9 @@ pub(crate) fn first_bad_entry(
         ((i : ℕ) → i < entry_count pieces → FitsAt pieces numbers.now i)
         (FailsFirstAt pieces numbers.now)) }
 {
+    let mut walk = PositionWalk::new();
     for index in 0..entry_count(pieces) {
-        if !fits_at(alloc, pieces, numbers, index)? {
+        if !fits_at(alloc, pieces, numbers, &mut walk, index)? {
             return Ok(Some(index));
         }
     }

@@ -93,7 +93,7 @@ split : (a i : ℕ) → 0 < a → i < 32 → choose a (32 - i) ≡ choose (a - 1
 split a i h l = let e : 32 - i ≡ suc (31 - i) = omega arith in ap (choose a) e ∙ pascal a (31 - i) h
 
 -- a piece stands at place i exactly where the choice lies among those that begin there
-full-from_place : (all : List Cell) (i a b k : ℕ) (cells : List Cell) → IsBuilt all i a b k cells → 0 < a → i < 32 → b < choose (a - 1) (31 - i) → is_empty (get_or all i Empty) ≡ false
+pub full-from_place : (all : List Cell) (i a b k : ℕ) (cells : List Cell) → IsBuilt all i a b k cells → 0 < a → i < 32 → b < choose (a - 1) (31 - i) → is_empty (get_or all i Empty) ≡ false
 full-from_place all i a b k cells built some h below =
     let n = next all i built.long h in
     let place = built.place in
@@ -109,7 +109,7 @@ full-from_place all i a b k cells built some h below =
     (λ (e : is_empty (get_or all i Empty) ≡ false). e)
     (cases_Bool (is_empty (get_or all i Empty)))
 
-none-from_place : (all : List Cell) (i a b k : ℕ) (cells : List Cell) → IsBuilt all i a b k cells → 0 < a → i < 32 → choose (a - 1) (31 - i) ≤ b → is_empty (get_or all i Empty) ≡ true
+pub none-from_place : (all : List Cell) (i a b k : ℕ) (cells : List Cell) → IsBuilt all i a b k cells → 0 < a → i < 32 → choose (a - 1) (31 - i) ≤ b → is_empty (get_or all i Empty) ≡ true
 none-from_place all i a b k cells built some h least =
     let n = next all i built.long h in
     let place = built.place in

@@ -6,3 +6,4 @@ pub mod Tally
 pub mod SquaresLeft
 pub mod Building
 pub mod InOrder
+pub mod PlacingPieces

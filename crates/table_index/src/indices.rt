@@ -1,13 +1,13 @@
 //! The index of a position, and the position at an index.
-ghost use Rattle.std.specs.Prelude.{◌≡◌, ◌≤◌, ◌<◌, ◌+◌, ◌*◌, ◌^◌, ℕ, if◌then◌else◌, IfSome, MatchOption, IsTrue, IsFalse, replicate, slice_get, Some, true, length, List};
+ghost use Rattle.std.specs.Prelude.{◌≡◌, ◌≤◌, ◌<◌, ◌+◌, ◌*◌, ◌^◌, ℕ, if◌then◌else◌, MatchOption, IsTrue, IsFalse, replicate, slice_get, Some, true, length, List};
 ghost use Rattle.draughts_board.specs.Board.{IsLawful, piece_count, all_allowed, is_allowed};
-ghost use Rattle.table_index.specs.Order.{entry_count, index_of, position_at, piece_numbered, choices, with_pieces_on};
+ghost use Rattle.table_index.specs.Order.{entry_count, index_of, piece_numbered, choices, with_pieces_on};
 ghost use Rattle.table_index.specs.Counting.{choose};
 ghost use Rattle.draughts_board.specs.Geometry.{IsSquare, squares};
 ghost use Rattle.draughts_board.specs.Rules.{put};
 ghost use Rattle.draughts_board.specs.Masks.{stands_in};
 
-use crate::counts::{block_of, choices_of, first_index, index_at, kinds_of};
+use crate::counts::{choices_of, first_index, index_at, kinds_of};
 use draughts_board::{Cell, Position, Side, Square};
 
 /// How many indices a table of so many pieces has.
@@ -39,7 +39,7 @@ fn kind_in(kings: u32, white: u32, square: Square) -> u32
 }
 
 /// The piece of a kind.
-fn piece_of(kind: u32) -> Cell
+pub(crate) fn piece_of(kind: u32) -> Cell
     requires { kind < 4 }
     ensures { result ≡ piece_numbered kind }
 {
@@ -91,7 +91,7 @@ fn is_allowed(place: usize, piece: Cell) -> bool
 
 /// The position with the piece on the square of this place, too; none where it may not stand there.
 #[inline]
-fn with_piece(p: &Position, place: usize, piece: Cell, to_move: Side) -> Option<Position>
+pub(crate) fn with_piece(p: &Position, place: usize, piece: Cell, to_move: Side) -> Option<Position>
     requires place { place < 32 }
     requires lawful { is_allowed (place + 1) piece ≡ true
         → IsLawful (record { cells = put p.now.cells (place + 1) piece; to_move = to_move }) }
@@ -108,7 +108,12 @@ fn with_piece(p: &Position, place: usize, piece: Cell, to_move: Side) -> Option<
 
 /// The position with pieces of these kinds on the squares of the choice with this place among the choices of so many
 /// squares; none where a man would stand on its farthest row.
-fn position_of(mut pieces: u32, mut choice: u32, mut kinds: u32, to_move: Side) -> Option<Position>
+pub(crate) fn position_of(
+    mut pieces: u32,
+    mut choice: u32,
+    mut kinds: u32,
+    to_move: Side,
+) -> Option<Position>
     requires pieces { pieces ≤ 3 }
     requires choice { choice < choose pieces 32 }
     requires kinds { kinds < 4 ^ pieces }
@@ -141,23 +146,4 @@ fn position_of(mut pieces: u32, mut choice: u32, mut kinds: u32, to_move: Side) 
         }
     }
     Some(p)
-}
-
-/// The position at an index of the table of three pieces; none where the index is no position.
-pub fn position_at(index: u32) -> Option<Position>
-    requires { index < entry_count 3 }
-    ensures value { result ≡ position_at index }
-    ensures lawful { IfSome result (λ p. IsLawful p) }
-    ensures few { (k : ℕ) → k ≤ 3 → index < entry_count k → IfSome result (λ p. piece_count p ≤ k) }
-    ensures index { IfSome result (λ p. index_of p ≡ index) }
-{
-    let pieces = block_of(index);
-    let place = index - first_index(pieces);
-    let to_move = if place % 2 == 0 {
-        Side::Black
-    } else {
-        Side::White
-    };
-    let weight = kinds_of(pieces);
-    position_of(pieces, place / 2 / weight, place / 2 % weight, to_move)
 }

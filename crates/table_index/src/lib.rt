@@ -15,5 +15,7 @@ mod counts;
 pub mod examples;
 mod indices;
 pub mod laws;
+mod walking;
 
-pub use indices::{entry_count, index_of, position_at};
+pub use indices::{entry_count, index_of};
+pub use walking::{PositionWalk, position_at};
