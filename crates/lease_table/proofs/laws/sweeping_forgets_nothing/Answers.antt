@@ -1,4 +1,4 @@
-use Rattle.lease_table.proofs.TableLemmas.{swept_later, swept_free}
+use Rattle.lease_table.proofs.Sweeping.{swept_later, swept_free}
 use Rattle.lease_table.proofs.laws.sweeping_forgets_nothing.Goals as goal
 
 pub returns-clause-rows : goal.returns-clause-rows

@@ -3,7 +3,7 @@ use Rattle.std.specs.Prelude.{eqb, is_some}
 use Rattle.std.specs.Map.{lookup}
 use Rattle.std.proofs.lemmas.Map.Made.{filter_same_pairs}
 use Rattle.lease_table.specs.Tables.{Entry}
-use Rattle.lease_table.proofs.TableLemmas.{packed_absent}
+use Rattle.lease_table.proofs.Giving.{packed_absent}
 use Rattle.lease_table.proofs.table.make_room.Goals as goal
 
 pub returns-clause-entries : goal.returns-clause-entries

@@ -6,7 +6,8 @@ use Rattle.indexmap.specs.IndexMap.{insert_entry}
 use Rattle.lease_table.specs.declared.leases.Row.{Row}
 use Rattle.lease_table.specs.Rows.{LeaseRows, is_live_row, row_with, without}
 use Rattle.lease_table.specs.Tables.{rows_of}
-use Rattle.lease_table.proofs.TableLemmas.{ended_is, ended_table, live_stands}
+use Rattle.lease_table.proofs.Marks.{ended_is, ended_table}
+use Rattle.lease_table.proofs.Giving.{live_stands}
 use Rattle.lease_table.proofs.table.Leases.end.Goals as goal
 
 pub put-requires : goal.put-requires

@@ -2,7 +2,7 @@ use Rattle.std.proofs.Common.{◌∙◌, ap}
 use Rattle.std.specs.Option.{option_map, option_flatten}
 use Rattle.lease_table.specs.declared.leases.Row.{Row}
 use Rattle.lease_table.specs.Rows.{is_waiting_row}
-use Rattle.lease_table.proofs.TableLemmas.{first_found}
+use Rattle.lease_table.proofs.Standing.{first_found}
 use Rattle.lease_table.proofs.table.Leases.first_waiting.Goals as goal
 
 pub returns-in-Some : goal.returns-in-Some

@@ -6,7 +6,8 @@ use Rattle.indexmap.proofs.CallerLemmas.{insert_entry-new}
 use Rattle.lease_table.specs.declared.leases.Row.{Row}
 use Rattle.lease_table.specs.Rows.{LeaseRows, row_with, without_node}
 use Rattle.lease_table.specs.Tables.{Entry, rows_of, IsLeaseTable}
-use Rattle.lease_table.proofs.TableLemmas.{row_found, roomy_rows, roomy_table, given_rows, given_table, freed, freed_absent, on_err}
+use Rattle.lease_table.proofs.ByNumber.{row_found}
+use Rattle.lease_table.proofs.Giving.{roomy_rows, roomy_table, given_rows, given_table, freed, freed_absent, on_err}
 use Rattle.lease_table.proofs.table.Leases.give.Goals as goal
 
 pub make_room-requires-clause-none : goal.make_room-requires-clause-none

@@ -4,7 +4,8 @@ use Rattle.std.proofs.lemmas.Bool.{eq-eqb, ne_eqb}
 use Rattle.std.proofs.lemmas.Option.{slice_get_read, slice_get_past}
 use Rattle.lease_table.specs.Rows.{LeaseRows, is_live_row, is_of, row_with}
 use Rattle.lease_table.specs.Tables.{rows_of}
-use Rattle.lease_table.proofs.TableLemmas.{ids_distinct, leased_is, noted_lives, node_lives}
+use Rattle.lease_table.proofs.ByNumber.{ids_distinct}
+use Rattle.lease_table.proofs.ByNode.{leased_is, noted_lives, node_lives}
 use Rattle.lease_table.proofs.table.Leases.leased.Goals as goal
 
 pub returns-in_default : goal.returns-in_default

@@ -1,6 +1,6 @@
 use Rattle.std.proofs.Common.{◌∙◌}
 use Rattle.lease_table.specs.Rows.{is_live_row}
-use Rattle.lease_table.proofs.TableLemmas.{rows_counted}
+use Rattle.lease_table.proofs.Standing.{rows_counted}
 use Rattle.lease_table.proofs.table.Leases.live.Goals as goal
 
 pub returns : goal.returns

@@ -2,7 +2,7 @@ use Rattle.std.proofs.Common.{◌∙◌, ap, sym}
 use Rattle.std.specs.Prelude.{eqb}
 use Rattle.std.specs.Map.{lookup}
 use Rattle.std.specs.Option.{option_flatten}
-use Rattle.lease_table.proofs.TableLemmas.{row_found}
+use Rattle.lease_table.proofs.ByNumber.{row_found}
 use Rattle.lease_table.proofs.table.Leases.numbered.Goals as goal
 
 pub returns-then-found-number : goal.returns-then-found-number

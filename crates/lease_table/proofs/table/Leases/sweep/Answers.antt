@@ -4,7 +4,8 @@ use Rattle.std.proofs.lemmas.Map.Made.{filter_same_pairs}
 use Rattle.lease_table.specs.declared.leases.Row.{Row}
 use Rattle.lease_table.specs.Rows.{is_live_row}
 use Rattle.lease_table.specs.Tables.{Entry}
-use Rattle.lease_table.proofs.TableLemmas.{rows_filtered, swept_table}
+use Rattle.lease_table.proofs.Standing.{rows_filtered}
+use Rattle.lease_table.proofs.Marks.{swept_table}
 use Rattle.lease_table.proofs.table.Leases.sweep.Goals as goal
 
 pub invariant_of-self : goal.invariant_of-self

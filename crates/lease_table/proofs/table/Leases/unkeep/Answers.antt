@@ -1,40 +1,31 @@
-use Rattle.std.proofs.Common.{◌≡◌, ◌∙◌, ap, sym, List, false, Option, Some}
-use Rattle.std.specs.Prelude.{eqb, is_some}
-use Rattle.std.specs.Map.{lookup}
-use Rattle.indexmap.specs.IndexMap.{insert_entry}
+use Rattle.std.proofs.Common.{◌≡◌, ◌∙◌, ap, sym, List, false, Some}
 use Rattle.lease_table.specs.declared.leases.Row.{Row}
-use Rattle.lease_table.specs.Rows.{LeaseRows, row_with, marked}
+use Rattle.lease_table.specs.Rows.{LeaseRows, row_with}
 use Rattle.lease_table.specs.Tables.{rows_of}
-use Rattle.lease_table.proofs.TableLemmas.{stands_under, marked_is, marked_table}
+use Rattle.lease_table.proofs.Marks.{IsMarkedTable, marked_call, marked_place}
 use Rattle.lease_table.proofs.table.Leases.unkeep.Goals as goal
+use Rattle.lease_table.proofs.table.Leases.unkeep.Goals.{After-put, In-Some}
+
+row_found : (c : In-Some) → row_with c.args.id (rows_of c.self.inside.rows.entries) ≡ Some c.in-Some.row
+row_found c =
+    sym (c.in-Some.ensures ∙ ap (λ (t : LeaseRows). row_with c.number.result t.rows) (sym c.self.view_is)
+    ∙ ap (λ k. row_with k (rows_of c.self.inside.rows.entries)) c.number.ensures)
+
+row_marked : (c : After-put) → row_with c.args.id (rows_of c.self.inside.rows.entries) ≡ Some c.in-Some.row
+    → IsMarkedTable c.args.id false c.self.inside.rows.entries c.put.new.rows.entries c.self.inside.numbers.items
+row_marked c found =
+    marked_call false c.args.id c.number-2.result c.self.inside.rows.entries c.put.new.rows.entries c.in-Some.row c.self.inside.numbers.items
+    c.self.invariant found c.number-2.ensures c.put.ensures.unique c.put.ensures.entries
 
 pub put-requires : goal.put-requires
 put-requires c =
-    let es = c.self.inside.rows.entries in
-    let id = c.args.id in
-    let row = c.in-Some.row in
-    let found : row_with id (rows_of es) ≡ Some row = sym (c.in-Some.ensures ∙ ap (λ (t : LeaseRows). row_with c.number.result t.rows) (sym c.self.view_is) ∙ ap (λ k. row_with k (rows_of es)) c.number.ensures) in
-    let known : lookup (eqb id) es ≡ Some (Some row) = stands_under id es row c.self.invariant.unique c.self.invariant.keyed found in
-    ap (λ k. is_some (lookup (eqb k) es)) c.number-2.ensures ∙ ap (λ (o : Option (Option Row)). is_some o) known
+    marked_place c.args.id c.number-2.result c.self.inside.rows.entries c.in-Some.row c.self.inside.numbers.items c.self.invariant
+    (row_found (goal.at.put-requires c).In-Some) c.number-2.ensures
 
 pub invariant_of-self : goal.invariant_of-self
-invariant_of-self c =
-    let es = c.self.inside.rows.entries in
-    let id = c.args.id in
-    let row = c.in-Some.row in
-    let found : row_with id (rows_of es) ≡ Some row = sym (c.in-Some.ensures ∙ ap (λ (t : LeaseRows). row_with c.number.result t.rows) (sym c.self.view_is) ∙ ap (λ k. row_with k (rows_of es)) c.number.ensures) in
-    let known : lookup (eqb id) es ≡ Some (Some row) = stands_under id es row c.self.invariant.unique c.self.invariant.keyed found in
-    let same : c.put.new.rows.entries ≡ insert_entry eqb es id (Some (record row { kept = false })) = c.put.ensures.entries ∙ ap (λ k. insert_entry eqb es k (Some (record row { kept = false }))) c.number-2.ensures in
-    marked_table id false es c.put.new.rows.entries row c.self.inside.numbers.items c.self.invariant c.put.ensures.unique known same
+invariant_of-self c = (row_marked (goal.at.invariant_of-self c).After-put (row_found (goal.at.invariant_of-self c).In-Some)).table
 
 pub returns : goal.returns
 returns c =
-    let es = c.self.inside.rows.entries in
-    let id = c.args.id in
-    let row = c.in-Some.row in
-    let found : row_with id (rows_of es) ≡ Some row = sym (c.in-Some.ensures ∙ ap (λ (t : LeaseRows). row_with c.number.result t.rows) (sym c.self.view_is) ∙ ap (λ k. row_with k (rows_of es)) c.number.ensures) in
-    let known : lookup (eqb id) es ≡ Some (Some row) = stands_under id es row c.self.invariant.unique c.self.invariant.keyed found in
-    let same : c.put.new.rows.entries ≡ insert_entry eqb es id (Some (record row { kept = false })) = c.put.ensures.entries ∙ ap (λ k. insert_entry eqb es k (Some (record row { kept = false }))) c.number-2.ensures in
-    let rows : rows_of c.put.new.rows.entries ≡ marked id false (rows_of es) = ap rows_of same ∙ marked_is id false es row c.self.invariant.unique c.self.invariant.keyed known in
     let Make : List Row → LeaseRows = λ rs. record { limit = c.self.inside.limit; rows = rs } in
-    rw (← c.self.view_is) (ap Make rows)
+    rw (← c.self.view_is) (ap Make (row_marked (goal.at.returns c).After-put (row_found (goal.at.returns c).In-Some)).rows)
