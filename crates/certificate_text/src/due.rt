@@ -8,11 +8,11 @@ ghost use Rattle.strategy_certificate.specs.declared.certificates.Certificate.{C
 ghost use Rattle.strategy_certificate.specs.declared.certificates.Part.TheVariants as parts;
 
 use crate::lines::{
-    Heading, claim_of, heading_of, hold_entry, is, position_field, printed_position, table_of,
-    win_entry,
+    Heading, claim_of, heading_of, hold_entry, is, position_field, table_of, win_entry,
 };
 use crate::refusal::TextRefusal;
 use draughts_board::{Position, Side};
+use fen_text::read_printed_fen;
 use std::alloc::{AllocError, Global};
 use strategy_certificate::{Certificate, Claim, HoldPart, Part, PartList, WinEntry, WinPart};
 
@@ -68,7 +68,7 @@ fn after_position(pieces: u8, number: usize, line: &[u8]) -> Result<Due, TextRef
     let Some(field) = position_field(line) else {
         return Err(TextRefusal::BadLine(number));
     };
-    match printed_position(field) {
+    match read_printed_fen(field) {
         Some(p) => Ok(Due::Claim(pieces, p)),
         None => Err(TextRefusal::BadFen(number)),
     }
@@ -128,7 +128,7 @@ fn add_win(part: &mut WinPart, number: usize, line: &[u8]) -> Result<(), TextRef
     let Some((field, rank, chosen)) = win_entry(line) else {
         return Err(TextRefusal::BadLine(number));
     };
-    let Some(p) = printed_position(field) else {
+    let Some(p) = read_printed_fen(field) else {
         return Err(TextRefusal::BadFen(number));
     };
     match part.add_new(p, WinEntry { rank, chosen }) {
@@ -148,7 +148,7 @@ fn add_hold(part: &mut HoldPart, number: usize, line: &[u8]) -> Result<(), TextR
     let Some((field, chosen)) = hold_entry(line) else {
         return Err(TextRefusal::BadLine(number));
     };
-    let Some(p) = printed_position(field) else {
+    let Some(p) = read_printed_fen(field) else {
         return Err(TextRefusal::BadFen(number));
     };
     match part.add_new(p, chosen) {

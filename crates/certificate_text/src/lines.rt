@@ -1,12 +1,10 @@
 //! What one line says.
 ghost use Rattle.std.specs.Prelude.{◌≡◌, ◌≢◌, ◌++◌, ◌∷◌, ◌<◌, ◌≤◌, ◌^◌, ◌⊎◌, ◌↔◌, ℕ, IsTrue, List, Option, option_copied, All, IfSome, IfNone, decimal, length};
 ghost use Rattle.draughts_board.specs.Geometry.{IsSquare};
-ghost use Rattle.draughts_board.specs.Board.{Board, IsLawful};
 ghost use Rattle.draughts_board.specs.declared.pieces.Side.{Side as Player};
 ghost use Rattle.strategy_certificate.specs.declared.claims.Claim.{Claim as Value};
 ghost use Rattle.strategy_certificate.specs.declared.entries.TheConstants.{MOST_RANK};
 ghost use Rattle.strategy_certificate.specs.Parts.{IsPath};
-ghost use Rattle.fen_text.specs.Printed.{fen_of};
 ghost use Rattle.shared_words.specs.Bytes.{Lacks};
 ghost use Rattle.certificate_text.specs.Lines.{Line, table, position, claim, win_entry, hold_entry, line_text, separator as separator_of, squares_text, move_text, choice_text, side_word};
 ghost use Rattle.strategy_certificate.specs.Tables.{IsTableSize};
@@ -15,8 +13,7 @@ ghost use Rattle.certificate_text.specs.Steps.{behind_field};
 ghost use Rattle.certificate_text.specs.Headings.{said};
 
 use crate::printing;
-use draughts_board::{Move, Position, Side, Square};
-use fen_text::{print_fen, read_fen};
+use draughts_board::{Move, Side, Square};
 use shared_words::{number_to, split_once};
 use strategy_certificate::{Claim, MOST_RANK};
 
@@ -105,21 +102,6 @@ fn choice(behind: Option<&[u8]>) -> Option<Option<Move>>
     match behind {
         Some(text) => Some(Some(move_of(text)?)),
         None => Some(None),
-    }
-}
-
-/// The position whose printed FEN this is.
-pub(crate) fn printed_position(field: &[u8]) -> Option<Position>
-    ensures some { IfSome result (λ p. IsLawful p × (field.now ≡ fen_of p)) }
-    ensures none { IfNone result ((p : Board) → IsLawful p → field.now ≢ fen_of p) }
-{
-    let Ok(p) = read_fen(field) else {
-        return None;
-    };
-    if print_fen(&p).as_bytes() == field {
-        Some(p)
-    } else {
-        None
     }
 }
 

@@ -1,6 +1,7 @@
 pub mod Naming
 pub mod Items
 pub mod Lists
+pub mod Behind
 pub mod Parts
 pub mod Again
 pub mod Wrong

@@ -1,6 +1,7 @@
 pub mod Grammar
 pub mod Spelled
 pub mod Printed
+pub mod Behind
 pub mod Faults
 pub mod Laws
 pub mod Reading

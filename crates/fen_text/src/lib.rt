@@ -10,6 +10,7 @@
 //! Tests: text_tests/src/fens.rt
 #![tactic(auto)]
 
+mod comparing;
 mod fault;
 mod group;
 mod laws;
@@ -18,6 +19,7 @@ mod reading;
 mod refusal;
 mod setup;
 
+pub use comparing::read_printed_fen;
 pub use laws::{printed_is_plain, printed_is_spelled, printed_tells_apart, spelled_tells_apart};
 pub use printing::print_fen;
 pub use reading::read_fen;

@@ -2,8 +2,8 @@ use Rattle.std.proofs.Common.{refl, ap, Some}
 use Rattle.certificate_text.specs.Lines.{hold_entry}
 use Rattle.certificate_text.proofs.due.add_hold.Goals as goal
 
-pub returns-in_default-printed_position-clause-err : goal.returns-in_default-printed_position-clause-err
-returns-in_default-printed_position-clause-err c after left =
+pub returns-in_default-read_printed_fen-clause-err : goal.returns-in_default-read_printed_fen-clause-err
+returns-in_default-read_printed_fen-clause-err c after left =
     let line = c.in-Some.ensures.some in (
       refl,
       record {
@@ -12,18 +12,18 @@ returns-in_default-printed_position-clause-err c after left =
         may = (line.0, line.1.0);
         spelled = line.1.1;
         has = refl;
-        wrong = λ fen. c.in_default-printed_position.ensures.none fen.0 fen.1.0 fen.1.1;
+        wrong = λ fen. c.in_default-read_printed_fen.ensures.none fen.0 fen.1.0 fen.1.1;
       },
     )
 
 pub returns-in-Ok-false-clause-err : goal.returns-in-Ok-false-clause-err
 returns-in-Ok-false-clause-err c after left =
     let line = c.in-Some.ensures.some in
-    let fen = c.in-Some-printed_position.ensures.some in (
+    let fen = c.in-Some-read_printed_fen.ensures.some in (
       refl,
       record {
         said = hold_entry c.in-Some.field.now c.in-Some.chosen;
-        p = c.in-Some-printed_position.p;
+        p = c.in-Some-read_printed_fen.p;
         may = (line.0, line.1.0);
         spelled = line.1.1;
         lawful = fen.0;
@@ -35,12 +35,12 @@ returns-in-Ok-false-clause-err c after left =
 pub returns-in-Ok-true-clause-ok : goal.returns-in-Ok-true-clause-ok
 returns-in-Ok-true-clause-ok c =
     let line = c.in-Some.ensures.some in
-    let fen = c.in-Some-printed_position.ensures.some in (
+    let fen = c.in-Some-read_printed_fen.ensures.some in (
       hold_entry c.in-Some.field.now c.in-Some.chosen,
       (
         line.1.1,
         record {
-          p = c.in-Some-printed_position.p;
+          p = c.in-Some-read_printed_fen.p;
           lawful = fen.0;
           fen = fen.1;
           absent = rw c.in-Ok-true.field-0-test at c.in-Ok-true.ensures.tells;

@@ -2,10 +2,10 @@ use Rattle.std.proofs.Common.{refl}
 use Rattle.certificate_text.specs.Lines.{position}
 use Rattle.certificate_text.proofs.due.after_position.Goals as goal
 
-pub returns-in-Some-printed_position-clause-ok : goal.returns-in-Some-printed_position-clause-ok
-returns-in-Some-printed_position-clause-ok c =
-    let fen = c.in-Some-printed_position.ensures.some in
-    (position c.in-Some.field.now, (c.in-Some.ensures.some.1, record { p = c.in-Some-printed_position.p; lawful = fen.0; fen = fen.1; leads = refl }))
+pub returns-in-Some-read_printed_fen-clause-ok : goal.returns-in-Some-read_printed_fen-clause-ok
+returns-in-Some-read_printed_fen-clause-ok c =
+    let fen = c.in-Some-read_printed_fen.ensures.some in
+    (position c.in-Some.field.now, (c.in-Some.ensures.some.1, record { p = c.in-Some-read_printed_fen.p; lawful = fen.0; fen = fen.1; leads = refl }))
 
 pub returns-in-None-clause-err : goal.returns-in-None-clause-err
 returns-in-None-clause-err c =
