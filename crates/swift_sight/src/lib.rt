@@ -1,7 +1,7 @@
 //! Positions as children in a tree, each with what is known of it at sight and its mobility.
 //!
-//! Their successors are found by the swift generator, so nothing that accepts a certificate stands
-//! on this crate.
+//! The successors are found by the swift generator. `certificate_checker`, which says what a
+//! certificate shows, goes by the plain one.
 #![tactic(auto)]
 
 mod sight;
