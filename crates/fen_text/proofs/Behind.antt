@@ -5,9 +5,9 @@ use Rattle.std.specs.List.{flat_map}
 use Rattle.std.specs.Int.Bits.{bit_or}
 use Rattle.std.proofs.lemmas.Option.{same_Some}
 use Rattle.std.proofs.lemmas.Bool.{cases_Bool, eqb-true, eq-eqb, false≢true}
-use Rattle.draughts_board.specs.Geometry.{IsSquare, squares}
+use Rattle.draughts_board.specs.Geometry.{squares}
 use Rattle.draughts_board.specs.Board.{Board, IsLawful, belongs, same_cell, cell_at}
-use Rattle.draughts_board.specs.Masks.{IsMaskOf, AreMasksOf, stands_in, squares_of}
+use Rattle.draughts_board.specs.Masks.{IsMaskOf, AreMasksOf, squares_of}
 use Rattle.draughts_board.specs.declared.pieces.Side.{Side}
 use Rattle.draughts_board.specs.declared.pieces.Side.TheVariants.{Black, White}
 use Rattle.draughts_board.specs.declared.pieces.Cell.{Cell}

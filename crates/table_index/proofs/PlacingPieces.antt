@@ -14,7 +14,7 @@ use Rattle.draughts_board.specs.Masks.{IsMaskOf, squares_of}
 use Rattle.draughts_board.proofs.OnSquares.{squares_of-test}
 use Rattle.table_index.specs.Counting.{choose}
 use Rattle.table_index.specs.Order.{choices, piece_numbered, with_pieces_on}
-use Rattle.table_index.proofs.CellsFrom.{held, stood, length-stood}
+use Rattle.table_index.proofs.CellsFrom.{stood, length-stood}
 use Rattle.table_index.proofs.OrderLemmas.{cells-of_choice, choice-at, occupied-stood}
 use Rattle.table_index.proofs.Building.{IsBuilt, wanted-chosen, built-start, built-none, built-piece, built-lawful, rebuilt, refused, piece-step, code-piece, put-there, full-from_place, none-from_place}
 

@@ -1,4 +1,4 @@
-use Rattle.std.proofs.Common.{◌≡◌, ◌∙◌, ◌-◌, ◌%◌, ◌^◌, ◌<◌, sym, ap, subst, replicate, arith}
+use Rattle.std.proofs.Common.{◌-◌, ◌%◌, sym, ap, subst, replicate, arith}
 use Rattle.std.proofs.Math.Nat.{one-le-pow}
 use Rattle.std.specs.Int.Bits.{bit_and}
 use Rattle.draughts_board.specs.declared.pieces.Cell.TheVariants.{Empty}
