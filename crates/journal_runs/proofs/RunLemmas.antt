@@ -3,6 +3,7 @@ use Rattle.std.proofs.Common.{◌≡◌, ◌≤◌, ◌<◌, ◌⊎◌, ◌+◌,
 use Rattle.std.proofs.lemmas.List.{append-nil}
 use Rattle.std.specs.Prelude.{Bool, true, false, cond, Option, Some, None, count_by, Result, Ok, Err, IfOk, IfErr, OnOk, IfSome}
 use Rattle.std.specs.List.{list_any, AllByRecursion as Each}
+use Rattle.bench_disk.specs.declared.disk.Disk.{Ghosts}
 use Rattle.bench_disk.specs.Disk.{IsHonest, NothingPending}
 use Rattle.bench_disk.specs.Runs.{Leaves}
 use Rattle.shared_words.specs.Counts.{Rose}
@@ -68,13 +69,13 @@ rose_from f a n le rose = omega (arith, le, rose)
 at_some : {A : Type 0} (P : A → Type 0) (o : Option A) (x : A) → o ≡ Some x → IfSome o P → P x
 at_some P o x is h = subst (λ (z : Option _). IfSome z P) is h
 
-module _ {D : Type 0} (reads : D → List ℕ) (images : D → List ℕ → Type 0) (images_since : D → ℕ → List ℕ → Type 0) (moment faults : D → ℕ) where
+module _ {D : Type 0} (g : Ghosts D) where
   abbrev Keeps : ℕ → List Entry → D → Type 0
-  Keeps pieces line disk = KeepsReceipts pieces reads images images_since moment line disk
+  Keeps pieces line disk = KeepsReceipts pieces g line disk
 
   -- images of now are images since every moment up to now
   abbrev NowCounts : D → Type 0
-  NowCounts disk = (t : ℕ) (image : List ℕ) → t ≤ moment disk → images disk image → images_since disk t image
+  NowCounts disk = (t : ℕ) (image : List ℕ) → t ≤ g.moment disk → g.images disk image → g.images_since disk t image
 
   -- ---- a session that was attached
 
@@ -82,21 +83,21 @@ module _ {D : Type 0} (reads : D → List ℕ) (images : D → List ℕ → Type
     abbrev line : List Entry
     line = line_from before a rest
 
-    recovers_from : a.opened ≡ moment old + 1 → Recovers reads images images_since moment faults pieces before (most_left line) old new
+    recovers_from : a.opened ≡ g.moment old + 1 → Recovers g pieces before (most_left line) old new
     recovers_from opened image =
-        let since = at_attached (λ ack. (i : List ℕ) → images_since new ack.moment i → ReadsBetween pieces ack.records (most_left line) i) [] before a rest keeps.since in
-        let moments = at_attached (λ ack. ack.moment ≤ moment new) [] before a rest keeps.moments in
-        ⊎_elim (λ later. since image (subst (λ t. images_since new t image) (sym opened) later)) (λ now. since image (now_counts a.opened image moments now))
+        let since = at_attached (λ ack. (i : List ℕ) → g.images_since new ack.moment i → ReadsBetween pieces ack.records (most_left line) i) [] before a rest keeps.since in
+        let moments = at_attached (λ ack. ack.moment ≤ g.moment new) [] before a rest keeps.moments in
+        ⊎_elim (λ later. since image (subst (λ t. g.images_since new t image) (sym opened) later)) (λ now. since image (now_counts a.opened image moments now))
 
-    settled_from : (b : Bool) → is_failed line ≡ b → faults old ≤ a.faults → (is_failed line ≡ true → Rose a.faults (faults new)) → NothingPending (reads new) (images new) ⊎ Rose (faults old) (faults new)
-    settled_from true h no_fewer broken = inr (rose_from (faults old) a.faults (faults new) no_fewer (broken h))
+    settled_from : (b : Bool) → is_failed line ≡ b → g.faults old ≤ a.faults → (is_failed line ≡ true → Rose a.faults (g.faults new)) → NothingPending (g.reads new) (g.images new) ⊎ Rose (g.faults old) (g.faults new)
+    settled_from true h no_fewer broken = inr (rose_from (g.faults old) a.faults (g.faults new) no_fewer (broken h))
     settled_from false h no_fewer broken = inl (keeps.settled h)
 
-    pub keeps_from : ReadsRecords pieces (reads old) before → a.opened ≡ moment old + 1 → faults old ≤ a.faults → (is_failed line ≡ true → Rose a.faults (faults new)) → KeepsJournal reads images images_since moment faults pieces old new
+    pub keeps_from : ReadsRecords pieces (g.reads old) before → a.opened ≡ g.moment old + 1 → g.faults old ≤ a.faults → (is_failed line ≡ true → Rose a.faults (g.faults new)) → KeepsJournal g pieces old new
     keeps_from read opened no_fewer broken = record {
       recovers = λ before' read'. (
         most_left line,
-        subst (λ (rs : List BenchRecord). Recovers reads images images_since moment faults pieces rs (most_left line) old new) (reads_once pieces (reads old) before before' read read')
+        subst (λ (rs : List BenchRecord). Recovers g pieces rs (most_left line) old new) (reads_once pieces (g.reads old) before before' read read')
             (recovers_from opened),
       );
       unread = λ none. absurd (none before read);
@@ -105,23 +106,23 @@ module _ {D : Type 0} (reads : D → List ℕ) (images : D → List ℕ → Type
 
     -- ---- the end with a report
 
-    pub reads_now : is_failed line ≡ false → images new (reads new) → ReadsRecords pieces (reads new) (applied_in line)
+    pub reads_now : is_failed line ≡ false → g.images new (g.reads new) → ReadsRecords pieces (g.reads new) (applied_in line)
     reads_now whole here =
-        let found = at_last (λ ack. (ack.moment ≤ moment new) × ((image : List ℕ) → images_since new ack.moment image → ReadsBetween pieces ack.records (most_left line) image)) line [] (any_from before a rest)
-        (each_both (λ ack. ack.moment ≤ moment new) (λ ack. (image : List ℕ) → images_since new ack.moment image → ReadsBetween pieces ack.records (most_left line) image) (acknowledgements line) keeps.moments keeps.since) in
-        let between : ReadsBetween pieces (applied_in line) (most_left line) (reads new) = found.1.1 (reads new) (now_counts found.0 (reads new) found.1.0 here) in
+        let found = at_last (λ ack. (ack.moment ≤ g.moment new) × ((image : List ℕ) → g.images_since new ack.moment image → ReadsBetween pieces ack.records (most_left line) image)) line [] (any_from before a rest)
+        (each_both (λ ack. ack.moment ≤ g.moment new) (λ ack. (image : List ℕ) → g.images_since new ack.moment image → ReadsBetween pieces ack.records (most_left line) image) (acknowledgements line) keeps.moments keeps.since) in
+        let between : ReadsBetween pieces (applied_in line) (most_left line) (g.reads new) = found.1.1 (g.reads new) (now_counts found.0 (g.reads new) found.1.0 here) in
         let most : most_left line ≡ applied_in line = ap (λ b. cond b (recorded line) (applied_in line)) whole in
-        subst (ReadsRecords pieces (reads new)) (prefix_both (applied_in line) between.records between.above (subst (IsPrefixOf between.records) most between.below)) between.reads
+        subst (ReadsRecords pieces (g.reads new)) (prefix_both (applied_in line) between.records between.above (subst (IsPrefixOf between.records) most between.below)) between.reads
 
     ends_from : (budget : ℕ) (added : List BenchRecord) (roots : Forest) (settled : Bool) → settled ≡ are_settled roots → (settled ≡ false → session_budget budget before ≤ count_by is_work added)
-        → SettlesOrSpends reads images images_since moment faults budget before added roots settled
+        → SettlesOrSpends g budget before added roots settled
     ends_from budget added roots true is spent = sym is
     ends_from budget added roots false is spent = (sym is, spent refl)
 
     pub resumes_from : (text_of : Forest → List ℕ) (depth budget : ℕ) (positions : List Board) (first last : SessionState D) (text : List ℕ) (settled : Bool)
-        → ReadsRecords pieces (reads old) before → a.opened ≡ moment old + 1 → a.budget ≡ session_budget budget before → a.pieces ≡ pieces → a.depth ≡ depth → IsNewCore before a first.core
+        → ReadsRecords pieces (g.reads old) before → a.opened ≡ g.moment old + 1 → a.budget ≡ session_budget budget before → a.pieces ≡ pieces → a.depth ≡ depth → IsNewCore before a first.core
         → root_positions first.core.state.forest ≡ begun before → last.line ≡ line → HasWorked text_of first positions last text settled
-        → images new (reads new) → Resumes reads images images_since moment faults text_of pieces depth budget positions old new text settled
+        → g.images new (g.reads new) → Resumes g text_of pieces depth budget positions old new text settled
     resumes_from text_of depth budget positions first last text settled read opened budget_is pieces_are depth_is new_core first_roots is worked here =
         let core = last.core in
         let whole : is_failed line ≡ false = sym (ap is_failed is) ∙ worked.idle.unfailed in
@@ -141,12 +142,12 @@ module _ {D : Type 0} (reads : D → List ℕ) (images : D → List ℕ → Type
           before = before;
           added = recorded rest;
           read_then = read;
-          reads_now = subst (ReadsRecords pieces (reads new)) all (reads_now whole here);
+          reads_now = subst (ReadsRecords pieces (g.reads new)) all (reads_now whole here);
           roots = core.state.forest;
           grown = subst (λ (rs : List BenchRecord). IsForestOf pieces rs core.state.forest) (ap applied_in is ∙ all) (subst (λ k. IsForestOf k (applied_in last.line) core.state.forest) pieces_last stands.forest);
           text_is = worked.text_is;
           roots_are = worked.roots_are ∙ ap (λ (ps : List Board). with_roots ps positions) first_roots;
-          crash = subst (λ (rs : List BenchRecord). Recovers reads images images_since moment faults pieces before rs old new) most (recovers_from opened);
+          crash = subst (λ (rs : List BenchRecord). Recovers g pieces before rs old new) most (recovers_from opened);
           ends = ends_from budget (recorded rest) core.state.forest settled worked.settled_is
               (λ unsettled. subst (λ n. n ≤ count_by is_work (recorded rest)) budget_last (subst (λ n. core.state.settings.budget ≤ n) work_is (worked.spent unsettled)));
           ample = λ ample. worked.ample before a budget new_core budget_is
@@ -156,16 +157,16 @@ module _ {D : Type 0} (reads : D → List ℕ) (images : D → List ℕ → Type
   -- ---- one that was refused
 
   pub keeps_refused : (pieces : ℕ) (old new : D)
-      → NothingPending (reads old) (images old)
-      → Leaves moment images_since old new (StaysOrFresh (images old) (reads old))
-      → (9 < length (reads old) → reads new ≡ reads old)
-      → NothingPending (reads new) (images new) ⊎ (IsFresh (reads old) × Rose (faults old) (faults new))
-      → images new (reads new) → NowCounts new
-      → ((s t : ℕ) (image : List ℕ) → s ≤ t → images_since new t image → images_since new s image)
-      → KeepsJournal reads images images_since moment faults pieces old new
+      → NothingPending (g.reads old) (g.images old)
+      → Leaves g.moment g.images_since old new (StaysOrFresh (g.images old) (g.reads old))
+      → (9 < length (g.reads old) → g.reads new ≡ g.reads old)
+      → NothingPending (g.reads new) (g.images new) ⊎ (IsFresh (g.reads old) × Rose (g.faults old) (g.faults new))
+      → g.images new (g.reads new) → NowCounts new
+      → ((s t : ℕ) (image : List ℕ) → s ≤ t → g.images_since new t image → g.images_since new s image)
+      → KeepsJournal g pieces old new
   keeps_refused pieces old new none_pending leaves unwritten settled here now_counts earlier_counts =
-      let left : (image : List ℕ) → MayLeave reads images images_since moment faults old new image → StaysOrFresh (images old) (reads old) image =
-      λ image. ⊎_elim (λ later. leaves.each image (earlier_counts (moment old) (moment old + 1) image (omega arith) later)) (λ now. leaves.each image (now_counts (moment old) image leaves.later now)) in
+      let left : (image : List ℕ) → MayLeave g old new image → StaysOrFresh (g.images old) (g.reads old) image =
+      λ image. ⊎_elim (λ later. leaves.each image (earlier_counts (g.moment old) (g.moment old + 1) image (omega arith) later)) (λ now. leaves.each image (now_counts (g.moment old) image leaves.later now)) in
       let no_forest : IsForestOf pieces [] no_node = refl in
       record {
         recovers = λ before read. (
@@ -174,7 +175,7 @@ module _ {D : Type 0} (reads : D → List ℕ) (images : D → List ℕ → Type
             records = before;
             reads = record {
               payloads = read.payloads;
-              stands = left_has pieces (images old) (reads old) image read.payloads none_pending read.stands (left image may);
+              stands = left_has pieces (g.images old) (g.reads old) image read.payloads none_pending read.stands (left image may);
               spelled = read.spelled;
               lawful = read.lawful;
             };
@@ -183,21 +184,21 @@ module _ {D : Type 0} (reads : D → List ℕ) (images : D → List ℕ → Type
           },
         );
         unread = λ none.
-            let long : 9 < length (reads old) =
-            ⊎_elim (λ fresh. absurd (none [] (record { payloads = []; stands = inl (fresh, refl); spelled = tt; lawful = (no_node, no_forest) }))) (λ more. more) (fresh_or_long (length (reads old)) 9) in
+            let long : 9 < length (g.reads old) =
+            ⊎_elim (λ fresh. absurd (none [] (record { payloads = []; stands = inl (fresh, refl); spelled = tt; lawful = (no_node, no_forest) }))) (λ more. more) (fresh_or_long (length (g.reads old)) 9) in
             let same = unwritten long in
             record {
               same = same;
               none_added = λ image now. ⊎_elim (λ was. was) (λ fresh. absurd (omega (arith, fresh.0, long))) (left image (inr now));
-              none_lost = λ image was. subst (images new) (same ∙ sym (none_pending image was)) here;
+              none_lost = λ image was. subst (g.images new) (same ∙ sym (none_pending image was)) here;
             };
         settled = ⊎_elim (λ none. inl none) (λ rose. inr rose.1) settled;
       }
 
   -- ---- the same of the calls' clauses
 
-  module _ (tells : Bool) (s : Settings) (old : D) (first : SessionState D) (begins : IsAttachedTo tells reads moment faults s old first) where
-    opened_is : begins.attachment.opened ≡ moment old + 1
+  module _ (s : Settings) (old : D) (first : SessionState D) (begins : IsAttachedTo g s old first) where
+    opened_is : begins.attachment.opened ≡ g.moment old + 1
     opened_is = ap (λ (a : Attachment). a.opened) begins.is
 
     budget_is : begins.attachment.budget ≡ session_budget s.budget begins.replayed
@@ -206,7 +207,7 @@ module _ {D : Type 0} (reads : D → List ℕ) (images : D → List ℕ → Type
     pieces_are : begins.attachment.pieces ≡ s.pieces
     pieces_are = ap (λ (a : Attachment). a.pieces) begins.is
 
-    faults_are : begins.attachment.faults ≡ faults first.disk
+    faults_are : begins.attachment.faults ≡ g.faults first.disk
     faults_are = ap (λ (a : Attachment). a.faults) begins.is
 
     pub first_stands : IsCoreOf first.line first.core
@@ -237,26 +238,26 @@ module _ {D : Type 0} (reads : D → List ℕ) (images : D → List ℕ → Type
           subst (λ l. Keeps s.pieces l new) line_is
           (subst (λ k. Keeps k line new) pieces_are (at_some (λ a. Keeps a.pieces line new) (attachment_of line) begins.attachment attached_is keeps))
 
-      rose_is : (new : D) → IfSome (attachment_of line) (λ a. Rose a.faults (faults new)) → Rose begins.attachment.faults (faults new)
-      rose_is new rose = at_some (λ (a : Attachment). Rose a.faults (faults new)) (attachment_of line) begins.attachment attached_is rose
+      rose_is : (new : D) → IfSome (attachment_of line) (λ a. Rose a.faults (g.faults new)) → Rose begins.attachment.faults (g.faults new)
+      rose_is new rose = at_some (λ (a : Attachment). Rose a.faults (g.faults new)) (attachment_of line) begins.attachment attached_is rose
 
-      pub keeps_begun : (new : D) → IsHonest tells → faults old ≤ faults first.disk → IfSome (attachment_of line) (λ a. Keeps a.pieces line new) → (is_failed line ≡ true → IfSome (attachment_of line) (λ a. Rose a.faults (faults new)))
-          → NowCounts new → KeepsJournal reads images images_since moment faults s.pieces old new
+      pub keeps_begun : (new : D) → IsHonest g.TELLS → g.faults old ≤ g.faults first.disk → IfSome (attachment_of line) (λ a. Keeps a.pieces line new) → (is_failed line ≡ true → IfSome (attachment_of line) (λ a. Rose a.faults (g.faults new)))
+          → NowCounts new → KeepsJournal g s.pieces old new
       keeps_begun new honest no_fewer keeps broken now_counts =
           keeps_from s.pieces begins.replayed begins.attachment went.0 old new (kept_is new keeps) now_counts (begins.read honest) opened_is
-          (subst (λ n. faults old ≤ n) (sym faults_are) no_fewer) (λ failed. rose_is new (broken (ap is_failed line_is ∙ failed)))
+          (subst (λ n. g.faults old ≤ n) (sym faults_are) no_fewer) (λ failed. rose_is new (broken (ap is_failed line_is ∙ failed)))
 
-      pub rose_begun : (new : D) → faults old ≤ faults first.disk → IfSome (attachment_of line) (λ a. Rose a.faults (faults new)) → Rose (faults old) (faults new)
-      rose_begun new no_fewer rose = rose_from (faults old) begins.attachment.faults (faults new) (subst (λ n. faults old ≤ n) (sym faults_are) no_fewer) (rose_is new rose)
+      pub rose_begun : (new : D) → g.faults old ≤ g.faults first.disk → IfSome (attachment_of line) (λ a. Rose a.faults (g.faults new)) → Rose (g.faults old) (g.faults new)
+      rose_begun new no_fewer rose = rose_from (g.faults old) begins.attachment.faults (g.faults new) (subst (λ n. g.faults old ≤ n) (sym faults_are) no_fewer) (rose_is new rose)
 
-    pub resumes_begun : (text_of : Forest → List ℕ) (positions : List Board) (last : SessionState D) (new : D) (text : List ℕ) (settled : Bool) (went : GoesOnFrom first.line last.line) → IsHonest tells
-        → HasWorked text_of first positions last text settled → IfSome (attachment_of last.line) (λ a. Keeps a.pieces last.line new) → images new (reads new) → NowCounts new
-        → Resumes reads images images_since moment faults text_of s.pieces s.depth s.budget positions old new text settled
+    pub resumes_begun : (text_of : Forest → List ℕ) (positions : List Board) (last : SessionState D) (new : D) (text : List ℕ) (settled : Bool) (went : GoesOnFrom first.line last.line) → IsHonest g.TELLS
+        → HasWorked text_of first positions last text settled → IfSome (attachment_of last.line) (λ a. Keeps a.pieces last.line new) → g.images new (g.reads new) → NowCounts new
+        → Resumes g text_of s.pieces s.depth s.budget positions old new text settled
     resumes_begun text_of positions last new text settled went honest worked keeps here now_counts =
         resumes_from s.pieces begins.replayed begins.attachment went.0 old new (kept_is last.line went new keeps) now_counts text_of s.depth s.budget positions first last text settled
         (begins.read honest) opened_is budget_is pieces_are (ap (λ (a : Attachment). a.depth) begins.is) begins.core first_roots (line_is last.line went) worked here
 
-    pub caused_begun : (positions : List Board) (r : RunRefusal) → IsHonest tells → IsWorkRefusal first positions r → IsCaused s.pieces positions (reads old) r
+    pub caused_begun : (positions : List Board) (r : RunRefusal) → IsHonest g.TELLS → IsWorkRefusal first positions r → IsCaused s.pieces positions (g.reads old) r
     caused_begun positions refusal.Disk honest h = tt
     caused_begun positions (refusal.Journal flaw) honest h = absurd h
     caused_begun positions refusal.TooManyRoots honest h =

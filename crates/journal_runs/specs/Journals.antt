@@ -1,6 +1,7 @@
 -- What a run leaves of the journal on its disk, and what it writes of it. Tables are of so many
 -- pieces.
 use Rattle.std.specs.Prelude.{◌≡◌, ◌≤◌, ◌<◌, ◌⊎◌, ◌+◌, ℕ, Bool, true, false, List, ◌++◌, count_by, length, Contains}
+use Rattle.bench_disk.specs.declared.disk.Disk.{Ghosts}
 use Rattle.bench_disk.specs.Disk.{NothingPending, Stays}
 use Rattle.shared_words.specs.Counts.{Rose}
 use Rattle.draughts_board.specs.Board.{Board}
@@ -27,11 +28,10 @@ use Rattle.proof_tree.specs.declared.tree.TheConstants.{MOST_ROOTS}
 -- ---- what is left of the disk
 
 -- of the disk at entry, and of the disk that is handed back
-module _ {D : Type 0} (reads : D → List ℕ) (images : D → List ℕ → Type 0)
-    (images_since : D → ℕ → List ℕ → Type 0) (moment faults : D → ℕ) where
+module _ {D : Type 0} (g : Ghosts D) where
   -- A crash since the opening sync, or one straight behind the run, may leave this image.
   abbrev pub MayLeave : D → D → List ℕ → Type 0
-  MayLeave old new image = images_since new (moment old + 1) image ⊎ images new image
+  MayLeave old new image = g.images_since new (g.moment old + 1) image ⊎ g.images new image
 
   -- Each such image reads as the records of before and the first few of those beyond them.
   abbrev pub Recovers : ℕ → List BenchRecord → List BenchRecord → D → D → Type 0
@@ -41,11 +41,11 @@ module _ {D : Type 0} (reads : D → List ℕ) (images : D → List ℕ → Type
   -- However a run ends: what the disk read as is recovered, a disk that read as no such journal
   -- stays, and nothing is pending, unless faults rose.
   pub record KeepsJournal (pieces : ℕ) (old new : D) : Type 0 where
-    pub recovers : (before : List BenchRecord) → ReadsRecords pieces (reads old) before
+    pub recovers : (before : List BenchRecord) → ReadsRecords pieces (g.reads old) before
         → (most : List BenchRecord) × Recovers pieces before most old new
-    pub unread : ((before : List BenchRecord) → ¬ ReadsRecords pieces (reads old) before)
-        → Stays reads images old new
-    pub settled : NothingPending (reads new) (images new) ⊎ Rose (faults old) (faults new)
+    pub unread : ((before : List BenchRecord) → ¬ ReadsRecords pieces (g.reads old) before)
+        → Stays g.reads g.images old new
+    pub settled : NothingPending (g.reads new) (g.images new) ⊎ Rose (g.faults old) (g.faults new)
 
   -- ---- a run that comes to its output
 
@@ -62,8 +62,8 @@ module _ {D : Type 0} (reads : D → List ℕ) (images : D → List ℕ → Type
       (positions : List Board) (old new : D) (text : List ℕ) (is_settled : Bool) : Type 0 where
     pub before : List BenchRecord
     pub added : List BenchRecord
-    pub read_then : ReadsRecords pieces (reads old) before
-    pub reads_now : ReadsRecords pieces (reads new) (before ++ added)
+    pub read_then : ReadsRecords pieces (g.reads old) before
+    pub reads_now : ReadsRecords pieces (g.reads new) (before ++ added)
     pub roots : Forest
     pub grown : IsForestOf pieces (before ++ added) roots
     pub text_is : text ≡ text_of roots

@@ -67,10 +67,10 @@ pub fn solve<R: Threads + Wait + Sync, D: Disk + Send, G: Gate + Sync>(
     requires lasts { 1 ≤ settings.lease }
     requires lease { settings.lease ≤ MOST_LEASE }
     ensures leaves { IsHonest D.TELLS → NothingPending (D.reads disk) (D.images disk) →
-        KeepsJournal D.reads D.images D.images_since D.moment D.faults
+        KeepsJournal D.Disk
         settings.pieces disk result.0 }
     ensures does { IsHonest D.TELLS → IfOk result.1 (λ ran.
-        Resumes D.reads D.images D.images_since D.moment D.faults
+        Resumes D.Disk
         (account_of account) settings.pieces settings.depth settings.budget
         positions.now disk result.0 ran.text.items ran.is_settled) }
     ensures shows { IfOk result.1

@@ -2,6 +2,7 @@
 use Rattle.std.proofs.Common.{◌≡◌, ◌≢◌, ℕ, inl, inr, Bool, List, [], Option, refl, sym, ◌∙◌, ap, subst}
 use Rattle.std.specs.Prelude.{IfOk, IfErr, Result, Ok, Err}
 use Rattle.std.specs.Io.KnownBytes.{IsAtEnd}
+use Rattle.bench_disk.specs.declared.disk.Disk.{Ghosts}
 use Rattle.shared_words.specs.Counts.{Rose}
 use Rattle.bench_disk.specs.Disk.{IsHonest}
 use Rattle.bench_edges.specs.declared.status.Status.{Status}
@@ -150,17 +151,17 @@ cut_blames B command source rest before after r (inl memory) = by_refusal (Rose 
 cut_blames B command source rest before after r (inr (inl read)) = by_refusal (Rose before after) B r refusal.Read read.0 (read_blames (Rose before after) B read.1.1)
 cut_blames B command source rest before after r (inr (inr long)) = by_refusal (Rose before after) B r refusal.TooLong long.0 (input_blames (Rose before after) B)
 
-module _ {D : Type 0} (tells : Bool) (reads : D → List ℕ) (images : D → List ℕ → Type 0) (images_since : D → ℕ → List ℕ → Type 0) (moment faults : D → ℕ) where
-  refused_run_blames : (A : Type 0) (pieces : ℕ) (positions : List Board) (old new : D) (r : Refusal) → IsRefusedRun tells reads images images_since moment faults pieces positions old new r
-      → Blames A (Rose (faults old) (faults new)) (status_of r)
+module _ {D : Type 0} (g : Ghosts D) where
+  refused_run_blames : (A : Type 0) (pieces : ℕ) (positions : List Board) (old new : D) (r : Refusal) → IsRefusedRun g pieces positions old new r
+      → Blames A (Rose (g.faults old) (g.faults new)) (status_of r)
   refused_run_blames A pieces positions old new r h =
-      by_refusal A (Rose (faults old) (faults new)) r (of_run h.fault) h.is (run_blames A (Rose (faults old) (faults new)) h.fault h.disk)
+      by_refusal A (Rose (g.faults old) (g.faults new)) r (of_run h.fault) h.is (run_blames A (Rose (g.faults old) (g.faults new)) h.fault h.disk)
 
-  disk_fault_blames : (A : Type 0) (command : Command) (bytes : List ℕ) (old new : D) (r : Refusal) → HasDiskFault tells reads images images_since moment faults command bytes old new r
-      → Blames A (Rose (faults old) (faults new)) (status_of r)
+  disk_fault_blames : (A : Type 0) (command : Command) (bytes : List ℕ) (old new : D) (r : Refusal) → HasDiskFault g command bytes old new r
+      → Blames A (Rose (g.faults old) (g.faults new)) (status_of r)
   disk_fault_blames A (Solve options) bytes old new r h = refused_run_blames A options.pieces _ old new r h.1.1
-  disk_fault_blames A Report bytes old new r h = by_refusal A (Rose (faults old) (faults new)) r (of_look h.fault) h.is (look_blames A (Rose (faults old) (faults new)) h.fault h.disk)
-  disk_fault_blames A (Certify root) bytes old new r h = by_refusal A (Rose (faults old) (faults new)) r (of_look h.fault) h.is (look_blames A (Rose (faults old) (faults new)) h.fault h.disk)
+  disk_fault_blames A Report bytes old new r h = by_refusal A (Rose (g.faults old) (g.faults new)) r (of_look h.fault) h.is (look_blames A (Rose (g.faults old) (g.faults new)) h.fault h.disk)
+  disk_fault_blames A (Certify root) bytes old new r h = by_refusal A (Rose (g.faults old) (g.faults new)) r (of_look h.fault) h.is (look_blames A (Rose (g.faults old) (g.faults new)) h.fault h.disk)
   disk_fault_blames A Verify bytes old new r h = absurd h
   disk_fault_blames A (MakeTable pieces) bytes old new r h = absurd h
   disk_fault_blames A TableCheck bytes old new r h = absurd h
@@ -168,19 +169,19 @@ module _ {D : Type 0} (tells : Bool) (reads : D → List ℕ) (images : D → Li
 
   -- what the status of a refused command shows
   pub command_blames : (command : Command) (source rest : Option (List ℕ)) (before after : ℕ) (old new : D) (r : Refusal)
-      → IsCommandRefusal tells reads images images_since moment faults command source rest before after old new r
-      → Blames (Rose before after) (Rose (faults old) (faults new)) (status_of r)
-  command_blames command source rest before after old new r (inl cut) = cut_blames (Rose (faults old) (faults new)) command source rest before after r cut
+      → IsCommandRefusal g command source rest before after old new r
+      → Blames (Rose before after) (Rose (g.faults old) (g.faults new)) (status_of r)
+  command_blames command source rest before after old new r (inl cut) = cut_blames (Rose (g.faults old) (g.faults new)) command source rest before after r cut
   command_blames command source rest before after old new r (inr (inl wrong)) =
-      fault_blames (Rose before after) (Rose (faults old) (faults new)) command wrong.input r wrong.fault
+      fault_blames (Rose before after) (Rose (g.faults old) (g.faults new)) command wrong.input r wrong.fault
   command_blames command source rest before after old new r (inr (inr disk)) =
       disk_fault_blames (Rose before after) command disk.input old new r disk.fault
 
   -- bytes that are refused, of a source that was read to its end
   pub bytes_refuse : (command : Command) (source rest : Option (List ℕ)) (before after : ℕ) (bytes : List ℕ) (old new : D) (r : Refusal)
       → IsInput command source bytes → (ReadsSource command → IsAtEnd rest) → after ≡ before
-      → RefusesBytes tells reads images images_since moment faults command bytes old new r
-      → IsCommandRefusal tells reads images images_since moment faults command source rest before after old new r
+      → RefusesBytes g command bytes old new r
+      → IsCommandRefusal g command source rest before after old new r
   bytes_refuse command source rest before after bytes old new r is_input end counted (inl (inl memory)) = inl (inl memory)
   bytes_refuse command source rest before after bytes old new r is_input end counted (inl (inr fault)) =
       inr (inl (record { input = bytes; is_input = is_input; fault = fault; end = end (fault_reads command bytes r fault); counted = counted }))
@@ -189,9 +190,9 @@ module _ {D : Type 0} (tells : Bool) (reads : D → List ℕ) (images : D → Li
 
   -- a look that gives no certificate
   pub uncertified : (X : Type 0) (root : ℕ) (old new : D) (fault : LookRefusal) (r : Refusal) → r ≡ of_look fault
-      → (◌≡◌ {A = Result X LookRefusal} (Err fault) (Err (look.Journal journal.DiskFault)) → Rose (faults old) (faults new))
-      → (IsHonest tells → ExplainsNoCertificate (reads old) root fault)
-      → RefusesBytes tells reads images images_since moment faults (Certify root) [] old new r
+      → (◌≡◌ {A = Result X LookRefusal} (Err fault) (Err (look.Journal journal.DiskFault)) → Rose (g.faults old) (g.faults new))
+      → (IsHonest g.TELLS → ExplainsNoCertificate (g.reads old) root fault)
+      → RefusesBytes g (Certify root) [] old new r
   uncertified X root old new fault r is cause explained =
       inr (record { fault = fault; is = is; disk = (λ e. cause (ap (λ (q : LookRefusal). Err q) e)); explained = explained })
 
@@ -199,20 +200,20 @@ module _ {D : Type 0} (tells : Bool) (reads : D → List ℕ) (images : D → Li
 
   pub counts_answer : {X : Type 0} (seed count : ℕ) (positions seen : List Board) (old new : D) (answer : Result X Refusal) (text : X → List ℕ) (settled : X → Bool)
       → positions ≡ openings_from seed count → seen ≡ positions
-      → (IsHonest tells → IfOk answer (λ x. Resumes reads images images_since moment faults (λ roots. summary_line (forest_roots roots)) GENERATE_PIECES GENERATE_DEPTH count seen old new (text x) (settled x)))
+      → (IsHonest g.TELLS → IfOk answer (λ x. Resumes g (λ roots. summary_line (forest_roots roots)) GENERATE_PIECES GENERATE_DEPTH count seen old new (text x) (settled x)))
       → IfOk answer (λ x. CountsRoots seen (text x))
-      → IfOk answer (λ x. AnswersBytes tells reads images images_since moment faults (Generate seed count) [] old new (text x) (settled x))
+      → IfOk answer (λ x. AnswersBytes g (Generate seed count) [] old new (text x) (settled x))
   counts_answer seed count positions seen old new (Ok x) text settled is same resumes counts =
       let all : seen ≡ openings_from seed count = same ∙ is in
       record {
         answers = subst (λ (ps : List Board). CountsRoots ps (text x)) all counts;
-        shows = λ honest. subst (λ (ps : List Board). Resumes reads images images_since moment faults (λ roots. summary_line (forest_roots roots)) GENERATE_PIECES GENERATE_DEPTH count ps old new (text x) (settled x)) all (resumes honest);
+        shows = λ honest. subst (λ (ps : List Board). Resumes g (λ roots. summary_line (forest_roots roots)) GENERATE_PIECES GENERATE_DEPTH count ps old new (text x) (settled x)) all (resumes honest);
       }
   counts_answer seed count positions seen old new (Err e) text settled is same resumes counts = tt
 
   pub counts_refuse : {X : Type 0} (seed count : ℕ) (positions seen : List Board) (old new : D) (answer : Result X Refusal) → positions ≡ openings_from seed count → seen ≡ positions
-      → IfErr answer (IsRefusedRun tells reads images images_since moment faults GENERATE_PIECES seen old new)
-      → IfErr answer (RefusesBytes tells reads images images_since moment faults (Generate seed count) [] old new)
+      → IfErr answer (IsRefusedRun g GENERATE_PIECES seen old new)
+      → IfErr answer (RefusesBytes g (Generate seed count) [] old new)
   counts_refuse seed count positions seen old new (Ok x) is same h = tt
   counts_refuse seed count positions seen old new (Err r) is same h =
-      inr (subst (λ (ps : List Board). IsRefusedRun tells reads images images_since moment faults GENERATE_PIECES ps old new r) (same ∙ is) h)
+      inr (subst (λ (ps : List Board). IsRefusedRun g GENERATE_PIECES ps old new r) (same ∙ is) h)

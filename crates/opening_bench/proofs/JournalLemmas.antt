@@ -2,6 +2,7 @@
 use Rattle.std.proofs.Common.{◌≡◌, ℕ, ◌<◌, ◌^◌, Bool, true, List, length, refl, sym, ◌∙◌, ap, subst, arith, lit<}
 use Rattle.std.proofs.lemmas.Bool.{false≢true}
 use Rattle.std.specs.Prelude.{IfErr, Result, Ok, Err}
+use Rattle.bench_disk.specs.declared.disk.Disk.{Ghosts}
 use Rattle.bench_edges.specs.declared.words.Command.TheVariants.{Solve}
 use Rattle.bench_edges.specs.declared.words.Options.{Options}
 use Rattle.draughts_board.specs.Board.{Board}
@@ -35,26 +36,26 @@ silent_unrefused refusal.Disk silent = ((λ e. absurd cc), (λ e. absurd cc))
 silent_unrefused refusal.Memory silent = ((λ e. absurd cc), (λ e. absurd cc))
 silent_unrefused r silent = absurd (false≢true silent)
 
-module _ {D : Type 0} (tells : Bool) (reads : D → List ℕ) (images : D → List ℕ → Type 0) (images_since : D → ℕ → List ℕ → Type 0) (moment faults : D → ℕ) where
+module _ {D : Type 0} (g : Ghosts D) where
   moved : (pieces : ℕ) (seen positions : List Board) (old new : D) (r : Refusal) → seen ≡ positions
-      → IsRefusedRun tells reads images images_since moment faults pieces seen old new r → IsRefusedRun tells reads images images_since moment faults pieces positions old new r
-  moved pieces seen positions old new r same h = subst (λ ps. IsRefusedRun tells reads images images_since moment faults pieces ps old new r) same h
+      → IsRefusedRun g pieces seen old new r → IsRefusedRun g pieces positions old new r
+  moved pieces seen positions old new r same h = subst (λ ps. IsRefusedRun g pieces ps old new r) same h
 
   -- a journal that has room is not refused
-  pub room_silent : (pieces : ℕ) (positions : List Board) (old new : D) (r : Refusal) (fault : RunRefusal) → r ≡ of_run fault → HasRoom tells reads pieces positions old
-      → IsCaused pieces positions (reads old) fault → says_nothing_of_bytes r ≡ true
+  pub room_silent : (pieces : ℕ) (positions : List Board) (old new : D) (r : Refusal) (fault : RunRefusal) → r ≡ of_run fault → HasRoom g pieces positions old
+      → IsCaused pieces positions (g.reads old) fault → says_nothing_of_bytes r ≡ true
   room_silent pieces positions old new r run.Disk is room caused = ap says_nothing_of_bytes is
   room_silent pieces positions old new r (run.Journal flaw) is room caused = absurd (caused.1 room.records room.read)
   room_silent pieces positions old new r run.TooManyRoots is room caused =
-      let same = files_read_as_one_list pieces (reads old) caused.0 room.records caused.1.0 room.read in
+      let same = files_read_as_one_list pieces (g.reads old) caused.0 room.records caused.1.0 room.read in
       let many = subst (λ (rs : List BenchRecord). 65536 < length (with_roots (begun rs) positions)) same caused.1.1 in
       let few = room.room in
       absurd (omega (arith, many, few))
   room_silent pieces positions old new r run.Memory is room caused = ap says_nothing_of_bytes is
 
   pub run_accepts : (options : Options) (text : List ℕ) (positions seen : List Board) (old new : D) (r : Refusal) → AreRootsIn options.plies text positions → seen ≡ positions
-      → IsRefusedRun tells reads images images_since moment faults options.pieces seen old new r
-      → AcceptsBytes tells reads (Solve options) text old r
+      → IsRefusedRun g options.pieces seen old new r
+      → AcceptsBytes g (Solve options) text old r
   run_accepts options text positions seen old new r roots same h good room =
       let all = roots_of_openings roots.openings in
       let k = moved options.pieces seen all old new r (same ∙ roots.all) h in
@@ -63,12 +64,12 @@ module _ {D : Type 0} (tells : Bool) (reads : D → List ℕ) (images : D → Li
 
   -- the same of an answer, if it is a refusal
   pub run_all_accepts : {X : Type 0} (options : Options) (text : List ℕ) (positions seen : List Board) (old new : D) (r : Result X Refusal) → AreRootsIn options.plies text positions → seen ≡ positions
-      → IfErr r (IsRefusedRun tells reads images images_since moment faults options.pieces seen old new)
-      → IfErr r (AcceptsBytes tells reads (Solve options) text old)
+      → IfErr r (IsRefusedRun g options.pieces seen old new)
+      → IfErr r (AcceptsBytes g (Solve options) text old)
   run_all_accepts options text positions seen old new (Ok x) roots same h = tt
   run_all_accepts options text positions seen old new (Err r) roots same h = run_accepts options text positions seen old new r roots same h
 
 -- want of memory before the disk is used
-pub no_memory : {D : Type 0} (tells : Bool) (reads : D → List ℕ) (images : D → List ℕ → Type 0) (images_since : D → ℕ → List ℕ → Type 0) (moment faults : D → ℕ) (pieces : ℕ) (positions : List Board) (disk : D)
-    → IsRefusedRun tells reads images images_since moment faults pieces positions disk disk refusal.Memory
-no_memory tells reads images images_since moment faults pieces positions disk = record { fault = run.Memory; is = refl; disk = λ e. absurd cc; caused = λ honest. tt }
+pub no_memory : {D : Type 0} (g : Ghosts D) (pieces : ℕ) (positions : List Board) (disk : D)
+    → IsRefusedRun g pieces positions disk disk refusal.Memory
+no_memory g pieces positions disk = record { fault = run.Memory; is = refl; disk = λ e. absurd cc; caused = λ honest. tt }

@@ -3,6 +3,7 @@ use Rattle.std.proofs.Common.{◌≡◌, ℕ, inl, inr, Bool, true, false, List,
 use Rattle.std.specs.Prelude.{IfErr, IsSome, Result, Ok, Err}
 use Rattle.std.specs.Bool.{OnFalse}
 use Rattle.std.proofs.lemmas.Bool.{false≢true}
+use Rattle.bench_disk.specs.declared.disk.Disk.{Ghosts}
 use Rattle.shared_words.proofs.Exactness.{on_false}
 use Rattle.bench_edges.specs.declared.status.Status.{Status}
 use Rattle.bench_edges.specs.declared.status.Status.TheVariants.{Disk, Memory}
@@ -67,8 +68,8 @@ cut_silent command source rest before after r none (inl memory) = ap says_nothin
 cut_silent command source rest before after r none (inr (inl read)) = absurd (false≢true (subst (λ (o : Option ℕ). IsSome o) none read.1.0))
 cut_silent command source rest before after r none (inr (inr long)) = absurd (some_none long.1.limit (source_limit command) none long.1.is_limit)
 
-module _ {D : Type 0} (tells : Bool) (reads : D → List ℕ) where
-  asked_reads_none : (command : Command) (disk : D) → HasAsked tells reads command disk → source_limit command ≡ None
+module _ {D : Type 0} (g : Ghosts D) where
+  asked_reads_none : (command : Command) (disk : D) → HasAsked g command disk → source_limit command ≡ None
   asked_reads_none Report disk asked = refl
   asked_reads_none (Certify root) disk asked = refl
   asked_reads_none (MakeTable pieces) disk asked = refl
@@ -76,7 +77,7 @@ module _ {D : Type 0} (tells : Bool) (reads : D → List ℕ) where
   asked_reads_none command disk asked = absurd asked
 
   pub cut_accepts : (command : Command) (source rest : Option (List ℕ)) (before after : ℕ) (disk : D) (r : Refusal) → IsCutShort command source rest before after r
-      → HasAsked tells reads command disk → says_nothing_of_bytes r ≡ true
+      → HasAsked g command disk → says_nothing_of_bytes r ≡ true
   cut_accepts command source rest before after disk r cut asked = cut_silent command source rest before after r (asked_reads_none command disk asked) cut
 
 look_reads_none : (command : Command) (file : List ℕ) (cause : LookRefusal) → HasLookCause command file cause → source_limit command ≡ None
@@ -116,24 +117,24 @@ module _ (before after : Option (List ℕ)) (faults_before faults_after : ℕ) w
 
 -- ---- a command that searches
 
-module _ {D : Type 0} (tells : Bool) (reads : D → List ℕ) (images : D → List ℕ → Type 0) (images_since : D → ℕ → List ℕ → Type 0) (moment faults : D → ℕ) where
-  generated_accepts : (seed count : ℕ) (bytes : List ℕ) (old new : D) (r : Refusal) → HasAsked tells reads (Generate seed count) old
-      → RefusesBytes tells reads images images_since moment faults (Generate seed count) bytes old new r → says_nothing_of_bytes r ≡ true
+module _ {D : Type 0} (g : Ghosts D) where
+  generated_accepts : (seed count : ℕ) (bytes : List ℕ) (old new : D) (r : Refusal) → HasAsked g (Generate seed count) old
+      → RefusesBytes g (Generate seed count) bytes old new r → says_nothing_of_bytes r ≡ true
   generated_accepts seed count bytes old new r room (inl (inl memory)) = ap says_nothing_of_bytes memory
   generated_accepts seed count bytes old new r room (inl (inr fault)) = absurd fault
   generated_accepts seed count bytes old new r room (inr run) =
-      room_silent tells reads images images_since moment faults GENERATE_PIECES (openings_from seed count) old new r run.fault run.is room (run.caused room.honest)
+      room_silent g GENERATE_PIECES (openings_from seed count) old new r run.fault run.is room (run.caused room.honest)
 
   -- it is not refused for what a disk reads as that has what it asks ..
   pub search_accepts : {X : Type 0} (command : Command) (bytes : List ℕ) (old new : D) (answer : Result X Refusal) → Searches command
-      → IfErr answer (RefusesBytes tells reads images images_since moment faults command bytes old new) → AcceptsAsked tells reads command old answer
+      → IfErr answer (RefusesBytes g command bytes old new) → AcceptsAsked g command old answer
   search_accepts command bytes old new (Ok x) searches refused = λ asked. tt
   search_accepts (Generate seed count) bytes old new (Err r) searches refused = λ asked. generated_accepts seed count bytes old new r asked refused
   search_accepts (Solve options) bytes old new (Err r) searches refused = λ asked. absurd asked
   search_accepts command bytes old new (Err r) searches refused = absurd searches
 
 -- .. and no look at a disk has a cause to refuse it
-pub search_answers : {D X : Type 0} (tells : Bool) (reads : D → List ℕ) (command : Command) (disk : D) (answer : Result X Refusal) → Searches command → AnswersLook tells reads command disk answer
-search_answers tells reads Report disk answer searches = absurd searches
-search_answers tells reads (Certify root) disk answer searches = absurd searches
-search_answers tells reads command disk answer searches = λ honest cause stands. absurd stands
+pub search_answers : {D X : Type 0} (g : Ghosts D) (command : Command) (disk : D) (answer : Result X Refusal) → Searches command → AnswersLook g command disk answer
+search_answers g Report disk answer searches = absurd searches
+search_answers g (Certify root) disk answer searches = absurd searches
+search_answers g command disk answer searches = λ honest cause stands. absurd stands

@@ -6,6 +6,7 @@ use Rattle.std.specs.List.{list_any, range_with_len, AllByRecursion as Each}
 use Rattle.std.proofs.lemmas.Bool.{true≢false, false≢true, cases_Bool}
 use Rattle.std.proofs.lemmas.List.{length-take, length-append, length-map}
 use Rattle.std.proofs.lemmas.List.Sums.{count_by-le-length}
+use Rattle.bench_disk.specs.declared.disk.Disk.{Ghosts}
 use Rattle.draughts_board.specs.Board.{Board, same_board}
 use Rattle.draughts_board.specs.Draughts.{draughts}
 use Rattle.draughts_board.specs.Same.{same_board-Decides}
@@ -169,8 +170,8 @@ room_for count ps short most shown =
     let all : length begins.added ≡ length (with_roots [] ps) = ap length begins.all in
     omega (arith, all, few, short, most)
 
-module _ {D : Type 0} (tells : Bool) (reads : D → List ℕ) (seed count : ℕ) (old : D) (most : count ≤ 2000) (honest : IsHonest tells) (read : ReadsRecords GENERATE_PIECES (reads old) []) where
-  pub new_has_room : HasRoom tells reads GENERATE_PIECES (openings_from seed count) old
+module _ {D : Type 0} (g : Ghosts D) (seed count : ℕ) (old : D) (most : count ≤ 2000) (honest : IsHonest g.TELLS) (read : ReadsRecords GENERATE_PIECES (g.reads old) []) where
+  pub new_has_room : HasRoom g GENERATE_PIECES (openings_from seed count) old
   new_has_room = record {
     honest = honest;
     records = [];
@@ -178,7 +179,7 @@ module _ {D : Type 0} (tells : Bool) (reads : D → List ℕ) (seed count : ℕ)
     room = room_for count (openings_from seed count) (short_front count (first_places (walk seed 4176))) most (opening_shown seed count);
   }
 
-  pub new_has_ample_budget : HasAmpleBudget tells reads GENERATE_PIECES GENERATE_DEPTH count (openings_from seed count) old
+  pub new_has_ample_budget : HasAmpleBudget g GENERATE_PIECES GENERATE_DEPTH count (openings_from seed count) old
   new_has_ample_budget = record {
     honest = honest;
     records = [];

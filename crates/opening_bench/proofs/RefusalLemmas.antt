@@ -1,6 +1,7 @@
 -- What is answered, and what is not refused.
 use Rattle.std.proofs.Common.{◌≡◌, ℕ, ◌≤◌, ◌⊎◌, inl, inr, Bool, List, Option, None, Some, refl, sym, subst, length}
 use Rattle.std.specs.Prelude.{IfSome, IsSome}
+use Rattle.bench_disk.specs.declared.disk.Disk.{Ghosts}
 use Rattle.bench_edges.specs.declared.status.Status.{Status}
 use Rattle.bench_edges.specs.declared.words.Command.{Command}
 use Rattle.bench_edges.specs.declared.words.Command.TheVariants.{Solve, Report, Certify, Verify, MakeTable, TableCheck, Generate}
@@ -29,25 +30,25 @@ read_or_none (MakeTable pieces) = inr (λ told good. good)
 read_or_none TableCheck = inl refl
 read_or_none (Generate seed count) = inr (λ told good. good)
 
-module _ {D : Type 0} (tells : Bool) (reads : D → List ℕ) where
-  accept_by : (command : Command) (source : Option (List ℕ)) (bytes : List ℕ) (old : D) (r : Refusal) → IsInput command source bytes → AcceptsBytes tells reads command bytes old r
-      → (IsSome (source_limit command) ⊎ ((told : List ℕ) → IsGoodFor command told → ⊥)) → Accepts tells reads command source old (status_of r)
+module _ {D : Type 0} (g : Ghosts D) where
+  accept_by : (command : Command) (source : Option (List ℕ)) (bytes : List ℕ) (old : D) (r : Refusal) → IsInput command source bytes → AcceptsBytes g command bytes old r
+      → (IsSome (source_limit command) ⊎ ((told : List ℕ) → IsGoodFor command told → ⊥)) → Accepts g command source old (status_of r)
   accept_by command None bytes old r input accepts kind = tt
   accept_by command (Some told) bytes old r input accepts (inl reads_it) = λ good fits room.
       let same : told ≡ bytes = sym (input.same reads_it) in
-      accepts (subst (IsGoodFor command) same good) (subst (λ b. HasRoomFor tells reads command b old) same room)
+      accepts (subst (IsGoodFor command) same good) (subst (λ b. HasRoomFor g command b old) same room)
   accept_by command (Some told) bytes old r input accepts (inr none) = λ good fits room. absurd (none told good)
 
-  pub bytes_accept : (command : Command) (source : Option (List ℕ)) (bytes : List ℕ) (old : D) (r : Refusal) → IsInput command source bytes → AcceptsBytes tells reads command bytes old r
-      → Accepts tells reads command source old (status_of r)
+  pub bytes_accept : (command : Command) (source : Option (List ℕ)) (bytes : List ℕ) (old : D) (r : Refusal) → IsInput command source bytes → AcceptsBytes g command bytes old r
+      → Accepts g command source old (status_of r)
   bytes_accept command source bytes old r input accepts = accept_by command source bytes old r input accepts (read_or_none command)
 
-pub certificates_accepted : {D : Type 0} (tells : Bool) (reads : D → List ℕ) (source : Option (List ℕ)) (old : D) (s : Status) → Accepts tells reads Verify source old s
+pub certificates_accepted : {D : Type 0} (g : Ghosts D) (source : Option (List ℕ)) (old : D) (s : Status) → Accepts g Verify source old s
     → IfSome source (λ told. length told ≤ CERTIFICATE_LIMIT → (c : Certificate) → IsGood c → ReadsAs told c → IsUnrefused s)
-certificates_accepted tells reads None old s h = tt
-certificates_accepted tells reads (Some told) old s h = λ fits c good spelled. h (c, (good, spelled)) fits tt
+certificates_accepted g None old s h = tt
+certificates_accepted g (Some told) old s h = λ fits c good spelled. h (c, (good, spelled)) fits tt
 
-pub tables_accepted : {D : Type 0} (tells : Bool) (reads : D → List ℕ) (source : Option (List ℕ)) (old : D) (s : Status) → Accepts tells reads TableCheck source old s
+pub tables_accepted : {D : Type 0} (g : Ghosts D) (source : Option (List ℕ)) (old : D) (s : Status) → Accepts g TableCheck source old s
     → IfSome source (λ told. (k : ℕ) (numbers : List ℕ) → IsTable k numbers → told ≡ bytes_of k numbers → IsUnrefused s)
-tables_accepted tells reads None old s h = tt
-tables_accepted tells reads (Some told) old s h = λ k numbers table spelled. h (k, (numbers, (table, spelled))) (table_is_short k numbers told table spelled) tt
+tables_accepted g None old s h = tt
+tables_accepted g (Some told) old s h = λ k numbers table spelled. h (k, (numbers, (table, spelled))) (table_is_short k numbers told table spelled) tt

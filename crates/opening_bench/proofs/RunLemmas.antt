@@ -2,6 +2,7 @@
 use Rattle.std.proofs.Common.{◌≡◌, ℕ, ◌<◌, ◌≤◌, inl, inr, Bool, true, List, [], Option, None, Some, refl, sym, ap, subst, length, arith}
 use Rattle.std.specs.Prelude.{IfErr, IfOk, IfSome, Result, Ok, Err}
 use Rattle.std.specs.Io.KnownBytes.{IsAtEnd}
+use Rattle.bench_disk.specs.declared.disk.Disk.{Ghosts}
 use Rattle.shared_words.specs.Counts.{Rose}
 use Rattle.bench_edges.specs.declared.status.Status.{Status}
 use Rattle.bench_edges.specs.declared.status.Status.TheVariants.{Done, Unsolved, Write}
@@ -53,47 +54,47 @@ refusal_refuses refusal.Memory = tt
 refusal_refuses refusal.Read = tt
 refusal_refuses r = tt
 
-accept_unrefused : {D : Type 0} (tells : Bool) (reads : D → List ℕ) (command : Command) (source : Option (List ℕ)) (disk : D) (status : Status) → IsUnrefused status → Accepts tells reads command source disk status
-accept_unrefused tells reads command None disk status h = tt
-accept_unrefused tells reads command (Some told) disk status h = λ good fits room. h
+accept_unrefused : {D : Type 0} (g : Ghosts D) (command : Command) (source : Option (List ℕ)) (disk : D) (status : Status) → IsUnrefused status → Accepts g command source disk status
+accept_unrefused g command None disk status h = tt
+accept_unrefused g command (Some told) disk status h = λ good fits room. h
 
 -- ---- the answer of `generate`, whatever bytes there are, since none are read
 
-module _ {D : Type 0} (tells : Bool) (reads : D → List ℕ) (images : D → List ℕ → Type 0) (images_since : D → ℕ → List ℕ → Type 0) (moment faults : D → ℕ) (seed count : ℕ) (bytes : List ℕ) (old new : D) where
-  generated_answers : (answer : Result Output Refusal) → IfOk answer (λ output. AnswersBytes tells reads images images_since moment faults (Generate seed count) [] old new output.text.items output.is_settled)
-      → IfOk answer (λ output. AnswersBytes tells reads images images_since moment faults (Generate seed count) bytes old new output.text.items output.is_settled)
+module _ {D : Type 0} (g : Ghosts D) (seed count : ℕ) (bytes : List ℕ) (old new : D) where
+  generated_answers : (answer : Result Output Refusal) → IfOk answer (λ output. AnswersBytes g (Generate seed count) [] old new output.text.items output.is_settled)
+      → IfOk answer (λ output. AnswersBytes g (Generate seed count) bytes old new output.text.items output.is_settled)
   generated_answers (Ok output) h = record { answers = h.answers; shows = h.shows }
   generated_answers (Err r) h = tt
 
-  generated_accepts : (answer : Result Output Refusal) → IfErr answer (AcceptsBytes tells reads (Generate seed count) bytes old)
+  generated_accepts : (answer : Result Output Refusal) → IfErr answer (AcceptsBytes g (Generate seed count) bytes old)
   generated_accepts (Ok output) = tt
   generated_accepts (Err r) = λ good room. absurd good
 
-module _ {D : Type 0} {tells : Bool} {reads : D → List ℕ} {images : D → List ℕ → Type 0} {images_since : D → ℕ → List ℕ → Type 0} {moment faults : D → ℕ}
+module _ {D : Type 0} {g : Ghosts D}
     {command : Command} {bytes : List ℕ} {old new : D} {answer : Result Output Refusal} where
-  pub generated_answer : {seed count : ℕ} → command ≡ Generate seed count → LeavesDisk tells reads images images_since moment faults (Generate seed count) old new
-      → IfOk answer (λ output. AnswersBytes tells reads images images_since moment faults (Generate seed count) [] old new output.text.items output.is_settled)
+  pub generated_answer : {seed count : ℕ} → command ≡ Generate seed count → LeavesDisk g (Generate seed count) old new
+      → IfOk answer (λ output. AnswersBytes g (Generate seed count) [] old new output.text.items output.is_settled)
       → IfOk answer (λ output. SaysTrue output.text.items)
-      → IfErr answer (RefusesBytes tells reads images images_since moment faults (Generate seed count) [] old new)
+      → IfErr answer (RefusesBytes g (Generate seed count) [] old new)
       → IfErr answer (λ r. ComesBeforeDisk r → new ≡ old)
-      → IsAnswer tells reads images images_since moment faults command bytes old new answer
+      → IsAnswer g command bytes old new answer
   generated_answer {seed = seed} {count = count} is leaves answers says refused unused =
-      subst (λ (c : Command). IsAnswer tells reads images images_since moment faults c bytes old new answer) (sym is) (record {
+      subst (λ (c : Command). IsAnswer g c bytes old new answer) (sym is) (record {
         leaves = leaves;
-        answers = generated_answers tells reads images images_since moment faults seed count bytes old new answer answers;
+        answers = generated_answers g seed count bytes old new answer answers;
         says = says;
         refused = refused;
-        accepted = generated_accepts tells reads images images_since moment faults seed count bytes old new answer;
-        asked = search_accepts tells reads images images_since moment faults (Generate seed count) [] old new answer tt refused;
-        looked = search_answers tells reads (Generate seed count) old answer tt;
+        accepted = generated_accepts g seed count bytes old new answer;
+        asked = search_accepts g (Generate seed count) [] old new answer tt refused;
+        looked = search_answers g (Generate seed count) old answer tt;
         unused = unused;
       })
 
 -- ---- a run that is refused
 
-module _ {D : Type 0} (tells : Bool) (reads : D → List ℕ) where
+module _ {D : Type 0} (g : Ghosts D) where
   -- a source that is not too long, and of which the reading is cut short, is not refused for what it says
-  cut_unrefused : (command : Command) (source rest : Option (List ℕ)) (before after : ℕ) (disk : D) (r : Refusal) → IsCutShort command source rest before after r → Accepts tells reads command source disk (status_of r)
+  cut_unrefused : (command : Command) (source rest : Option (List ℕ)) (before after : ℕ) (disk : D) (r : Refusal) → IsCutShort command source rest before after r → Accepts g command source disk (status_of r)
   cut_unrefused command None rest before after disk r cut = tt
   cut_unrefused command (Some told) rest before after disk r (inl memory) = λ good fits room. silent_unrefused r (ap says_nothing_of_bytes memory)
   cut_unrefused command (Some told) rest before after disk r (inr (inl read)) = λ good fits room. subst (λ q. IsUnrefused (status_of q)) (sym read.0) ((λ e. absurd cc), (λ e. absurd cc))
@@ -102,8 +103,8 @@ module _ {D : Type 0} (tells : Bool) (reads : D → List ℕ) where
       let more : long.1.limit < length told = long.1.long in
       absurd (omega (arith, most, more))
 
-module _ {D : Type 0} (tells : Bool) (reads : D → List ℕ) (images : D → List ℕ → Type 0) (images_since : D → ℕ → List ℕ → Type 0) (moment faults : D → ℕ) where
-  left_alone : (command : Command) (disk : D) → LeavesDisk tells reads images images_since moment faults command disk disk
+module _ {D : Type 0} (g : Ghosts D) where
+  left_alone : (command : Command) (disk : D) → LeavesDisk g command disk disk
   left_alone (Solve options) disk = inl refl
   left_alone Report disk = λ honest. record { same = refl; none_added = λ image there. there; none_lost = λ image there. there }
   left_alone (Certify root) disk = λ honest. record { same = refl; none_added = λ image there. there; none_lost = λ image there. there }
@@ -111,26 +112,26 @@ module _ {D : Type 0} (tells : Bool) (reads : D → List ℕ) (images : D → Li
   left_alone command disk = refl
 
 -- a refusal behind the source leaves none of it
-refused_end : {D : Type 0} (tells : Bool) (reads : D → List ℕ) (images : D → List ℕ → Type 0) (images_since : D → ℕ → List ℕ → Type 0) (moment faults : D → ℕ)
+refused_end : {D : Type 0} (g : Ghosts D)
     (command : Command) (source rest : Option (List ℕ)) (before after : ℕ) (old new : D) (r : Refusal)
-    → IsCommandRefusal tells reads images images_since moment faults command source rest before after old new r → ComesToDisk (status_of r) → ReadsSource command → IsAtEnd rest
-refused_end tells reads images images_since moment faults command source rest before after old new r (inl (inl memory)) comes = absurd (subst (λ q. ComesToDisk (status_of q)) memory comes)
-refused_end tells reads images images_since moment faults command source rest before after old new r (inl (inr (inl read))) comes = absurd (subst (λ q. ComesToDisk (status_of q)) read.0 comes)
-refused_end tells reads images images_since moment faults command source rest before after old new r (inl (inr (inr long))) comes = absurd (subst (λ q. ComesToDisk (status_of q)) long.0 comes)
-refused_end tells reads images images_since moment faults command source rest before after old new r (inr (inl wrong)) comes = λ reads_it. wrong.end
-refused_end tells reads images images_since moment faults command source rest before after old new r (inr (inr disk)) comes = disk.end
+    → IsCommandRefusal g command source rest before after old new r → ComesToDisk (status_of r) → ReadsSource command → IsAtEnd rest
+refused_end g command source rest before after old new r (inl (inl memory)) comes = absurd (subst (λ q. ComesToDisk (status_of q)) memory comes)
+refused_end g command source rest before after old new r (inl (inr (inl read))) comes = absurd (subst (λ q. ComesToDisk (status_of q)) read.0 comes)
+refused_end g command source rest before after old new r (inl (inr (inr long))) comes = absurd (subst (λ q. ComesToDisk (status_of q)) long.0 comes)
+refused_end g command source rest before after old new r (inr (inl wrong)) comes = λ reads_it. wrong.end
+refused_end g command source rest before after old new r (inr (inr disk)) comes = disk.end
 
-module _ {D : Type 0} {tells : Bool} {reads : D → List ℕ} {images : D → List ℕ → Type 0} {images_since : D → ℕ → List ℕ → Type 0} {moment faults : D → ℕ}
+module _ {D : Type 0} {g : Ghosts D}
     {command : Command} {source rest : Option (List ℕ)} {read_before read_after : ℕ} {before after : Option (List ℕ)} {written_before written_after : ℕ} {old new : D} {status : Status} where
-  refused_run : (r : Refusal) → LeavesDisk tells reads images images_since moment faults command old new
-      → IsCommandRefusal tells reads images images_since moment faults command source rest read_before read_after old new r → Accepts tells reads command source old (status_of r)
-      → (HasAsked tells reads command old → says_nothing_of_bytes r ≡ true) → AnswersLook {T = Output} tells reads command old (Err r) → (ComesBeforeDisk r → new ≡ old) → TakesAtMost command source rest
+  refused_run : (r : Refusal) → LeavesDisk g command old new
+      → IsCommandRefusal g command source rest read_before read_after old new r → Accepts g command source old (status_of r)
+      → (HasAsked g command old → says_nothing_of_bytes r ≡ true) → AnswersLook {T = Output} g command old (Err r) → (ComesBeforeDisk r → new ≡ old) → TakesAtMost command source rest
       → status ≡ status_of r → TakesLine r before after written_before written_after → IsLineOf r
-      → RunsCommand tells reads images images_since moment faults command source rest read_before read_after before after written_before written_after old new status
+      → RunsCommand g command source rest read_before read_after before after written_before written_after old new status
   refused_run r leaves cause accepted asked looked unused front is line said =
       let refuses : Refuses status = subst Refuses (sym is) (refusal_refuses r) in
-      let blames : Blames (Rose read_before read_after) (Rose (faults old) (faults new)) status = subst (Blames (Rose read_before read_after) (Rose (faults old) (faults new))) (sym is)
-      (command_blames tells reads images images_since moment faults command source rest read_before read_after old new r cause) in
+      let blames : Blames (Rose read_before read_after) (Rose (g.faults old) (g.faults new)) status = subst (Blames (Rose read_before read_after) (Rose (g.faults old) (g.faults new))) (sym is)
+      (command_blames g command source rest read_before read_after old new r cause) in
       record {
         values = line_values r before after written_before written_after said line;
         openings = λ finished. absurd (not_both status (finished_reports status finished) refuses);
@@ -138,37 +139,37 @@ module _ {D : Type 0} {tells : Bool} {reads : D → List ℕ} {images : D → Li
         refused = λ refuses. record { refusal = r; cause = cause; status_is = sym is; line = line; unused = unused };
         leaves = leaves;
         words = blames.0;
-        accepted = subst (Accepts tells reads command source old) (sym is) accepted;
+        accepted = subst (Accepts g command source old) (sym is) accepted;
         asked = λ has. subst IsUnrefused (sym is) (silent_unrefused r (asked has));
         looked = λ honest look stands. refused_for before after written_before written_after Output r (of_look look) status is line (looked honest look stands);
         read = blames.1.0;
         write = λ e. absurd (subst Refuses e refuses);
         fault = blames.1.1;
-        all_read = λ comes. refused_end tells reads images images_since moment faults command source rest read_before read_after old new r cause (subst ComesToDisk is comes);
+        all_read = λ comes. refused_end g command source rest read_before read_after old new r cause (subst ComesToDisk is comes);
         front = front;
       }
 
-module _ {D : Type 0} {tells : Bool} {reads : D → List ℕ} {images : D → List ℕ → Type 0} {images_since : D → ℕ → List ℕ → Type 0} {moment faults : D → ℕ}
+module _ {D : Type 0} {g : Ghosts D}
     {command : Command} {source rest : Option (List ℕ)} {read_before read_after : ℕ} {before after : Option (List ℕ)} {written_before written_after : ℕ} {disk : D} {status : Status} {r : Refusal} where
   -- .. since its source is cut short
   pub cut_run : IsCutShort command source rest read_before read_after r → TakesAtMost command source rest
       → status ≡ status_of r → TakesLine r before after written_before written_after → IsLineOf r
-      → RunsCommand tells reads images images_since moment faults command source rest read_before read_after before after written_before written_after disk disk status
+      → RunsCommand g command source rest read_before read_after before after written_before written_after disk disk status
   cut_run cut front is line said =
-      refused_run r (left_alone tells reads images images_since moment faults command disk) (inl cut) (cut_unrefused tells reads command source rest read_before read_after disk r cut)
-      (λ has. cut_accepts tells reads command source rest read_before read_after disk r cut has) (λ honest look stands. cut_answers command (reads disk) look source rest read_before read_after r _ cut stands)
+      refused_run r (left_alone g command disk) (inl cut) (cut_unrefused g command source rest read_before read_after disk r cut)
+      (λ has. cut_accepts g command source rest read_before read_after disk r cut has) (λ honest look stands. cut_answers command (g.reads disk) look source rest read_before read_after r _ cut stands)
       (λ unused. refl) front is line said
 
 -- ---- a run of which the source was read to its end, as `middle` was left of it, and to which the bytes were handed back
 
-module _ {D : Type 0} {tells : Bool} {reads : D → List ℕ} {images : D → List ℕ → Type 0} {images_since : D → ℕ → List ℕ → Type 0} {moment faults : D → ℕ}
+module _ {D : Type 0} {g : Ghosts D}
     {command : Command} {source middle rest : Option (List ℕ)} {read_before read_after : ℕ} {before after : Option (List ℕ)} {written_before written_after : ℕ} {old new : D} {status : Status} {bytes seen : List ℕ} where
   pub answered_run : {answer : Result Output Refusal} → seen ≡ bytes → IsInput command source bytes → (ReadsSource command → IsAtEnd middle) → TakesAtMost command source middle
-      → rest ≡ middle → read_after ≡ read_before → IsAnswer tells reads images images_since moment faults command seen old new answer
+      → rest ≡ middle → read_after ≡ read_before → IsAnswer g command seen old new answer
       → IfOk answer (λ output. TakesOutput status output.text.items output.is_settled before after)
       → IfErr answer (λ r. status ≡ status_of r) → IfErr answer (λ r. TakesLine r before after written_before written_after) → IfErr answer IsLineOf
       → (status ≡ Write → Rose written_before written_after)
-      → RunsCommand tells reads images images_since moment faults command source rest read_before read_after before after written_before written_after old new status
+      → RunsCommand g command source rest read_before read_after before after written_before written_after old new status
   answered_run {answer = Ok output} same input end front left counted a taken is line said write =
       let there : IsInput command source seen = subst (IsInput command source) (sym same) input in
       let reports : Reports status = reported output.text.items output.is_settled before after status taken in
@@ -180,7 +181,7 @@ module _ {D : Type 0} {tells : Bool} {reads : D → List ℕ} {images : D → Li
         refused = λ refuses. absurd (not_both status reports refuses);
         leaves = a.leaves;
         words = λ e. subst Reports e reports;
-        accepted = accept_unrefused tells reads command source old status unrefused;
+        accepted = accept_unrefused g command source old status unrefused;
         asked = λ has. unrefused;
         looked = λ honest look stands. absurd (no_error output (of_look look) (a.looked honest look stands));
         read = λ e. absurd (subst Reports e reports);
@@ -192,5 +193,5 @@ module _ {D : Type 0} {tells : Bool} {reads : D → List ℕ} {images : D → Li
   answered_run {answer = Err r} same input end front left counted a taken is line said write =
       let there : IsInput command source seen = subst (IsInput command source) (sym same) input in
       refused_run r a.leaves
-      (bytes_refuse tells reads images images_since moment faults command source rest read_before read_after seen old new r there (λ reads_it. subst IsAtEnd (sym left) (end reads_it)) counted a.refused)
-      (bytes_accept tells reads command source seen old r there a.accepted) a.asked a.looked a.unused (subst (TakesAtMost command source) (sym left) front) is line said
+      (bytes_refuse g command source rest read_before read_after seen old new r there (λ reads_it. subst IsAtEnd (sym left) (end reads_it)) counted a.refused)
+      (bytes_accept g command source seen old r there a.accepted) a.asked a.looked a.unused (subst (TakesAtMost command source) (sym left) front) is line said

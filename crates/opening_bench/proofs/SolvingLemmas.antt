@@ -2,6 +2,7 @@
 use Rattle.std.proofs.Common.{◌≡◌, ℕ, ◌+◌, ◌<◌, ◌≤◌, ◌^◌, Bool, List, Option, None, Some, refl, sym, ◌∙◌, subst, length, arith, lit<}
 use Rattle.std.specs.Prelude.{◌≢◌, Contains, IfOk, IfSome, Result, Ok, Err, true}
 use Rattle.std.proofs.lemmas.Bool.{true≢false}
+use Rattle.bench_disk.specs.declared.disk.Disk.{Ghosts}
 use Rattle.bench_edges.specs.Words.{Says}
 use Rattle.std.specs.Bool.{OnFalse}
 use Rattle.bench_edges.specs.declared.status.Status.{Status}
@@ -102,11 +103,11 @@ pub said_once : {E : Type 0} (words : List (List ℕ)) (command other : Command)
 said_once words command other each says = let e = each other says in cc
 
 -- a good source of openings, and a journal that has room for their roots, are not refused
-pub openings_accepted : {D : Type 0} (tells : Bool) (reads : D → List ℕ) (options : Options) (source : Option (List ℕ)) (old : D) (status : Status) → Accepts tells reads (Solve options) source old status
-    → IfSome source (λ told. length told ≤ GAMES_LIMIT → (all : List Opening) → OpeningsOf options.plies told all → HasRoom tells reads options.pieces (roots_of_openings all) old → IsUnrefused status)
-openings_accepted tells reads options None old status h = tt
-openings_accepted tells reads options (Some told) old status h = λ fits all read room.
-    h (all, read) fits (λ others are. subst (λ (os : List Opening). HasRoom tells reads options.pieces (roots_of_openings os) old) (one_list_of options.plies told all others read are) room)
+pub openings_accepted : {D : Type 0} (g : Ghosts D) (options : Options) (source : Option (List ℕ)) (old : D) (status : Status) → Accepts g (Solve options) source old status
+    → IfSome source (λ told. length told ≤ GAMES_LIMIT → (all : List Opening) → OpeningsOf options.plies told all → HasRoom g options.pieces (roots_of_openings all) old → IsUnrefused status)
+openings_accepted g options None old status h = tt
+openings_accepted g options (Some told) old status h = λ fits all read room.
+    h (all, read) fits (λ others are. subst (λ (os : List Opening). HasRoom g options.pieces (roots_of_openings os) old) (one_list_of options.plies told all others read are) room)
 
 -- ---- an ample budget
 
@@ -116,31 +117,31 @@ settled_solves text settled before after status all taken is =
     let output = subst (λ (s : Status). TakesOutput s text settled before after) is taken in
     true≢false (sym all ∙ output.0)
 
-module _ {D : Type 0} (tells : Bool) (reads : D → List ℕ) (images : D → List ℕ → Type 0) (images_since : D → ℕ → List ℕ → Type 0) (moment faults : D → ℕ) where
-  ample_settles : (text_of : Forest → List ℕ) (pieces depth budget : ℕ) (positions : List Board) (old new : D) (text : List ℕ) (settled : Bool) → HasAmpleBudget tells reads pieces depth budget positions old
-      → Resumes reads images images_since moment faults text_of pieces depth budget positions old new text settled → settled ≡ true
+module _ {D : Type 0} (g : Ghosts D) where
+  ample_settles : (text_of : Forest → List ℕ) (pieces depth budget : ℕ) (positions : List Board) (old new : D) (text : List ℕ) (settled : Bool) → HasAmpleBudget g pieces depth budget positions old
+      → Resumes g text_of pieces depth budget positions old new text settled → settled ≡ true
   ample_settles text_of pieces depth budget positions old new text settled ample resumed =
-      resumed.ample (subst (IsAmple pieces depth budget positions) (reads_once pieces (reads old) ample.records resumed.before ample.read resumed.read_then) ample.ample)
+      resumed.ample (subst (IsAmple pieces depth budget positions) (reads_once pieces (g.reads old) ample.records resumed.before ample.read resumed.read_then) ample.ample)
 
   -- a run for which the budget is ample leaves no root unsettled
   pub ample_solves : (options : Options) (source before after : Option (List ℕ)) (old new : D) (status : Status)
-      → (Reports status → Does tells reads images images_since moment faults (Solve options) source before after old new status)
+      → (Reports status → Does g (Solve options) source before after old new status)
       → IfSome source (λ told. (all : List Opening) → OpeningsOf options.plies told all
-      → HasAmpleBudget tells reads options.pieces options.depth options.budget (roots_of_openings all) old → status ≢ Unsolved)
+      → HasAmpleBudget g options.pieces options.depth options.budget (roots_of_openings all) old → status ≢ Unsolved)
   ample_solves options None before after old new status does = tt
   ample_solves options (Some told) before after old new status does = λ all read ample is.
       let done = does (subst Reports (sym is) tt) in
       let same : done.input ≡ told = done.is_input.same refl in
       let openings : done.shows.openings ≡ all = one_list_of options.plies told done.shows.openings all (subst (λ t. OpeningsOf options.plies t done.shows.openings) same done.shows.read) read in
-      let enough = subst (λ (os : List Opening). HasAmpleBudget tells reads options.pieces options.depth options.budget (roots_of_openings os) old) (sym openings) ample in
+      let enough = subst (λ (os : List Opening). HasAmpleBudget g options.pieces options.depth options.budget (roots_of_openings os) old) (sym openings) ample in
       settled_solves done.text done.settled before after status
       (ample_settles _ options.pieces options.depth options.budget (roots_of_openings done.shows.openings) old new done.text done.settled enough (done.shows.resumed ample.honest))
       done.taken is
 
   -- .. of `generate`
   pub ample_generates : (seed count : ℕ) (source before after : Option (List ℕ)) (old new : D) (status : Status)
-      → (Reports status → Does tells reads images images_since moment faults (Generate seed count) source before after old new status)
-      → HasAmpleBudget tells reads GENERATE_PIECES GENERATE_DEPTH count (openings_from seed count) old → status ≢ Unsolved
+      → (Reports status → Does g (Generate seed count) source before after old new status)
+      → HasAmpleBudget g GENERATE_PIECES GENERATE_DEPTH count (openings_from seed count) old → status ≢ Unsolved
   ample_generates seed count source before after old new status does ample is =
       let done = does (subst Reports (sym is) tt) in
       settled_solves done.text done.settled before after status

@@ -1,5 +1,6 @@
 -- What is not refused as bad input or as no journal, and what is refused for what the disk reads as.
 use Rattle.std.specs.Prelude.{◌≡◌, ◌≢◌, ℕ, ◌≤◌, Bool, List, length, Option, IfSome}
+use Rattle.bench_disk.specs.declared.disk.Disk.{Ghosts}
 use Rattle.draughts_board.specs.Board.{Board}
 use Rattle.bench_edges.specs.declared.status.Status.{Status}
 use Rattle.bench_edges.specs.declared.status.Status.TheVariants.{Input, Disk, Journal, Memory}
@@ -45,51 +46,51 @@ abbrev pub IsUnrefused : Status → Type 0
 IsUnrefused status = (status ≢ Input) × (status ≢ Journal)
 
 -- The disk reads as a journal for the table, which has room for the roots.
-pub record HasRoom {D : Type 0} (tells : Bool) (reads : D → List ℕ) (pieces : ℕ)
+pub record HasRoom {D : Type 0} (g : Ghosts D) (pieces : ℕ)
     (positions : List Board) (disk : D) : Type 0 where
-  pub honest : IsHonest tells
+  pub honest : IsHonest g.TELLS
   pub records : List BenchRecord
-  pub read : ReadsRecords pieces (reads disk) records
+  pub read : ReadsRecords pieces (g.reads disk) records
   pub room : length (with_roots (begun records) positions) ≤ MOST_ROOTS
 
 -- The disk reads as a journal for the table, and the budget is ample for the roots that it has and
 -- those that these positions begin.
-pub record HasAmpleBudget {D : Type 0} (tells : Bool) (reads : D → List ℕ)
+pub record HasAmpleBudget {D : Type 0} (g : Ghosts D)
     (pieces depth budget : ℕ) (positions : List Board) (disk : D) : Type 0 where
-  pub honest : IsHonest tells
+  pub honest : IsHonest g.TELLS
   pub records : List BenchRecord
-  pub read : ReadsRecords pieces (reads disk) records
+  pub read : ReadsRecords pieces (g.reads disk) records
   pub ample : IsAmple pieces depth budget positions records
 
 -- The journal has room for the roots of the source's openings.
-abbrev pub HasRoomFor : {D : Type 0} → Bool → (D → List ℕ) → Command → List ℕ → D → Type 0
-HasRoomFor tells reads (Solve options) bytes disk =
+abbrev pub HasRoomFor : {D : Type 0} → Ghosts D → Command → List ℕ → D → Type 0
+HasRoomFor g (Solve options) bytes disk =
     (openings : List Opening) → OpeningsOf options.plies bytes openings
-    → HasRoom tells reads options.pieces (roots_of_openings openings) disk
-HasRoomFor tells reads command bytes disk = Unit {0}
+    → HasRoom g options.pieces (roots_of_openings openings) disk
+HasRoomFor g command bytes disk = Unit {0}
 
 -- A source of the right length that is good for the command, and a journal that has room for it, are
 -- not refused.
-abbrev pub Accepts : {D : Type 0} → Bool → (D → List ℕ) → Command → Option (List ℕ) → D → Status
+abbrev pub Accepts : {D : Type 0} → Ghosts D → Command → Option (List ℕ) → D → Status
     → Type 0
-Accepts tells reads command source disk status =
+Accepts g command source disk status =
     IfSome source (λ told. IsGoodFor command told
     → IfSome (source_limit command) (λ limit. length told ≤ limit)
-    → HasRoomFor tells reads command told disk → IsUnrefused status)
+    → HasRoomFor g command told disk → IsUnrefused status)
 
 -- ---- what is asked of the disk
 
 -- For a command that reads no source the disk has what it asks of it: a journal to report, a root
 -- with a value to certify, or room for the openings that a seed gives. A table asks nothing.
-abbrev pub HasAsked : {D : Type 0} → Bool → (D → List ℕ) → Command → D → Type 0
-HasAsked tells reads Report disk =
-    IsHonest tells × ((pieces : ℕ) × ((records : List BenchRecord)
-    × ReadsRecords pieces (reads disk) records))
-HasAsked tells reads (Certify root) disk = IsHonest tells × HasSettledRoot (reads disk) root
-HasAsked tells reads (MakeTable pieces) disk = Unit {0}
-HasAsked tells reads (Generate seed count) disk =
-    HasRoom tells reads GENERATE_PIECES (openings_from seed count) disk
-HasAsked tells reads command disk = ⊥
+abbrev pub HasAsked : {D : Type 0} → Ghosts D → Command → D → Type 0
+HasAsked g Report disk =
+    IsHonest g.TELLS × ((pieces : ℕ) × ((records : List BenchRecord)
+    × ReadsRecords pieces (g.reads disk) records))
+HasAsked g (Certify root) disk = IsHonest g.TELLS × HasSettledRoot (g.reads disk) root
+HasAsked g (MakeTable pieces) disk = Unit {0}
+HasAsked g (Generate seed count) disk =
+    HasRoom g GENERATE_PIECES (openings_from seed count) disk
+HasAsked g command disk = ⊥
 
 -- a cause for which a look at a disk that reads as this file is refused
 abbrev pub HasLookCause : Command → List ℕ → LookRefusal → Type 0

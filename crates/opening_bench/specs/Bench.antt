@@ -1,6 +1,7 @@
 -- How a run ends, for which cause, and what it leaves.
 use Rattle.std.specs.Prelude.{◌≡◌, ℕ, ◌+◌, ◌<◌, ◌≤◌, ◌⊎◌, Bool, true, false, List, ◌++◌, length, Option, Some, IfSome, IsSome, Contains}
 use Rattle.std.specs.Io.KnownBytes.{Appends, IsAtEnd}
+use Rattle.bench_disk.specs.declared.disk.Disk.{Ghosts}
 use Rattle.shared_words.specs.Counts.{Rose}
 use Rattle.bench_edges.specs.KnownBytes.{ConsumesAtMost, ConsumesJust}
 use Rattle.bench_edges.specs.Words.{Says, IsRefusedAt}
@@ -163,8 +164,7 @@ pub record IsRefused {D : Type 0} (IsCause : Refusal → Type 0) (old new : D)
 
 -- ---- of the disk at entry, and of the disk that is handed back
 
-module _ {D : Type 0} (tells : Bool) (reads : D → List ℕ) (images : D → List ℕ → Type 0)
-    (images_since : D → ℕ → List ℕ → Type 0) (moment faults : D → ℕ) where
+module _ {D : Type 0} (g : Ghosts D) where
   -- What a run does that comes to what it has to write: it writes a text that answers its source
   -- and shows what is on its disk.
   pub record Does (command : Command) (source before after : Option (List ℕ)) (old new : D)
@@ -174,7 +174,7 @@ module _ {D : Type 0} (tells : Bool) (reads : D → List ℕ) (images : D → Li
     pub text : List ℕ
     pub settled : Bool
     pub answers : Answers command input text settled
-    pub shows : ShowsDisk tells reads images images_since moment faults
+    pub shows : ShowsDisk g
         command input old new text settled
     pub taken : TakesOutput status text settled before after
 
@@ -184,7 +184,7 @@ module _ {D : Type 0} (tells : Bool) (reads : D → List ℕ) (images : D → Li
       (before after : ℕ) (old new : D) (r : Refusal) : Type 0 where
     pub input : List ℕ
     pub is_input : IsInput command source input
-    pub fault : HasDiskFault tells reads images images_since moment faults command input old new r
+    pub fault : HasDiskFault g command input old new r
     pub end : ReadsSource command → IsAtEnd rest
     pub counted : after ≡ before
 

@@ -1,6 +1,7 @@
 -- Three words by command say all that a command is to its disk: what it leaves of it, what its
 -- output shows of it, and why it is refused for it. A new command has a case in each.
 use Rattle.std.specs.Prelude.{◌≡◌, ◌⊎◌, ℕ, Bool, List}
+use Rattle.bench_disk.specs.declared.disk.Disk.{Ghosts}
 use Rattle.bench_disk.specs.Disk.{IsHonest, NothingPending, Stays}
 use Rattle.shared_words.specs.Counts.{Rose}
 use Rattle.draughts_board.specs.Board.{Board}
@@ -50,53 +51,52 @@ of_look (look.UnsettledRoot n) = refusal.UnsettledRoot n
 
 -- ---- of the disk at entry, and of the disk that is handed back
 
-module _ {D : Type 0} (tells : Bool) (reads : D → List ℕ) (images : D → List ℕ → Type 0)
-    (images_since : D → ℕ → List ℕ → Type 0) (moment faults : D → ℕ) where
+module _ {D : Type 0} (g : Ghosts D) where
   -- What is left of the disk, however the run ends. A run that begins with nothing pending keeps
   -- the journal, a look at it leaves it, and the others make no call of the disk.
   abbrev pub LeavesDisk : Command → D → D → Type 0
   LeavesDisk (Solve options) old new =
       (new ≡ old)
-      ⊎ (IsHonest tells → NothingPending (reads old) (images old)
-      → KeepsJournal reads images images_since moment faults options.pieces old new)
-  LeavesDisk Report old new = IsHonest tells → Stays reads images old new
-  LeavesDisk (Certify root) old new = IsHonest tells → Stays reads images old new
+      ⊎ (IsHonest g.TELLS → NothingPending (g.reads old) (g.images old)
+      → KeepsJournal g options.pieces old new)
+  LeavesDisk Report old new = IsHonest g.TELLS → Stays g.reads g.images old new
+  LeavesDisk (Certify root) old new = IsHonest g.TELLS → Stays g.reads g.images old new
   LeavesDisk Verify old new = new ≡ old
   LeavesDisk (MakeTable pieces) old new = new ≡ old
   LeavesDisk TableCheck old new = new ≡ old
   LeavesDisk (Generate seed count) old new =
       (new ≡ old)
-      ⊎ (IsHonest tells → NothingPending (reads old) (images old)
-      → KeepsJournal reads images images_since moment faults GENERATE_PIECES old new)
+      ⊎ (IsHonest g.TELLS → NothingPending (g.reads old) (g.images old)
+      → KeepsJournal g GENERATE_PIECES old new)
 
   -- The run went on from what the disk read as, with the source's openings.
   pub record HasResumed (options : Options) (source : List ℕ) (old new : D) (text : List ℕ)
       (settled : Bool) : Type 0 where
     pub openings : List Opening
     pub read : OpeningsOf options.plies source openings
-    pub resumed : IsHonest tells →
-        Resumes reads images images_since moment faults (λ roots. report_of (forest_roots roots))
+    pub resumed : IsHonest g.TELLS →
+        Resumes g (λ roots. report_of (forest_roots roots))
         options.pieces options.depth options.budget (roots_of_openings openings) old new text
         settled
 
   -- the text is that of the certificate of a root that the disk reads as
   abbrev pub HasCertified : ℕ → D → List ℕ → Type 0
   HasCertified root old text =
-      IsHonest tells → (c : Certificate) × (ReadsAs text c × Certifies (reads old) root c)
+      IsHonest g.TELLS → (c : Certificate) × (ReadsAs text c × Certifies (g.reads old) root c)
 
   -- what a run that comes to its output shows of the disk
   abbrev pub ShowsDisk : Command → List ℕ → D → D → List ℕ → Bool → Type 0
   ShowsDisk (Solve options) source old new text settled =
       HasResumed options source old new text settled
   ShowsDisk Report source old new text settled =
-      IsHonest tells → Shows (reads old) text settled
+      IsHonest g.TELLS → Shows (g.reads old) text settled
   ShowsDisk (Certify root) source old new text settled = HasCertified root old text
   ShowsDisk Verify source old new text settled = Unit {0}
   ShowsDisk (MakeTable pieces) source old new text settled = Unit {0}
   ShowsDisk TableCheck source old new text settled = Unit {0}
   ShowsDisk (Generate seed count) source old new text settled =
-      IsHonest tells →
-      Resumes reads images images_since moment faults (λ roots. summary_line (forest_roots roots))
+      IsHonest g.TELLS →
+      Resumes g (λ roots. summary_line (forest_roots roots))
       GENERATE_PIECES GENERATE_DEPTH count (openings_from seed count) old new text settled
 
   -- A run with these positions is refused: the faults of the disk rose, its bytes are no such
@@ -105,16 +105,16 @@ module _ {D : Type 0} (tells : Bool) (reads : D → List ℕ) (images : D → Li
       : Type 0 where
     pub fault : RunRefusal
     pub is : r ≡ of_run fault
-    pub disk : fault ≡ run.Disk → Rose (faults old) (faults new)
-    pub caused : IsHonest tells → IsCaused pieces positions (reads old) fault
+    pub disk : fault ≡ run.Disk → Rose (g.faults old) (g.faults new)
+    pub caused : IsHonest g.TELLS → IsCaused pieces positions (g.reads old) fault
 
   -- A look at the disk is refused: its faults rose, or what it reads as explains it so.
   pub record IsLookFault (Explains : List ℕ → LookRefusal → Type 0) (old new : D) (r : Refusal)
       : Type 0 where
     pub fault : LookRefusal
     pub is : r ≡ of_look fault
-    pub disk : fault ≡ look.Journal journal.DiskFault → Rose (faults old) (faults new)
-    pub explained : IsHonest tells → Explains (reads old) fault
+    pub disk : fault ≡ look.Journal journal.DiskFault → Rose (g.faults old) (g.faults new)
+    pub explained : IsHonest g.TELLS → Explains (g.reads old) fault
 
   -- why the disk refuses the command
   abbrev pub HasDiskFault : Command → List ℕ → D → D → Refusal → Type 0

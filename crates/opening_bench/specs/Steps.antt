@@ -1,5 +1,6 @@
 -- The steps of a run, which the private functions answer for.
 use Rattle.std.specs.Prelude.{◌≡◌, ℕ, ◌⊎◌, Bool, true, false, List, ◌++◌, Result, Err, IfErr, IfOk}
+use Rattle.bench_disk.specs.declared.disk.Disk.{Ghosts}
 use Rattle.shared_words.specs.Answers.{Unless}
 use Rattle.bench_disk.specs.Disk.{IsHonest}
 use Rattle.draughts_board.specs.Board.{Board}
@@ -41,26 +42,25 @@ pub record AreRootsIn (plies : ℕ) (text : List ℕ) (positions : List Board) :
   pub all : positions ≡ roots_of_openings openings
 
 -- of the disk at entry, and of the disk that is handed back
-module _ {D : Type 0} (tells : Bool) (reads : D → List ℕ) (images : D → List ℕ → Type 0)
-    (images_since : D → ℕ → List ℕ → Type 0) (moment faults : D → ℕ) where
+module _ {D : Type 0} (g : Ghosts D) where
   -- the text answers these bytes, and shows what is on the disk
   pub record AnswersBytes (command : Command) (bytes : List ℕ) (old new : D) (text : List ℕ)
       (settled : Bool) : Type 0 where
     pub answers : Answers command bytes text settled
-    pub shows : ShowsDisk tells reads images images_since moment faults
+    pub shows : ShowsDisk g
         command bytes old new text settled
 
   -- a fault of these bytes stands, the disk refuses, or memory ran out
   abbrev pub RefusesBytes : Command → List ℕ → D → D → Refusal → Type 0
   RefusesBytes command bytes old new r =
       IsAnswerFault command bytes r
-      ⊎ HasDiskFault tells reads images images_since moment faults command bytes old new r
+      ⊎ HasDiskFault g command bytes old new r
 
 -- good bytes, and a journal that has room for them, are not refused
-abbrev pub AcceptsBytes : {D : Type 0} → Bool → (D → List ℕ) → Command → List ℕ → D → Refusal
+abbrev pub AcceptsBytes : {D : Type 0} → Ghosts D → Command → List ℕ → D → Refusal
     → Type 0
-AcceptsBytes tells reads command bytes disk r =
-    IsGoodFor command bytes → HasRoomFor tells reads command bytes disk
+AcceptsBytes g command bytes disk r =
+    IsGoodFor command bytes → HasRoomFor g command bytes disk
     → IsUnrefused (status_of r)
 
 -- ---- a look at the disk
@@ -72,33 +72,32 @@ says_nothing_of_bytes refusal.Memory = true
 says_nothing_of_bytes other = false
 
 -- a disk that has what the command asks of it is not refused for what it reads as
-abbrev pub AcceptsAsked : {D T : Type 0} → Bool → (D → List ℕ) → Command → D → Result T Refusal
+abbrev pub AcceptsAsked : {D T : Type 0} → Ghosts D → Command → D → Result T Refusal
     → Type 0
-AcceptsAsked tells reads command disk answer =
-    HasAsked tells reads command disk → IfErr answer (λ r. says_nothing_of_bytes r ≡ true)
+AcceptsAsked g command disk answer =
+    HasAsked g command disk → IfErr answer (λ r. says_nothing_of_bytes r ≡ true)
 
 -- a cause that the disk has is the answer
-abbrev pub AnswersLook : {D T : Type 0} → Bool → (D → List ℕ) → Command → D → Result T Refusal
+abbrev pub AnswersLook : {D T : Type 0} → Ghosts D → Command → D → Result T Refusal
     → Type 0
-AnswersLook tells reads command disk answer =
-    IsHonest tells → (cause : LookRefusal) → HasLookCause command (reads disk) cause
+AnswersLook g command disk answer =
+    IsHonest g.TELLS → (cause : LookRefusal) → HasLookCause command (g.reads disk) cause
     → Unless says_nothing_of_bytes answer (answer ≡ Err (of_look cause))
 
 -- ---- all that an answer is
 
-module _ {D : Type 0} (tells : Bool) (reads : D → List ℕ) (images : D → List ℕ → Type 0)
-    (images_since : D → ℕ → List ℕ → Type 0) (moment faults : D → ℕ) where
+module _ {D : Type 0} (g : Ghosts D) where
   -- What a command has to write for these bytes, or why it is refused, and what it leaves of the
   -- disk.
   pub record IsAnswer (command : Command) (bytes : List ℕ) (old new : D)
       (answer : Result Output Refusal) : Type 0 where
-    pub leaves : LeavesDisk tells reads images images_since moment faults command old new
-    pub answers : IfOk answer (λ output. AnswersBytes tells reads images images_since moment faults
+    pub leaves : LeavesDisk g command old new
+    pub answers : IfOk answer (λ output. AnswersBytes g
         command bytes old new output.text.items output.is_settled)
     pub says : IfOk answer (λ output. SaysTrue output.text.items)
-    pub refused : IfErr answer (RefusesBytes tells reads images images_since moment faults
+    pub refused : IfErr answer (RefusesBytes g
         command bytes old new)
-    pub accepted : IfErr answer (AcceptsBytes tells reads command bytes old)
-    pub asked : AcceptsAsked tells reads command old answer
-    pub looked : AnswersLook tells reads command old answer
+    pub accepted : IfErr answer (AcceptsBytes g command bytes old)
+    pub asked : AcceptsAsked g command old answer
+    pub looked : AnswersLook g command old answer
     pub unused : IfErr answer (λ r. ComesBeforeDisk r → new ≡ old)

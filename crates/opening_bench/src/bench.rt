@@ -92,7 +92,7 @@ fn run_command<R: Threads + Wait + Sync, S: Source, K: Sink, D: Disk + Send, G: 
     gate: &G,
 ) -> (Status, D)
     requires { IsWithinLimits command }
-    ensures runs { RunsCommand D.TELLS D.reads D.images D.images_since D.moment D.faults
+    ensures runs { RunsCommand D.Disk
         command (S.left source.old) (S.left source.new)
         (S.faults source.old) (S.faults source.new)
         (K.taken sink.old) (K.taken sink.new) (K.faults sink.old) (K.faults sink.new)
@@ -151,11 +151,11 @@ pub fn bench<R: Threads + Wait + Sync, S: Source, K: Sink, D: Disk + Send, G: Ga
 
     // What a run does and shows of the journal, or why it was refused.
     ensures does { Reports result.0 → (command : Command) × (Says (texts words.now) command
-        × Does D.TELLS D.reads D.images D.images_since D.moment D.faults
+        × Does D.Disk
         command (S.left source.old) (K.taken sink.old) (K.taken sink.new)
         disk result.1 result.0) }
     ensures refused { Refuses result.0 → IsRefused
-        (IsRefusalByWords D.TELLS D.reads D.images D.images_since D.moment D.faults
+        (IsRefusalByWords D.Disk
         (texts words.now) (S.left source.old) (S.left source.new)
         (S.faults source.old) (S.faults source.new) disk result.1)
         disk result.1 (K.taken sink.old) (K.taken sink.new)
@@ -163,7 +163,7 @@ pub fn bench<R: Threads + Wait + Sync, S: Source, K: Sink, D: Disk + Send, G: Ga
 
     // What is left of the disk, however the run ends; without a command it stays.
     ensures leaves { (command : Command) → Says (texts words.now) command
-        → LeavesDisk D.TELLS D.reads D.images D.images_since D.moment D.faults
+        → LeavesDisk D.Disk
         command disk result.1 }
     ensures unused { result.0 ≡ Status.Words → result.1 ≡ disk }
 
@@ -173,23 +173,23 @@ pub fn bench<R: Threads + Wait + Sync, S: Source, K: Sink, D: Disk + Send, G: Ga
     ensures accepted { (options : Options) → Says (texts words.now) (Command.Solve options)
         → IfSome (S.left source.old) (λ text. length text ≤ GAMES_LIMIT
         → (all : List Opening) → OpeningsOf options.plies text all
-        → HasRoom D.TELLS D.reads options.pieces (roots_of_openings all) disk
+        → HasRoom D.Disk options.pieces (roots_of_openings all) disk
         → IsUnrefused result.0) }
     // Where every root that has no value, old or new, is unexpanded and looking ahead shows one, a
     // budget of at least their number leaves none unsettled.
     ensures ample { (options : Options) → Says (texts words.now) (Command.Solve options)
         → IfSome (S.left source.old) (λ text. (all : List Opening)
         → OpeningsOf options.plies text all
-        → HasAmpleBudget D.TELLS D.reads options.pieces options.depth options.budget
+        → HasAmpleBudget D.Disk options.pieces options.depth options.budget
         (roots_of_openings all) disk → result.0 ≢ Status.Unsolved) }
     // The same of `generate`, with the openings that the seed gives and a budget of COUNT.
     ensures accepted_generated { (seed count : ℕ)
         → Says (texts words.now) (Command.Generate seed count)
-        → HasRoom D.TELLS D.reads GENERATE_PIECES (openings_from seed count) disk
+        → HasRoom D.Disk GENERATE_PIECES (openings_from seed count) disk
         → IsUnrefused result.0 }
     ensures ample_generated { (seed count : ℕ)
         → Says (texts words.now) (Command.Generate seed count)
-        → HasAmpleBudget D.TELLS D.reads GENERATE_PIECES GENERATE_DEPTH count
+        → HasAmpleBudget D.Disk GENERATE_PIECES GENERATE_DEPTH count
         (openings_from seed count) disk → result.0 ≢ Status.Unsolved }
     // On a journal that has no root yet this is so of each seed and COUNT.
     ensures settled_generated { (seed count : ℕ)

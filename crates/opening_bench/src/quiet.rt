@@ -27,7 +27,7 @@ fn quiet_bytes<D: Disk>(
 ) -> (D, Result<Output, Refusal>)
     requires quiet { Searches command → ⊥ }
     requires limits { IsWithinLimits command }
-    ensures answers { IsAnswer D.TELLS D.reads D.images D.images_since D.moment D.faults
+    ensures answers { IsAnswer D.Disk
         command bytes.now disk result.0 result.1 }
 {
     match command {
@@ -53,7 +53,7 @@ pub fn bench_quiet<S: Source, K: Sink, D: Disk>(
 ) -> (Status, D)
     requires quiet { Searches command → ⊥ }
     requires limits { IsWithinLimits command }
-    ensures runs { RunsCommand D.TELLS D.reads D.images D.images_since D.moment D.faults
+    ensures runs { RunsCommand D.Disk
         command (S.left source.old) (S.left source.new)
         (S.faults source.old) (S.faults source.new)
         (K.taken sink.old) (K.taken sink.new) (K.faults sink.old) (K.faults sink.new)

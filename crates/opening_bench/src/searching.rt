@@ -29,7 +29,7 @@ fn search_bytes<R: Threads + Wait + Sync, D: Disk + Send, G: Gate + Sync>(
 ) -> (D, Result<Output, Refusal>)
     requires searches { Searches command }
     requires limits { IsWithinLimits command }
-    ensures answers { IsAnswer D.TELLS D.reads D.images D.images_since D.moment D.faults
+    ensures answers { IsAnswer D.Disk
         command bytes.now disk result.0 result.1 }
 {
     match command {
@@ -61,7 +61,7 @@ pub(crate) fn run_search<
 ) -> (Status, D)
     requires searches { Searches command }
     requires limits { IsWithinLimits command }
-    ensures runs { RunsCommand D.TELLS D.reads D.images D.images_since D.moment D.faults
+    ensures runs { RunsCommand D.Disk
         command (S.left source.old) (S.left source.new)
         (S.faults source.old) (S.faults source.new)
         (K.taken sink.old) (K.taken sink.new) (K.faults sink.old) (K.faults sink.new)

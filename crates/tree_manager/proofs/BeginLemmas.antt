@@ -3,6 +3,7 @@ use Rattle.std.proofs.Common.{◌≡◌, ◌≤◌, ◌+◌, ℕ, suc, List, [],
 use Rattle.std.specs.Prelude.{◌⊎◌, Bool, true, false, cond, filter}
 use Rattle.std.specs.List.{AllByRecursion as Each}
 use Rattle.std.proofs.lemmas.Bool.{true≢false}
+use Rattle.bench_disk.specs.declared.disk.Disk.{Ghosts}
 use Rattle.shared_words.specs.Counts.{Rose}
 use Rattle.disk_journal.specs.Log.{Log}
 use Rattle.draughts_board.specs.Board.{Board}
@@ -106,24 +107,24 @@ length_marks : (added : List Board) → length (map (λ (p : Board). Put) added)
 length_marks [] = refl
 length_marks (p ∷ added) = ap suc (length_marks added)
 
-module _ {D : Type 0} (tells : Bool) (reads : D → List ℕ) (images : D → List ℕ → Type 0) (images_since : D → ℕ → List ℕ → Type 0) (moment faults : D → ℕ) where
+module _ {D : Type 0} (g : Ghosts D) where
   synced_roots : (added : List Board) (line : List Entry) (texts : List (List ℕ)) (log : Log D) → is_failed line ≡ false → SpellsRecords log.pieces (recorded line) (map Begin added) texts
-      → IsSynced reads images images_since moment line log → IsSynced reads images images_since moment (line ++ root_puts added) (record log { staged = log.staged ++ texts })
+      → IsSynced g line log → IsSynced g (line ++ root_puts added) (record log { staged = log.staged ++ texts })
   synced_roots [] line [] log whole spelled s =
-      subst (λ l. IsSynced reads images images_since moment l (record log { staged = log.staged ++ [] })) (sym (append-nil line)) (subst (λ ts. IsSynced reads images images_since moment line (record log { staged = ts })) (sym (append-nil log.staged)) s)
+      subst (λ l. IsSynced g l (record log { staged = log.staged ++ [] })) (sym (append-nil line)) (subst (λ ts. IsSynced g line (record log { staged = ts })) (sym (append-nil log.staged)) s)
   synced_roots [] line (text ∷ texts) log whole spelled s = absurd spelled
   synced_roots (p ∷ added) line [] log whole spelled s = absurd spelled
   synced_roots (p ∷ added) line (text ∷ texts) log whole spelled s =
       let e : Entry = entry.Put (Begin p) in
-      let next = synced_put reads images images_since moment line (Begin p) text log whole spelled.0 s in
-      subst (λ l. IsSynced reads images images_since moment l (record log { staged = log.staged ++ text ∷ texts })) (push_more line e (root_puts added))
-      (subst (λ ts. IsSynced reads images images_since moment ((line ++ e ∷ []) ++ root_puts added) (record log { staged = ts })) (push_more log.staged text texts)
+      let next = synced_put g line (Begin p) text log whole spelled.0 s in
+      subst (λ l. IsSynced g l (record log { staged = log.staged ++ text ∷ texts })) (push_more line e (root_puts added))
+      (subst (λ ts. IsSynced g ((line ++ e ∷ []) ++ root_puts added) (record log { staged = ts })) (push_more log.staged text texts)
       (synced_roots added (line ++ e ∷ []) texts (record log { staged = log.staged ++ text ∷ [] }) (any_push_not breaks line e refl ∙ whole) (subst (λ b. SpellsRecords log.pieces b (map Begin added) texts) (sym (recorded_push line e)) spelled.1) next))
 
   roots_at : (line : List Entry) (marks : List Mark) (capacity capacity' due : ℕ) (core : Core) (log : Log D) (added : List Board) (texts : List (List ℕ))
-      → IsSession tells reads images images_since moment faults line marks capacity due core log → log.failed ≡ false → MayStageRoots core added → CanApplyAll (with_roots_staged core added)
+      → IsSession g line marks capacity due core log → log.failed ≡ false → MayStageRoots core added → CanApplyAll (with_roots_staged core added)
       → ((before : List BenchRecord) → SpellsRecords core.state.settings.pieces before (map Begin added) texts) → length texts ≡ length added → length marks + (due + length added + length added) ≤ capacity'
-      → IsSession tells reads images images_since moment faults (line ++ root_puts added) (marks ++ map (λ _. Put) added) capacity' (due + length added) (with_roots_staged core added) (record log { staged = log.staged ++ texts })
+      → IsSession g (line ++ root_puts added) (marks ++ map (λ _. Put) added) capacity' (due + length added) (with_roots_staged core added) (record log { staged = log.staged ++ texts })
   roots_at line marks capacity capacity' due core log added texts kept unfailed may grows spelled many room =
       let whole : is_failed line ≡ false = sym kept.failed ∙ unfailed in
       let same : is_failed (line ++ root_puts added) ≡ is_failed line = failed_roots added line in
@@ -138,7 +139,7 @@ module _ {D : Type 0} (tells : Bool) (reads : D → List ℕ) (images : D → Li
         as_many = λ h. length-append log.staged texts ∙ omega (arith, kept.as_many h, many, staged);
         owed = λ h. omega (arith, kept.owed h, staged);
         room = λ h. omega (arith, room, length-append marks (map (λ _. Put) added), length_marks added);
-        not_more = Each-append (λ e. faults_told e ≤ faults log.disk) line (root_puts added) kept.not_more (faults_roots (faults log.disk) added);
+        not_more = Each-append (λ e. faults_told e ≤ g.faults log.disk) line (root_puts added) kept.not_more (faults_roots (g.faults log.disk) added);
         broken = λ h. absurd (true≢false (sym h ∙ (same ∙ whole)));
         ended = λ h. absurd (true≢false (sym h ∙ (same ∙ whole)));
         synced = λ honest. synced_roots added line texts log whole (subst (λ k. SpellsRecords k (recorded line) (map Begin added) texts) (sym kept.pieces) (spelled (recorded line))) (kept.synced honest);
@@ -146,22 +147,22 @@ module _ {D : Type 0} (tells : Bool) (reads : D → List ℕ) (images : D → Li
 
   -- the session behind the Puts
   pub kept_roots : (marks marks' : List Mark) (capacity capacity' due due' : ℕ) (core core' : Core) (log log' : Log D) (added : List Board)
-      → IsSession tells reads images images_since moment faults (woven marks (core.records ++ core.staged)) marks capacity due core log → log.failed ≡ false → marks' ≡ marks ++ map (λ _. Put) added → core' ≡ with_roots_staged core added
+      → IsSession g (woven marks (core.records ++ core.staged)) marks capacity due core log → log.failed ≡ false → marks' ≡ marks ++ map (λ _. Put) added → core' ≡ with_roots_staged core added
       → MayStageRoots core added → CanApplyAll core'
       → (texts : List (List ℕ)) × ((before : List BenchRecord) → SpellsRecords core.state.settings.pieces before (map Begin added) texts) × (log' ≡ record log { staged = log.staged ++ texts })
       → due' ≡ due + length added → length marks + (due + length added + length added) ≤ capacity'
-      → IsSession tells reads images images_since moment faults (woven marks' (core'.records ++ core'.staged)) marks' capacity' due' core' log'
+      → IsSession g (woven marks' (core'.records ++ core'.staged)) marks' capacity' due' core' log'
   kept_roots marks marks' capacity capacity' due due' core core' log log' added kept unfailed is same may grows journal owing room =
       let texts : List (List ℕ) = journal.0 in
       let many : length texts ≡ length added = sym (spell_length core.state.settings.pieces [] (map Begin added) texts (journal.1 [])) ∙ length_begins added in
       let line = line_roots marks marks' core core' added kept.filled is same in
       let whole =
       roots_at (woven marks (core.records ++ core.staged)) marks capacity capacity' due core log added texts kept unfailed may (subst CanApplyAll same grows) journal.1 many room in
-      subst (λ l. IsSession tells reads images images_since moment faults l marks' capacity' due' core' log') (sym line)
-      (subst (λ (c : Core). IsSession tells reads images images_since moment faults (woven marks (core.records ++ core.staged) ++ root_puts added) marks' capacity' due' c log') (sym same)
-      (subst (λ l. IsSession tells reads images images_since moment faults (woven marks (core.records ++ core.staged) ++ root_puts added) marks' capacity' due' (with_roots_staged core added) l) (sym journal.2)
-      (subst (λ n. IsSession tells reads images images_since moment faults (woven marks (core.records ++ core.staged) ++ root_puts added) marks' capacity' n (with_roots_staged core added) (record log { staged = log.staged ++ texts })) (sym owing)
-      (subst (λ ms. IsSession tells reads images images_since moment faults (woven marks (core.records ++ core.staged) ++ root_puts added) ms capacity' (due + length added) (with_roots_staged core added) (record log { staged = log.staged ++ texts })) (sym is) whole))))
+      subst (λ l. IsSession g l marks' capacity' due' core' log') (sym line)
+      (subst (λ (c : Core). IsSession g (woven marks (core.records ++ core.staged) ++ root_puts added) marks' capacity' due' c log') (sym same)
+      (subst (λ l. IsSession g (woven marks (core.records ++ core.staged) ++ root_puts added) marks' capacity' due' (with_roots_staged core added) l) (sym journal.2)
+      (subst (λ n. IsSession g (woven marks (core.records ++ core.staged) ++ root_puts added) marks' capacity' n (with_roots_staged core added) (record log { staged = log.staged ++ texts })) (sym owing)
+      (subst (λ ms. IsSession g (woven marks (core.records ++ core.staged) ++ root_puts added) ms capacity' (due + length added) (with_roots_staged core added) (record log { staged = log.staged ++ texts })) (sym is) whole))))
 
 -- ---- what the call has done
 

@@ -2,6 +2,7 @@
 use Rattle.std.proofs.Common.{◌≡◌, ◌≤◌, ◌<◌, ◌+◌, ◌-◌, ℕ, suc, List, [], ◌∷◌, ◌++◌, length, refl, ap, sym, ◌∙◌, subst, arith, length-append}
 use Rattle.std.specs.Prelude.{Bool, false, Ok}
 use Rattle.std.proofs.lemmas.List.Sums.{count_by-le-length}
+use Rattle.bench_disk.specs.declared.disk.Disk.{Ghosts}
 use Rattle.bench_disk.specs.Disk.{IsHonest}
 use Rattle.disk_journal.specs.Log.{Log}
 use Rattle.certificate_checker.specs.declared.outcomes.Outcome.{Outcome}
@@ -79,9 +80,9 @@ pub seen_back : {D : Type 0} (marks : List Mark) (core core' : Core) (log log' :
     let new : SessionState D = record { line = woven marks (core'.records ++ core'.staged); core = core'; disk = log'.disk } in new ≡ old
 seen_back marks core core' log log' x y = rw (x, y) refl
 
-module _ {D : Type 0} (tells : Bool) (reads : D → List ℕ) (images : D → List ℕ → Type 0) (images_since : D → ℕ → List ℕ → Type 0) (moment faults : D → ℕ) where
+module _ {D : Type 0} (g : Ghosts D) where
   abbrev Keeps : List Mark → ℕ → ℕ → Core → Log D → Type 0
-  Keeps marks capacity due core log = IsSession tells reads images images_since moment faults (woven marks (core.records ++ core.staged)) marks capacity due core log
+  Keeps marks capacity due core log = IsSession g (woven marks (core.records ++ core.staged)) marks capacity due core log
 
   pub keeps_back : (marks : List Mark) (capacity due : ℕ) (core core' : Core) (log log' : Log D) → core' ≡ core → log' ≡ log → Keeps marks capacity due core log → Keeps marks capacity due core' log'
   keeps_back marks capacity due core core' log log' x y kept = subst (λ l. Keeps marks capacity due core' l) (sym y) (subst (λ c. Keeps marks capacity due c log) (sym x) kept)
@@ -92,7 +93,7 @@ module _ {D : Type 0} (tells : Bool) (reads : D → List ℕ) (images : D → Li
   kept_leased marks marks' capacity capacity' due core core' log worker lease kept unfailed is answer same room =
       let s = core.state in
       subst (λ c. Keeps marks' capacity' (due + 2) c log) (sym same)
-      (kept_quiet tells reads images images_since moment faults marks marks' capacity capacity' due (due + 2) (Leased lease) (entry.Leased lease) core (record core { state = with_lease core.state lease }) log
+      (kept_quiet g marks marks' capacity capacity' due (due + 2) (Leased lease) (entry.Leased lease) core (record core { state = with_lease core.state lease }) log
       kept unfailed is refl refl refl refl refl refl refl refl refl refl kept.grows
       (subst (λ w. lease_answer core.state w ≡ Ok lease) (sym (lease_worker core.state worker lease answer)) answer, refl)
       (omega (arith, waiting_leased (is_live_row s.leases.limit (s.given + 1)) s.leases.rows lease, kept.owed unfailed)) room)
@@ -104,7 +105,7 @@ module _ {D : Type 0} (tells : Bool) (reads : D → List ℕ) (images : D → Li
   kept_released marks marks' capacity capacity' due core core' log id kept unfailed is has same more =
       let fewer = waiting_without core.state.leases.rows id has.row has.there has.number has.holds in
       subst (λ c. Keeps marks' capacity' (due - 2) c log) (sym same)
-      (kept_quiet tells reads images images_since moment faults marks marks' capacity capacity' due (due - 2) (Released id) (entry.Released id) core
+      (kept_quiet g marks marks' capacity capacity' due (due - 2) (Released id) (entry.Released id) core
       (record core { state = with_lease_rows core.state (without id core.state.leases.rows) }) log
       kept unfailed is refl refl refl refl refl refl refl refl refl refl kept.grows (has, refl)
       (omega (arith, fewer, kept.owed unfailed))
@@ -117,7 +118,7 @@ module _ {D : Type 0} (tells : Bool) (reads : D → List ℕ) (images : D → Li
   kept_result marks marks' capacity capacity' due core core' r text log log' kept unfailed is may result is_text same grows logged more =
       let fewer = waiting_staged core r result in
       let owed : entries_owed (with_staged core r) ≤ due - 1 = omega (arith, fewer, kept.owed unfailed, length-append core.staged (r ∷ [])) in
-      kept_put tells reads images images_since moment faults marks marks' capacity capacity' due (due - 1) core core' r text log log' kept unfailed is may is_text same grows
+      kept_put g marks marks' capacity capacity' due (due - 1) core core' r text log log' kept unfailed is may is_text same grows
       (subst (λ c. entries_owed c ≤ due - 1) (sym same) owed)
       (omega (arith, fewer, kept.owed unfailed, kept.room unfailed, ap length is, length-append marks (Put ∷ []), more)) logged
 
@@ -131,8 +132,8 @@ module _ {D : Type 0} (tells : Bool) (reads : D → List ℕ) (images : D → Li
       subst (λ n. AreLawfulInTurn n (recorded line)) (sym kept.pieces)
       (kept.grows.0, subst (λ rs. IsForestOf k rs kept.grows.0) (ap (λ rs. applied_in line ++ rs) stands.staged ∙ sym (recorded_split line)) all)
 
-  pub receipts_of : (marks : List Mark) (capacity due : ℕ) (core : Core) (log : Log D) → Keeps marks capacity due core log → IsHonest tells
-      → KeepsReceipts core.state.settings.pieces reads images images_since moment (woven marks (core.records ++ core.staged)) log.disk
+  pub receipts_of : (marks : List Mark) (capacity due : ℕ) (core : Core) (log : Log D) → Keeps marks capacity due core log → IsHonest g.TELLS
+      → KeepsReceipts core.state.settings.pieces g (woven marks (core.records ++ core.staged)) log.disk
   receipts_of marks capacity due core log kept honest =
-      subst (λ n. KeepsReceipts n reads images images_since moment (woven marks (core.records ++ core.staged)) log.disk) kept.pieces
-      (receipts_kept reads images images_since moment (woven marks (core.records ++ core.staged)) log (lawful_of marks capacity due core log kept) (kept.synced honest))
+      subst (λ n. KeepsReceipts n g (woven marks (core.records ++ core.staged)) log.disk) kept.pieces
+      (receipts_kept g (woven marks (core.records ++ core.staged)) log (lawful_of marks capacity due core log kept) (kept.synced honest))

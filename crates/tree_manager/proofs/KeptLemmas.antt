@@ -4,6 +4,7 @@ use Rattle.std.specs.Prelude.{Bool, true, false, not, Some, IfSome}
 use Rattle.std.specs.List.{AllByRecursion as Each}
 use Rattle.std.proofs.lemmas.Bool.{true≢false}
 use Rattle.std.proofs.lemmas.List.{append-nil}
+use Rattle.bench_disk.specs.declared.disk.Disk.{Ghosts}
 use Rattle.bench_disk.specs.Disk.{GoesOn, IsHonest, NothingPending}
 use Rattle.bench_disk.specs.Runs.{Leaves}
 use Rattle.shared_words.specs.Counts.{Rose}
@@ -70,9 +71,9 @@ each_rose line old new each rose = Each-weaker (λ e. faults_told e ≤ old) (λ
 
 -- ---- what a session keeps
 
-module _ {D : Type 0} (tells : Bool) (reads : D → List ℕ) (images : D → List ℕ → Type 0) (images_since : D → ℕ → List ℕ → Type 0) (moment faults : D → ℕ) where
+module _ {D : Type 0} (g : Ghosts D) where
   abbrev Kept : List Entry → List Mark → ℕ → ℕ → Core → Log D → Type 0
-  Kept line marks capacity due core log = IsSession tells reads images images_since moment faults line marks capacity due core log
+  Kept line marks capacity due core log = IsSession g line marks capacity due core log
 
   -- a lease, or a release
   quiet_at : (line : List Entry) (marks marks' : List Mark) (capacity capacity' due due' : ℕ) (m : Mark) (e : Entry) (core core' : Core) (log : Log D)
@@ -94,10 +95,10 @@ module _ {D : Type 0} (tells : Bool) (reads : D → List ℕ) (images : D → Li
         as_many = λ h. kept.as_many h ∙ sym (ap length y);
         owed = λ h. owed;
         room = λ h. room;
-        not_more = Each-append (λ e. faults_told e ≤ faults log.disk) line (e ∷ []) kept.not_more (omega (arith, no_faults), tt);
+        not_more = Each-append (λ e. faults_told e ≤ g.faults log.disk) line (e ∷ []) kept.not_more (omega (arith, no_faults), tt);
         broken = λ h. absurd (true≢false (sym h ∙ (same ∙ line_whole)));
         ended = λ h. absurd (true≢false (sym h ∙ (same ∙ line_whole)));
-        synced = λ honest. synced_quiet reads images images_since moment line e log no_moment no_put quiet goes_on (kept.synced honest);
+        synced = λ honest. synced_quiet g line e log no_moment no_put quiet goes_on (kept.synced honest);
       }
 
   pub kept_quiet : (marks marks' : List Mark) (capacity capacity' due due' : ℕ) (m : Mark) (e : Entry) (core core' : Core) (log : Log D)
@@ -128,10 +129,10 @@ module _ {D : Type 0} (tells : Bool) (reads : D → List ℕ) (images : D → Li
         as_many = λ h. length-append log.staged (text ∷ []) ∙ omega (arith, kept.as_many h, length-append core.staged (r ∷ []));
         owed = λ h. owed;
         room = λ h. room;
-        not_more = Each-append (λ e. faults_told e ≤ faults log.disk) line (entry.Put r ∷ []) kept.not_more (omega arith, tt);
+        not_more = Each-append (λ e. faults_told e ≤ g.faults log.disk) line (entry.Put r ∷ []) kept.not_more (omega arith, tt);
         broken = λ h. absurd (true≢false (sym h ∙ (same ∙ line_whole)));
         ended = λ h. absurd (true≢false (sym h ∙ (same ∙ line_whole)));
-        synced = λ honest. synced_put reads images images_since moment line r text log line_whole (rw kept.pieces (is_text (recorded line))) (kept.synced honest);
+        synced = λ honest. synced_put g line r text log line_whole (rw kept.pieces (is_text (recorded line))) (kept.synced honest);
       }
 
   pub kept_put : (marks marks' : List Mark) (capacity capacity' due due' : ℕ) (core core' : Core) (r : BenchRecord) (text : List ℕ) (log log' : Log D)
@@ -147,17 +148,17 @@ module _ {D : Type 0} (tells : Bool) (reads : D → List ℕ) (images : D → Li
 
   -- a commit that is Ok
   acked_at : (line : List Entry) (marks marks' : List Mark) (capacity capacity' due due' : ℕ) (core core' : Core) (old new : Log D)
-      → Kept line marks capacity due core old → old.failed ≡ false → marks' ≡ marks ++ Acked (moment new.disk) ∷ [] → length marks' + due' ≤ capacity' → due' ≡ due - length old.staged
+      → Kept line marks capacity due core old → old.failed ≡ false → marks' ≡ marks ++ Acked (g.moment new.disk) ∷ [] → length marks' + due' ≤ capacity' → due' ≡ due - length old.staged
       → IsCommitted core core'
-      → new.pieces ≡ old.pieces → new.staged ≡ [] → new.failed ≡ false → new.count ≡ old.count + length old.staged → faults old.disk ≤ faults new.disk
-      → (IsHonest tells → (payloads : List (List ℕ)) → HasPayloads old.pieces (reads old.disk) payloads → HasPayloads old.pieces (reads new.disk) (payloads ++ old.staged))
-      → (IsHonest tells → NothingPending (reads new.disk) (images new.disk))
-      → (IsHonest tells → (payloads : List (List ℕ)) → HasPayloads old.pieces (reads old.disk) payloads → Leaves moment images_since old.disk new.disk (StandsBetween old.pieces payloads (payloads ++ old.staged)))
-      → (IsHonest tells → (t : ℕ) (low payloads : List (List ℕ)) → t ≤ moment old.disk → HasPayloads old.pieces (reads old.disk) payloads → StandsSince images_since old.disk t old.pieces low payloads → StandsSince images_since new.disk t old.pieces low (payloads ++ old.staged))
-      → (IsHonest tells → (payloads : List (List ℕ)) → HasPayloads old.pieces (reads new.disk) payloads → StandsSince images_since new.disk (moment new.disk) old.pieces payloads payloads)
-      → Kept (line ++ entry.Acked (moment new.disk) ∷ []) marks' capacity' due' core' new
+      → new.pieces ≡ old.pieces → new.staged ≡ [] → new.failed ≡ false → new.count ≡ old.count + length old.staged → g.faults old.disk ≤ g.faults new.disk
+      → (IsHonest g.TELLS → (payloads : List (List ℕ)) → HasPayloads old.pieces (g.reads old.disk) payloads → HasPayloads old.pieces (g.reads new.disk) (payloads ++ old.staged))
+      → (IsHonest g.TELLS → NothingPending (g.reads new.disk) (g.images new.disk))
+      → (IsHonest g.TELLS → (payloads : List (List ℕ)) → HasPayloads old.pieces (g.reads old.disk) payloads → Leaves g.moment g.images_since old.disk new.disk (StandsBetween old.pieces payloads (payloads ++ old.staged)))
+      → (IsHonest g.TELLS → (t : ℕ) (low payloads : List (List ℕ)) → t ≤ g.moment old.disk → HasPayloads old.pieces (g.reads old.disk) payloads → StandsSince g.images_since old.disk t old.pieces low payloads → StandsSince g.images_since new.disk t old.pieces low (payloads ++ old.staged))
+      → (IsHonest g.TELLS → (payloads : List (List ℕ)) → HasPayloads old.pieces (g.reads new.disk) payloads → StandsSince g.images_since new.disk (g.moment new.disk) old.pieces payloads payloads)
+      → Kept (line ++ entry.Acked (g.moment new.disk) ∷ []) marks' capacity' due' core' new
   acked_at line marks marks' capacity capacity' due due' core core' old new kept unfailed is room spent committed pieces none unbroken count later has settled crash stays acknowledged =
-      let e : Entry = entry.Acked (moment new.disk) in
+      let e : Entry = entry.Acked (g.moment new.disk) in
       let line_whole : is_failed line ≡ false = sym kept.failed ∙ unfailed in
       let same : is_failed (line ++ e ∷ []) ≡ is_failed line = any_push_not breaks line e refl in
       let grown = run_grown core.state core'.state committed.events committed.run in
@@ -166,7 +167,7 @@ module _ {D : Type 0} (tells : Bool) (reads : D → List ℕ) (images : D → Li
       let fewer : waiting_leases core'.state.leases.rows ≤ waiting_leases core.state.leases.rows =
       subst (λ rows. waiting_leases rows ≤ waiting_leases core.state.leases.rows) (sym committed.ended) (waiting_filter (λ row. not row.kept) core.state.leases.rows) in
       record {
-        filled = ap puts_marked is ∙ (puts_push marks (Acked (moment new.disk)) ∙ omega (arith, kept.filled, records, staged));
+        filled = ap puts_marked is ∙ (puts_push marks (Acked (g.moment new.disk)) ∙ omega (arith, kept.filled, records, staged));
         history = Follows (line ++ e ∷ []) core' line core e refl kept.history line_whole committed;
         grows = (core'.state.forest, subst (λ rs. GrowsWithAll core'.state.settings.pieces core'.state.forest rs core'.state.forest) (sym committed.staged) refl);
         failed = unbroken ∙ sym (same ∙ line_whole);
@@ -175,44 +176,44 @@ module _ {D : Type 0} (tells : Bool) (reads : D → List ℕ) (images : D → Li
         as_many = λ h. ap length none ∙ sym staged;
         owed = λ h. omega (arith, fewer, staged, spent, kept.owed unfailed, kept.as_many unfailed);
         room = λ h. room;
-        not_more = Each-append (λ e. faults_told e ≤ faults new.disk) line (e ∷ []) (Each-weaker (λ e. faults_told e ≤ faults old.disk) (λ e. faults_told e ≤ faults new.disk) (λ e h. omega (arith, h, later)) line kept.not_more) (omega arith, tt);
+        not_more = Each-append (λ e. faults_told e ≤ g.faults new.disk) line (e ∷ []) (Each-weaker (λ e. faults_told e ≤ g.faults old.disk) (λ e. faults_told e ≤ g.faults new.disk) (λ e h. omega (arith, h, later)) line kept.not_more) (omega arith, tt);
         broken = λ h. absurd (true≢false (sym h ∙ (same ∙ line_whole)));
         ended = λ h. absurd (true≢false (sym h ∙ (same ∙ line_whole)));
-        synced = λ honest. synced_acked reads images images_since moment line old new line_whole pieces none unbroken (has honest) (settled honest) (crash honest) (stays honest) (acknowledged honest) (kept.synced honest);
+        synced = λ honest. synced_acked g line old new line_whole pieces none unbroken (has honest) (settled honest) (crash honest) (stays honest) (acknowledged honest) (kept.synced honest);
       }
 
   pub kept_acked : (marks marks' : List Mark) (capacity capacity' due due' : ℕ) (core core' : Core) (old new : Log D) (t : ℕ)
-      → Kept (woven marks (core.records ++ core.staged)) marks capacity due core old → old.failed ≡ false → marks' ≡ marks ++ Acked t ∷ [] → t ≡ moment new.disk → length marks' + due' ≤ capacity' → due' ≡ due - length old.staged
+      → Kept (woven marks (core.records ++ core.staged)) marks capacity due core old → old.failed ≡ false → marks' ≡ marks ++ Acked t ∷ [] → t ≡ g.moment new.disk → length marks' + due' ≤ capacity' → due' ≡ due - length old.staged
       → IsCommitted core core'
-      → new.pieces ≡ old.pieces → new.staged ≡ [] → new.failed ≡ false → new.count ≡ old.count + length old.staged → faults old.disk ≤ faults new.disk
-      → (IsHonest tells → (payloads : List (List ℕ)) → HasPayloads old.pieces (reads old.disk) payloads → HasPayloads old.pieces (reads new.disk) (payloads ++ old.staged))
-      → (IsHonest tells → NothingPending (reads new.disk) (images new.disk))
-      → (IsHonest tells → (payloads : List (List ℕ)) → HasPayloads old.pieces (reads old.disk) payloads → Leaves moment images_since old.disk new.disk (StandsBetween old.pieces payloads (payloads ++ old.staged)))
-      → (IsHonest tells → (s : ℕ) (low payloads : List (List ℕ)) → s ≤ moment old.disk → HasPayloads old.pieces (reads old.disk) payloads → StandsSince images_since old.disk s old.pieces low payloads → StandsSince images_since new.disk s old.pieces low (payloads ++ old.staged))
-      → (IsHonest tells → (payloads : List (List ℕ)) → HasPayloads old.pieces (reads new.disk) payloads → StandsSince images_since new.disk t old.pieces payloads payloads)
+      → new.pieces ≡ old.pieces → new.staged ≡ [] → new.failed ≡ false → new.count ≡ old.count + length old.staged → g.faults old.disk ≤ g.faults new.disk
+      → (IsHonest g.TELLS → (payloads : List (List ℕ)) → HasPayloads old.pieces (g.reads old.disk) payloads → HasPayloads old.pieces (g.reads new.disk) (payloads ++ old.staged))
+      → (IsHonest g.TELLS → NothingPending (g.reads new.disk) (g.images new.disk))
+      → (IsHonest g.TELLS → (payloads : List (List ℕ)) → HasPayloads old.pieces (g.reads old.disk) payloads → Leaves g.moment g.images_since old.disk new.disk (StandsBetween old.pieces payloads (payloads ++ old.staged)))
+      → (IsHonest g.TELLS → (s : ℕ) (low payloads : List (List ℕ)) → s ≤ g.moment old.disk → HasPayloads old.pieces (g.reads old.disk) payloads → StandsSince g.images_since old.disk s old.pieces low payloads → StandsSince g.images_since new.disk s old.pieces low (payloads ++ old.staged))
+      → (IsHonest g.TELLS → (payloads : List (List ℕ)) → HasPayloads old.pieces (g.reads new.disk) payloads → StandsSince g.images_since new.disk t old.pieces payloads payloads)
       → Kept (woven marks' (core'.records ++ core'.staged)) marks' capacity' due' core' new
   kept_acked marks marks' capacity capacity' due due' core core' old new t kept unfailed is now room spent committed pieces none unbroken count later has settled crash stays acknowledged =
-      let is' : marks' ≡ marks ++ Acked (moment new.disk) ∷ [] = is ∙ ap (λ m. marks ++ Acked m ∷ []) now in
+      let is' : marks' ≡ marks ++ Acked (g.moment new.disk) ∷ [] = is ∙ ap (λ m. marks ++ Acked m ∷ []) now in
       subst (λ line. Kept line marks' capacity' due' core' new)
-      (sym (line_other marks marks' core core' (Acked (moment new.disk)) (entry.Acked (moment new.disk)) kept.filled is' refl refl (rw (committed.records, committed.staged) (append-nil (core.records ++ core.staged)))))
+      (sym (line_other marks marks' core core' (Acked (g.moment new.disk)) (entry.Acked (g.moment new.disk)) kept.filled is' refl refl (rw (committed.records, committed.staged) (append-nil (core.records ++ core.staged)))))
       (acked_at (woven marks (core.records ++ core.staged)) marks marks' capacity capacity' due due' core core' old new kept unfailed is' room spent committed pieces none unbroken count later has settled crash stays
-      (λ honest payloads h. subst (λ m. StandsSince images_since new.disk m old.pieces payloads payloads) now (acknowledged honest payloads h)))
+      (λ honest payloads h. subst (λ m. StandsSince g.images_since new.disk m old.pieces payloads payloads) now (acknowledged honest payloads h)))
 
   -- a commit that met a fault
   broken_at : (line : List Entry) (marks marks' : List Mark) (capacity capacity' due : ℕ) (core : Core) (old new : Log D)
-      → Kept line marks capacity due core old → old.failed ≡ false → marks' ≡ marks ++ Broken (faults new.disk) ∷ []
-      → new.pieces ≡ old.pieces → new.failed ≡ true → Rose (faults old.disk) (faults new.disk) → faults old.disk ≤ faults new.disk
-      → (IsHonest tells → (payloads : List (List ℕ)) → HasPayloads old.pieces (reads old.disk) payloads → Leaves moment images_since old.disk new.disk (StandsBetween old.pieces payloads (payloads ++ old.staged)))
-      → (IsHonest tells → (t : ℕ) (low payloads : List (List ℕ)) → t ≤ moment old.disk → HasPayloads old.pieces (reads old.disk) payloads → StandsSince images_since old.disk t old.pieces low payloads → StandsSince images_since new.disk t old.pieces low (payloads ++ old.staged))
-      → Kept (line ++ entry.Broken (faults new.disk) ∷ []) marks' capacity' due core new
+      → Kept line marks capacity due core old → old.failed ≡ false → marks' ≡ marks ++ Broken (g.faults new.disk) ∷ []
+      → new.pieces ≡ old.pieces → new.failed ≡ true → Rose (g.faults old.disk) (g.faults new.disk) → g.faults old.disk ≤ g.faults new.disk
+      → (IsHonest g.TELLS → (payloads : List (List ℕ)) → HasPayloads old.pieces (g.reads old.disk) payloads → Leaves g.moment g.images_since old.disk new.disk (StandsBetween old.pieces payloads (payloads ++ old.staged)))
+      → (IsHonest g.TELLS → (t : ℕ) (low payloads : List (List ℕ)) → t ≤ g.moment old.disk → HasPayloads old.pieces (g.reads old.disk) payloads → StandsSince g.images_since old.disk t old.pieces low payloads → StandsSince g.images_since new.disk t old.pieces low (payloads ++ old.staged))
+      → Kept (line ++ entry.Broken (g.faults new.disk) ∷ []) marks' capacity' due core new
   broken_at line marks marks' capacity capacity' due core old new kept unfailed is pieces failed rose later crash stays =
-      let e : Entry = entry.Broken (faults new.disk) in
+      let e : Entry = entry.Broken (g.faults new.disk) in
       let line_whole : is_failed line ≡ false = sym kept.failed ∙ unfailed in
       let stands = (history_stands line core kept.history).0 in
       let a : Attachment = stands.state.attachment in
       let never : new.failed ≡ false → ⊥ = λ h. true≢false (sym failed ∙ h) in
       record {
-        filled = ap puts_marked is ∙ (puts_push marks (Broken (faults new.disk)) ∙ omega (arith, kept.filled));
+        filled = ap puts_marked is ∙ (puts_push marks (Broken (g.faults new.disk)) ∙ omega (arith, kept.filled));
         history = Follows (line ++ e ∷ []) core line core e refl kept.history line_whole refl;
         grows = kept.grows;
         failed = failed ∙ sym (any_push_yes breaks line e refl);
@@ -221,30 +222,30 @@ module _ {D : Type 0} (tells : Bool) (reads : D → List ℕ) (images : D → Li
         as_many = λ h. absurd (never h);
         owed = λ h. absurd (never h);
         room = λ h. absurd (never h);
-        not_more = Each-append (λ e. faults_told e ≤ faults new.disk) line (e ∷ []) (Each-weaker (λ e. faults_told e ≤ faults old.disk) (λ e. faults_told e ≤ faults new.disk) (λ e h. omega (arith, h, later)) line kept.not_more) (omega arith, tt);
-        broken = λ h. subst (λ found. IfSome found (λ (b : Attachment). Rose b.faults (faults new.disk))) (sym (attachment_push line e a stands.state.attached))
-            (rose_since a.faults (faults old.disk) (faults new.disk) (attached_faults (faults old.disk) line a kept.not_more stands.state.attached) rose);
+        not_more = Each-append (λ e. faults_told e ≤ g.faults new.disk) line (e ∷ []) (Each-weaker (λ e. faults_told e ≤ g.faults old.disk) (λ e. faults_told e ≤ g.faults new.disk) (λ e h. omega (arith, h, later)) line kept.not_more) (omega arith, tt);
+        broken = λ h. subst (λ found. IfSome found (λ (b : Attachment). Rose b.faults (g.faults new.disk))) (sym (attachment_push line e a stands.state.attached))
+            (rose_since a.faults (g.faults old.disk) (g.faults new.disk) (attached_faults (g.faults old.disk) line a kept.not_more stands.state.attached) rose);
         ended = λ h. record {
           before = line;
-          faults = faults new.disk;
+          faults = g.faults new.disk;
           ends = refl;
           attachment = a;
           attached = attachment_push line e a stands.state.attached;
-          rose = rose_since a.faults (faults old.disk) (faults new.disk) (attached_faults (faults old.disk) line a kept.not_more stands.state.attached) rose;
+          rose = rose_since a.faults (g.faults old.disk) (g.faults new.disk) (attached_faults (g.faults old.disk) line a kept.not_more stands.state.attached) rose;
         };
-        synced = λ honest. synced_broken reads images images_since moment line old new (faults new.disk) line_whole pieces failed (crash honest) (stays honest) (kept.synced honest);
+        synced = λ honest. synced_broken g line old new (g.faults new.disk) line_whole pieces failed (crash honest) (stays honest) (kept.synced honest);
       }
 
   pub kept_broken : (marks marks' : List Mark) (capacity capacity' due : ℕ) (core : Core) (old new : Log D) (count : ℕ)
-      → Kept (woven marks (core.records ++ core.staged)) marks capacity due core old → old.failed ≡ false → marks' ≡ marks ++ Broken count ∷ [] → count ≡ faults new.disk
-      → new.pieces ≡ old.pieces → new.failed ≡ true → Rose (faults old.disk) (faults new.disk) → faults old.disk ≤ faults new.disk
-      → (IsHonest tells → (payloads : List (List ℕ)) → HasPayloads old.pieces (reads old.disk) payloads → Leaves moment images_since old.disk new.disk (StandsBetween old.pieces payloads (payloads ++ old.staged)))
-      → (IsHonest tells → (s : ℕ) (low payloads : List (List ℕ)) → s ≤ moment old.disk → HasPayloads old.pieces (reads old.disk) payloads → StandsSince images_since old.disk s old.pieces low payloads → StandsSince images_since new.disk s old.pieces low (payloads ++ old.staged))
+      → Kept (woven marks (core.records ++ core.staged)) marks capacity due core old → old.failed ≡ false → marks' ≡ marks ++ Broken count ∷ [] → count ≡ g.faults new.disk
+      → new.pieces ≡ old.pieces → new.failed ≡ true → Rose (g.faults old.disk) (g.faults new.disk) → g.faults old.disk ≤ g.faults new.disk
+      → (IsHonest g.TELLS → (payloads : List (List ℕ)) → HasPayloads old.pieces (g.reads old.disk) payloads → Leaves g.moment g.images_since old.disk new.disk (StandsBetween old.pieces payloads (payloads ++ old.staged)))
+      → (IsHonest g.TELLS → (s : ℕ) (low payloads : List (List ℕ)) → s ≤ g.moment old.disk → HasPayloads old.pieces (g.reads old.disk) payloads → StandsSince g.images_since old.disk s old.pieces low payloads → StandsSince g.images_since new.disk s old.pieces low (payloads ++ old.staged))
       → Kept (woven marks' (core.records ++ core.staged)) marks' capacity' due core new
   kept_broken marks marks' capacity capacity' due core old new count kept unfailed is now pieces failed rose later crash stays =
-      let is' : marks' ≡ marks ++ Broken (faults new.disk) ∷ [] = is ∙ ap (λ m. marks ++ Broken m ∷ []) now in
+      let is' : marks' ≡ marks ++ Broken (g.faults new.disk) ∷ [] = is ∙ ap (λ m. marks ++ Broken m ∷ []) now in
       subst (λ line. Kept line marks' capacity' due core new)
-      (sym (line_other marks marks' core core (Broken (faults new.disk)) (entry.Broken (faults new.disk)) kept.filled is' refl refl refl))
+      (sym (line_other marks marks' core core (Broken (g.faults new.disk)) (entry.Broken (g.faults new.disk)) kept.filled is' refl refl refl))
       (broken_at (woven marks (core.records ++ core.staged)) marks marks' capacity capacity' due core old new kept unfailed is' pieces failed rose later crash stays)
 
   -- the number of its records
@@ -256,8 +257,8 @@ module _ {D : Type 0} (tells : Bool) (reads : D → List ℕ) (images : D → Li
 
   -- what a crash might have left goes on
   pub goes_on : (line : List Entry) (marks : List Mark) (capacity due : ℕ) (core : Core) (old new : Log D) → Kept line marks capacity due core old → old.failed ≡ false
-      → (IsHonest tells → (payloads : List (List ℕ)) → HasPayloads old.pieces (reads old.disk) payloads → Leaves moment images_since old.disk new.disk (StandsBetween old.pieces payloads (payloads ++ old.staged)))
-      → IsHonest tells → GoesOn (moment old.disk) (images_since old.disk) (images_since new.disk)
+      → (IsHonest g.TELLS → (payloads : List (List ℕ)) → HasPayloads old.pieces (g.reads old.disk) payloads → Leaves g.moment g.images_since old.disk new.disk (StandsBetween old.pieces payloads (payloads ++ old.staged)))
+      → IsHonest g.TELLS → GoesOn (g.moment old.disk) (g.images_since old.disk) (g.images_since new.disk)
   goes_on line marks capacity due core old new kept unfailed crash honest =
       let synced = kept.synced honest in
       (crash honest synced.payloads (synced.at_rest (sym kept.failed ∙ unfailed)).0).since

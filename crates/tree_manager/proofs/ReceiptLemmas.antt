@@ -4,6 +4,7 @@ use Rattle.std.specs.Prelude.{Bool, true, false, cond}
 use Rattle.std.specs.List.{list_any, AllByRecursion as Each}
 use Rattle.std.proofs.lemmas.List.{append-nil, take-append-drop, take_at, take-append-le, length-take}
 use Rattle.std.proofs.lemmas.Bool.{cases_Bool, true≢false}
+use Rattle.bench_disk.specs.declared.disk.Disk.{Ghosts}
 use Rattle.bench_disk.specs.Disk.{NothingPending}
 use Rattle.bench_disk.specs.Runs.{Leaves}
 use Rattle.disk_journal.specs.Format.{HasPayloads, IsPrefixOf, StandsBetween}
@@ -125,12 +126,12 @@ acks_of_puts before (r ∷ rs) = acks_of_puts (before ++ r ∷ []) rs
 
 -- ---- one entry more
 
-module _ {D : Type 0} (reads : D → List ℕ) (images : D → List ℕ → Type 0) (images_since : D → ℕ → List ℕ → Type 0) (moment : D → ℕ) where
+module _ {D : Type 0} (g : Ghosts D) where
   abbrev Synced : List Entry → Log D → Type 0
-  Synced line log = IsSynced reads images images_since moment line log
+  Synced line log = IsSynced g line log
 
   abbrev HasAcks : ℕ → D → List (List ℕ) → List (List ℕ) → List Acknowledgement → Type 0
-  HasAcks pieces disk payloads high = Each (λ (ack : Acknowledgement). LeavesPayloads images_since moment pieces disk (take (length ack.records) payloads) high ack.moment)
+  HasAcks pieces disk payloads high = Each (λ (ack : Acknowledgement). LeavesPayloads g pieces disk (take (length ack.records) payloads) high ack.moment)
 
   -- an entry that is no matter to the journal: a lease or a release
   pub synced_quiet : (line : List Entry) (e : Entry) (log : Log D) → moment_acknowledged e ≡ [] → record_put e ≡ [] → acknowledges e ≡ false → breaks e ≡ false → Synced line log → Synced (line ++ e ∷ []) log
@@ -161,11 +162,11 @@ module _ {D : Type 0} (reads : D → List ℕ) (images : D → List ℕ → Type
       }
 
   -- what `kept` of `commit` says of the acknowledgements so far
-  acks_kept : (pieces : ℕ) (old new : D) (payloads more : List (List ℕ)) (list : List Acknowledgement) → moment old ≤ moment new
-      → ((t : ℕ) (low : List (List ℕ)) → t ≤ moment old → StandsSince images_since old t pieces low payloads → StandsSince images_since new t pieces low (payloads ++ more))
+  acks_kept : (pieces : ℕ) (old new : D) (payloads more : List (List ℕ)) (list : List Acknowledgement) → g.moment old ≤ g.moment new
+      → ((t : ℕ) (low : List (List ℕ)) → t ≤ g.moment old → StandsSince g.images_since old t pieces low payloads → StandsSince g.images_since new t pieces low (payloads ++ more))
       → HasAcks pieces old payloads payloads list → HasAcks pieces new payloads (payloads ++ more) list
   acks_kept pieces old new payloads more list later kept since =
-      Each-weaker (λ (ack : Acknowledgement). LeavesPayloads images_since moment pieces old (take (length ack.records) payloads) payloads ack.moment) (λ (ack : Acknowledgement). LeavesPayloads images_since moment pieces new (take (length ack.records) payloads) (payloads ++ more) ack.moment)
+      Each-weaker (λ (ack : Acknowledgement). LeavesPayloads g pieces old (take (length ack.records) payloads) payloads ack.moment) (λ (ack : Acknowledgement). LeavesPayloads g pieces new (take (length ack.records) payloads) (payloads ++ more) ack.moment)
       (λ ack h. record { not_later = omega (arith, later, h.not_later); stands = kept ack.moment (take (length ack.records) payloads) h.not_later h.stands }) list since
 
   since_when_whole : (line : List Entry) (log : Log D) (s : Synced line log) → is_failed line ≡ false → HasAcks log.pieces log.disk s.payloads s.payloads (acknowledgements line)
@@ -173,22 +174,22 @@ module _ {D : Type 0} (reads : D → List ℕ) (images : D → List ℕ → Type
 
   -- a commit that is Ok
   pub synced_acked : (line : List Entry) (old new : Log D) → is_failed line ≡ false → new.pieces ≡ old.pieces → new.staged ≡ [] → new.failed ≡ false
-      → ((payloads : List (List ℕ)) → HasPayloads old.pieces (reads old.disk) payloads → HasPayloads old.pieces (reads new.disk) (payloads ++ old.staged))
-      → NothingPending (reads new.disk) (images new.disk)
-      → ((payloads : List (List ℕ)) → HasPayloads old.pieces (reads old.disk) payloads → Leaves moment images_since old.disk new.disk (StandsBetween old.pieces payloads (payloads ++ old.staged)))
-      → ((t : ℕ) (low payloads : List (List ℕ)) → t ≤ moment old.disk → HasPayloads old.pieces (reads old.disk) payloads → StandsSince images_since old.disk t old.pieces low payloads → StandsSince images_since new.disk t old.pieces low (payloads ++ old.staged))
-      → ((payloads : List (List ℕ)) → HasPayloads old.pieces (reads new.disk) payloads → StandsSince images_since new.disk (moment new.disk) old.pieces payloads payloads)
-      → Synced line old → Synced (line ++ Acked (moment new.disk) ∷ []) new
+      → ((payloads : List (List ℕ)) → HasPayloads old.pieces (g.reads old.disk) payloads → HasPayloads old.pieces (g.reads new.disk) (payloads ++ old.staged))
+      → NothingPending (g.reads new.disk) (g.images new.disk)
+      → ((payloads : List (List ℕ)) → HasPayloads old.pieces (g.reads old.disk) payloads → Leaves g.moment g.images_since old.disk new.disk (StandsBetween old.pieces payloads (payloads ++ old.staged)))
+      → ((t : ℕ) (low payloads : List (List ℕ)) → t ≤ g.moment old.disk → HasPayloads old.pieces (g.reads old.disk) payloads → StandsSince g.images_since old.disk t old.pieces low payloads → StandsSince g.images_since new.disk t old.pieces low (payloads ++ old.staged))
+      → ((payloads : List (List ℕ)) → HasPayloads old.pieces (g.reads new.disk) payloads → StandsSince g.images_since new.disk (g.moment new.disk) old.pieces payloads payloads)
+      → Synced line old → Synced (line ++ Acked (g.moment new.disk) ∷ []) new
   synced_acked line old new unfailed pieces none whole has settled crash kept acknowledged s =
-      let e = Acked (moment new.disk) in
+      let e = Acked (g.moment new.disk) in
       let rest = s.at_rest unfailed in
       let same : is_failed (line ++ e ∷ []) ≡ false = any_push_not breaks line e refl ∙ unfailed in
       let all : List (List ℕ) = s.payloads ++ s.more in
-      let has_all : HasPayloads old.pieces (reads new.disk) all = subst (λ m. HasPayloads old.pieces (reads new.disk) (s.payloads ++ m)) rest.1.1 (has s.payloads rest.0) in
+      let has_all : HasPayloads old.pieces (g.reads new.disk) all = subst (λ m. HasPayloads old.pieces (g.reads new.disk) (s.payloads ++ m)) rest.1.1 (has s.payloads rest.0) in
       let spelled : SpellsRecords old.pieces [] (recorded line) all = rw (recorded_split line) (spell_append old.pieces [] (applied_in line) (unapplied_in line) s.payloads s.more s.spelled s.staged) in
       let earlier : HasAcks old.pieces new.disk s.payloads all (acknowledgements line) =
       acks_kept old.pieces old.disk new.disk s.payloads s.more (acknowledgements line) (crash s.payloads rest.0).later
-      (λ t low le h. subst (λ m. StandsSince images_since new.disk t old.pieces low (s.payloads ++ m)) rest.1.1 (kept t low s.payloads le rest.0 h)) (since_when_whole line old s unfailed) in
+      (λ t low le h. subst (λ m. StandsSince g.images_since new.disk t old.pieces low (s.payloads ++ m)) rest.1.1 (kept t low s.payloads le rest.0 h)) (since_when_whole line old s unfailed) in
       record {
         payloads = all;
         more = [];
@@ -196,20 +197,20 @@ module _ {D : Type 0} (reads : D → List ℕ) (images : D → List ℕ → Type
         staged = rw (staged_none line e refl) tt;
         since =
             rw (same, acks_push [] line e, pieces)
-            (Each-append (λ (ack : Acknowledgement). LeavesPayloads images_since moment old.pieces new.disk (take (length ack.records) all) all ack.moment) (acknowledgements line) (at_moment (recorded line) (moment new.disk) ∷ [])
-            (Each-weaker (λ (ack : Acknowledgement). LeavesPayloads images_since moment old.pieces new.disk (take (length ack.records) s.payloads) all ack.moment × IsPrefixOf ack.records (applied_in line)) (λ (ack : Acknowledgement). LeavesPayloads images_since moment old.pieces new.disk (take (length ack.records) all) all ack.moment)
+            (Each-append (λ (ack : Acknowledgement). LeavesPayloads g old.pieces new.disk (take (length ack.records) all) all ack.moment) (acknowledgements line) (at_moment (recorded line) (g.moment new.disk) ∷ [])
+            (Each-weaker (λ (ack : Acknowledgement). LeavesPayloads g old.pieces new.disk (take (length ack.records) s.payloads) all ack.moment × IsPrefixOf ack.records (applied_in line)) (λ (ack : Acknowledgement). LeavesPayloads g old.pieces new.disk (take (length ack.records) all) all ack.moment)
             (λ ack h.
             let short : length ack.records ≤ length s.payloads = omega (arith, prefix_length ack.records (applied_in line) h.1, spell_length old.pieces [] (applied_in line) s.payloads s.spelled) in
             record { not_later = h.0.not_later; stands = rw (take-append-le (length ack.records) s.payloads s.more short) h.0.stands })
-            (acknowledgements line) (Each-both (λ (ack : Acknowledgement). LeavesPayloads images_since moment old.pieces new.disk (take (length ack.records) s.payloads) all ack.moment) (λ (ack : Acknowledgement). IsPrefixOf ack.records (applied_in line)) (acknowledgements line) earlier (acks_applied [] line)))
+            (acknowledgements line) (Each-both (λ (ack : Acknowledgement). LeavesPayloads g old.pieces new.disk (take (length ack.records) s.payloads) all ack.moment) (λ (ack : Acknowledgement). IsPrefixOf ack.records (applied_in line)) (acknowledgements line) earlier (acks_applied [] line)))
             (record { not_later = omega arith; stands = rw (take_whole all (length (recorded line)) (spell_length old.pieces [] (recorded line) all spelled)) (acknowledged all has_all) }, tt));
         at_rest = λ h. (rw pieces has_all, (settled, none));
       }
 
   -- a commit that met a fault
   pub synced_broken : (line : List Entry) (old new : Log D) (faults : ℕ) → is_failed line ≡ false → new.pieces ≡ old.pieces → new.failed ≡ true
-      → ((payloads : List (List ℕ)) → HasPayloads old.pieces (reads old.disk) payloads → Leaves moment images_since old.disk new.disk (StandsBetween old.pieces payloads (payloads ++ old.staged)))
-      → ((t : ℕ) (low payloads : List (List ℕ)) → t ≤ moment old.disk → HasPayloads old.pieces (reads old.disk) payloads → StandsSince images_since old.disk t old.pieces low payloads → StandsSince images_since new.disk t old.pieces low (payloads ++ old.staged))
+      → ((payloads : List (List ℕ)) → HasPayloads old.pieces (g.reads old.disk) payloads → Leaves g.moment g.images_since old.disk new.disk (StandsBetween old.pieces payloads (payloads ++ old.staged)))
+      → ((t : ℕ) (low payloads : List (List ℕ)) → t ≤ g.moment old.disk → HasPayloads old.pieces (g.reads old.disk) payloads → StandsSince g.images_since old.disk t old.pieces low payloads → StandsSince g.images_since new.disk t old.pieces low (payloads ++ old.staged))
       → Synced line old → Synced (line ++ Broken faults ∷ []) new
   synced_broken line old new faults unfailed pieces failed crash kept s =
       let e = Broken faults in
@@ -223,13 +224,13 @@ module _ {D : Type 0} (reads : D → List ℕ) (images : D → List ℕ → Type
         since =
             rw (broken, acks_quiet line e refl, pieces)
             (acks_kept old.pieces old.disk new.disk s.payloads s.more (acknowledgements line) (crash s.payloads rest.0).later
-            (λ t low le h. subst (λ m. StandsSince images_since new.disk t old.pieces low (s.payloads ++ m)) rest.1.1 (kept t low s.payloads le rest.0 h)) (since_when_whole line old s unfailed));
+            (λ t low le h. subst (λ m. StandsSince g.images_since new.disk t old.pieces low (s.payloads ++ m)) rest.1.1 (kept t low s.payloads le rest.0 h)) (since_when_whole line old s unfailed));
         at_rest = λ h. absurd (true≢false (sym broken ∙ h));
       }
 
   -- the beginning: what `attach` says, and that the journal was opened no later than now
   pub synced_begun : (rs : List BenchRecord) (payloads : List (List ℕ)) (a : Attachment) (log : Log D) → SpellsRecords log.pieces [] rs payloads → log.staged ≡ [] → log.failed ≡ false
-      → a.opened ≤ moment log.disk → HasPayloads log.pieces (reads log.disk) payloads → NothingPending (reads log.disk) (images log.disk) → StandsSince images_since log.disk a.opened log.pieces payloads payloads
+      → a.opened ≤ g.moment log.disk → HasPayloads log.pieces (g.reads log.disk) payloads → NothingPending (g.reads log.disk) (g.images log.disk) → StandsSince g.images_since log.disk a.opened log.pieces payloads payloads
       → Synced (map Put rs ++ Attached a ∷ []) log
   synced_begun rs payloads a log spelled none whole later has settled stands =
       let e = Attached a in
@@ -281,8 +282,8 @@ stands_reads k low high ps file spelled front lawful stands =
       below = (drop n high, split);
     }
 
-module _ {D : Type 0} (reads : D → List ℕ) (images : D → List ℕ → Type 0) (images_since : D → ℕ → List ℕ → Type 0) (moment : D → ℕ) where
-  reads_at : (line : List Entry) (log : Log D) → AreLawfulInTurn log.pieces (recorded line) → (s : IsSynced reads images images_since moment line log)
+module _ {D : Type 0} (g : Ghosts D) where
+  reads_at : (line : List Entry) (log : Log D) → AreLawfulInTurn log.pieces (recorded line) → (s : IsSynced g line log)
       → (failed : Bool) (low : List BenchRecord) (image : List ℕ) → IsPrefixOf low (applied_in line)
       → StandsBetween log.pieces (take (length low) s.payloads) (cond failed (s.payloads ++ s.more) s.payloads) image
       → ReadsBetween log.pieces low (cond failed (recorded line) (applied_in line)) image
@@ -297,17 +298,17 @@ module _ {D : Type 0} (reads : D → List ℕ) (images : D → List ℕ → Type
       (lawful_first log.pieces (applied_in line) (unapplied_in line) (subst (AreLawfulInTurn log.pieces) (recorded_split line) lawful)) stands
 
   -- the session's receipts
-  pub receipts_kept : (line : List Entry) (log : Log D) → AreLawfulInTurn log.pieces (recorded line) → IsSynced reads images images_since moment line log
-      → KeepsReceipts log.pieces reads images images_since moment line log.disk
+  pub receipts_kept : (line : List Entry) (log : Log D) → AreLawfulInTurn log.pieces (recorded line) → IsSynced g line log
+      → KeepsReceipts log.pieces g line log.disk
   receipts_kept line log lawful s = record {
-    moments = Each-weaker (λ (ack : Acknowledgement). LeavesPayloads images_since moment log.pieces log.disk (take (length ack.records) s.payloads) (cond (is_failed line) (s.payloads ++ s.more) s.payloads) ack.moment)
-        (λ (ack : Acknowledgement). ack.moment ≤ moment log.disk) (λ ack h. h.not_later) (acknowledgements line) s.since;
+    moments = Each-weaker (λ (ack : Acknowledgement). LeavesPayloads g log.pieces log.disk (take (length ack.records) s.payloads) (cond (is_failed line) (s.payloads ++ s.more) s.payloads) ack.moment)
+        (λ (ack : Acknowledgement). ack.moment ≤ g.moment log.disk) (λ ack h. h.not_later) (acknowledgements line) s.since;
     since =
-        Each-weaker (λ (ack : Acknowledgement). LeavesPayloads images_since moment log.pieces log.disk (take (length ack.records) s.payloads) (cond (is_failed line) (s.payloads ++ s.more) s.payloads) ack.moment × IsPrefixOf ack.records (applied_in line))
-        (λ (ack : Acknowledgement). (image : List ℕ) → images_since log.disk ack.moment image → ReadsBetween log.pieces ack.records (most_left line) image)
+        Each-weaker (λ (ack : Acknowledgement). LeavesPayloads g log.pieces log.disk (take (length ack.records) s.payloads) (cond (is_failed line) (s.payloads ++ s.more) s.payloads) ack.moment × IsPrefixOf ack.records (applied_in line))
+        (λ (ack : Acknowledgement). (image : List ℕ) → g.images_since log.disk ack.moment image → ReadsBetween log.pieces ack.records (most_left line) image)
         (λ ack h image there. reads_at line log lawful s (is_failed line) ack.records image h.1 (h.0.stands image there))
         (acknowledgements line)
-        (Each-both (λ (ack : Acknowledgement). LeavesPayloads images_since moment log.pieces log.disk (take (length ack.records) s.payloads) (cond (is_failed line) (s.payloads ++ s.more) s.payloads) ack.moment)
+        (Each-both (λ (ack : Acknowledgement). LeavesPayloads g log.pieces log.disk (take (length ack.records) s.payloads) (cond (is_failed line) (s.payloads ++ s.more) s.payloads) ack.moment)
         (λ (ack : Acknowledgement). IsPrefixOf ack.records (applied_in line)) (acknowledgements line) s.since (acks_applied [] line));
     settled = λ h. (s.at_rest h).1.0;
   }

@@ -6,6 +6,7 @@ use Rattle.std.specs.List.{AllByRecursion as Each}
 use Rattle.std.proofs.Math.Seq.{split_at}
 use Rattle.std.proofs.lemmas.Bool.{true≢false}
 use Rattle.std.proofs.lemmas.List.{map_more, map-append, append-nil}
+use Rattle.bench_disk.specs.declared.disk.Disk.{Ghosts}
 use Rattle.bench_disk.specs.Disk.{IsHonest, NothingPending}
 use Rattle.disk_journal.specs.declared.payload.Payload.{Payload}
 use Rattle.disk_journal.specs.declared.refusal.JournalRefusal.{JournalRefusal}
@@ -224,16 +225,16 @@ no_faults : (n : ℕ) (rs : List BenchRecord) → Each (λ e. faults_told e ≤ 
 no_faults n [] = tt
 no_faults n (r ∷ rs) = (omega arith, no_faults n rs)
 
-module _ {D : Type 0} (tells : Bool) (reads : D → List ℕ) (images : D → List ℕ → Type 0) (images_since : D → ℕ → List ℕ → Type 0) (moment faults : D → ℕ) where
+module _ {D : Type 0} (g : Ghosts D) where
   pub kept_begun : (rs : List BenchRecord) (marks : List Mark) (capacity : ℕ) (core : Core) (log : Log D) (a : Attachment) (payloads : List (List ℕ))
-      → marks ≡ map (λ _. Put) rs ++ mark.Attached a ∷ [] → IsNewCore rs a core → SpellsRecords log.pieces [] rs payloads → log.pieces ≡ a.pieces → log.staged ≡ [] → log.failed ≡ false → log.count ≡ length payloads → a.faults ≡ faults log.disk → length marks ≤ capacity
-      → (IsHonest tells → (a.opened ≤ moment log.disk) × (HasPayloads log.pieces (reads log.disk) payloads × (NothingPending (reads log.disk) (images log.disk) × StandsSince images_since log.disk a.opened log.pieces payloads payloads)))
-      → IsSession tells reads images images_since moment faults (woven marks (core.records ++ core.staged)) marks capacity 0 core log
+      → marks ≡ map (λ _. Put) rs ++ mark.Attached a ∷ [] → IsNewCore rs a core → SpellsRecords log.pieces [] rs payloads → log.pieces ≡ a.pieces → log.staged ≡ [] → log.failed ≡ false → log.count ≡ length payloads → a.faults ≡ g.faults log.disk → length marks ≤ capacity
+      → (IsHonest g.TELLS → (a.opened ≤ g.moment log.disk) × (HasPayloads log.pieces (g.reads log.disk) payloads × (NothingPending (g.reads log.disk) (g.images log.disk) × StandsSince g.images_since log.disk a.opened log.pieces payloads payloads)))
+      → IsSession g (woven marks (core.records ++ core.staged)) marks capacity 0 core log
   kept_begun rs marks capacity core log a payloads m new spelled pieces none whole number is room honest =
       let line : List Entry = map entry.Put rs ++ entry.Attached a ∷ [] in
       let line_whole : is_failed line ≡ false = replayed_whole rs a in
       let waits : waiting_leases core.state.leases.rows ≡ 0 = ap (λ (t : LeaseRows). waiting_leases t.rows) new.leases in
-      subst (λ l. IsSession tells reads images images_since moment faults l marks capacity 0 core log) (sym (line_begun rs marks core a m new.records new.staged)) (record {
+      subst (λ l. IsSession g l marks capacity 0 core log) (sym (line_begun rs marks core a m new.records new.staged)) (record {
         filled = ap puts_marked m ∙ (puts_push (map (λ _. Put) rs) (mark.Attached a) ∙ omega (arith, puts_of rs, ap length new.records, ap length new.staged));
         history = Opens line core rs a refl new;
         grows = (core.state.forest, subst (λ qs. GrowsWithAll core.state.settings.pieces core.state.forest qs core.state.forest) (sym new.staged) refl);
@@ -243,8 +244,8 @@ module _ {D : Type 0} (tells : Bool) (reads : D → List ℕ) (images : D → Li
         as_many = λ h. ap length none ∙ sym (ap length new.staged);
         owed = λ h. omega (arith, waits, ap length new.staged);
         room = λ h. omega (arith, room);
-        not_more = Each-append (λ e. faults_told e ≤ faults log.disk) (map entry.Put rs) (entry.Attached a ∷ []) (no_faults (faults log.disk) rs) (omega (arith, is), tt);
+        not_more = Each-append (λ e. faults_told e ≤ g.faults log.disk) (map entry.Put rs) (entry.Attached a ∷ []) (no_faults (g.faults log.disk) rs) (omega (arith, is), tt);
         broken = λ h. absurd (true≢false (sym h ∙ line_whole));
         ended = λ h. absurd (true≢false (sym h ∙ line_whole));
-        synced = λ tells. let h = honest tells in synced_begun reads images images_since moment rs payloads a log spelled none whole h.0 h.1.0 h.1.1.0 h.1.1.1;
+        synced = λ is. let h = honest is in synced_begun g rs payloads a log spelled none whole h.0 h.1.0 h.1.1.0 h.1.1.1;
       })

@@ -1,6 +1,7 @@
 -- What a session keeps among its fields. Nobody has to believe it.
 use Rattle.std.specs.Prelude.{◌≡◌, ◌≤◌, ◌+◌, ◌*◌, ℕ, Bool, true, false, not, List, length, count_by, IfSome}
 use Rattle.std.specs.List.{AllByRecursion as Each}
+use Rattle.bench_disk.specs.declared.disk.Disk.{Ghosts}
 use Rattle.bench_disk.specs.Disk.{IsHonest}
 use Rattle.shared_words.specs.Counts.{Rose}
 use Rattle.disk_journal.specs.Log.{Log}
@@ -25,9 +26,7 @@ entries_owed core = 2 * waiting_leases core.state.leases.rows + length core.stag
 
 -- Its line leads to its bench's core, and its journal says the same; until it fails there is room
 -- for what is owed.
-pub record IsSession {D : Type 0} (tells : Bool) (reads : D → List ℕ)
-    (images : D → List ℕ → Type 0) (images_since : D → ℕ → List ℕ → Type 0)
-    (moment faults : D → ℕ) (line : List Entry) (marks : List Mark) (capacity due : ℕ)
+pub record IsSession {D : Type 0} (g : Ghosts D) (line : List Entry) (marks : List Mark) (capacity due : ℕ)
     (core : Core) (log : Log D) : Type 0 where
   pub filled : puts_marked marks ≡ length core.records + length core.staged
   pub history : IsHistory line core
@@ -38,8 +37,8 @@ pub record IsSession {D : Type 0} (tells : Bool) (reads : D → List ℕ)
   pub as_many : log.failed ≡ false → length log.staged ≡ length core.staged
   pub owed : log.failed ≡ false → entries_owed core ≤ due
   pub room : log.failed ≡ false → length marks + due ≤ capacity
-  pub not_more : Each (λ e. faults_told e ≤ faults log.disk) line
+  pub not_more : Each (λ e. faults_told e ≤ g.faults log.disk) line
   pub broken : is_failed line ≡ true
-      → IfSome (attachment_of line) (λ a. Rose a.faults (faults log.disk))
+      → IfSome (attachment_of line) (λ a. Rose a.faults (g.faults log.disk))
   pub ended : is_failed line ≡ true → EndsBroken line
-  pub synced : IsHonest tells → IsSynced reads images images_since moment line log
+  pub synced : IsHonest g.TELLS → IsSynced g line log

@@ -1,6 +1,7 @@
 -- What a disk keeps of a session's line.
 use Rattle.std.specs.Prelude.{◌≡◌, ◌≤◌, ℕ, false, cond, List, [], ◌∷◌, ◌++◌, map}
 use Rattle.std.specs.List.{AllByRecursion as Each}
+use Rattle.bench_disk.specs.declared.disk.Disk.{Ghosts}
 use Rattle.bench_disk.specs.Disk.{NothingPending}
 use Rattle.disk_journal.specs.Format.{HasPayloads, IsPrefixOf}
 use Rattle.proof_tree.specs.Forest.{Forest}
@@ -64,10 +65,9 @@ most_left line = cond (is_failed line) (recorded line) (applied_in line)
 
 -- Each image since an acknowledgement reads as the records that it names, or as more of the line's;
 -- and unless the session has failed nothing is pending.
-pub record KeepsReceipts {D : Type 0} (k : ℕ) (reads : D → List ℕ) (images : D → List ℕ → Type 0)
-    (images_since : D → ℕ → List ℕ → Type 0) (moment : D → ℕ) (line : List Entry)
+pub record KeepsReceipts {D : Type 0} (k : ℕ) (g : Ghosts D) (line : List Entry)
     (disk : D) : Type 0 where
-  pub moments : Each (λ ack. ack.moment ≤ moment disk) (acknowledgements line)
-  pub since : Each (λ ack. (image : List ℕ) → images_since disk ack.moment image
+  pub moments : Each (λ ack. ack.moment ≤ g.moment disk) (acknowledgements line)
+  pub since : Each (λ ack. (image : List ℕ) → g.images_since disk ack.moment image
       → ReadsBetween k ack.records (most_left line) image) (acknowledgements line)
-  pub settled : is_failed line ≡ false → NothingPending (reads disk) (images disk)
+  pub settled : is_failed line ≡ false → NothingPending (g.reads disk) (g.images disk)

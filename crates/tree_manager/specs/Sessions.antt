@@ -1,6 +1,7 @@
 -- A session as its callers see it, what each call does to it, and why it refuses.
 use Rattle.std.specs.Prelude.{◌≡◌, ◌⊎◌, ◌+◌, ◌<◌, ℕ, Bool, true, false, cond, min, ◌-◌, List, [], ◌∷◌, ◌++◌, map, length, count_by, Contains, Result}
 use Rattle.std.specs.List.{list_any, AllByRecursion as Each}
+use Rattle.bench_disk.specs.declared.disk.Disk.{Ghosts}
 use Rattle.draughts_board.specs.Board.{Board, same_board}
 use Rattle.bench_disk.specs.Disk.{IsHonest}
 use Rattle.shared_words.specs.Counts.{Rose}
@@ -68,15 +69,15 @@ session_budget budget replayed = min budget (MOST_WORK - count_by is_work replay
 -- The line is the records as which the disk read, and an Attached of the moment behind the opening
 -- sync, of the disk's faults and of these settings. The bench has replayed the records, and nothing
 -- else happened.
-pub record IsAttachedTo {D : Type 0} (tells : Bool) (reads : D → List ℕ) (moment faults : D → ℕ)
+pub record IsAttachedTo {D : Type 0} (g : Ghosts D)
     (s : Settings) (disk : D) (new : SessionState D) : Type 0 where
   pub replayed : List BenchRecord
   pub attachment : Attachment
   pub line : new.line ≡ map Put replayed ++ Attached attachment ∷ []
-  pub read : IsHonest tells → ReadsRecords s.pieces (reads disk) replayed
+  pub read : IsHonest g.TELLS → ReadsRecords s.pieces (g.reads disk) replayed
   pub is : attachment ≡ record {
-    opened = moment disk + 1;
-    faults = faults new.disk;
+    opened = g.moment disk + 1;
+    faults = g.faults new.disk;
     budget = session_budget s.budget replayed;
     depth = s.depth;
     pieces = s.pieces;

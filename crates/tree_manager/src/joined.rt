@@ -51,7 +51,7 @@ impl<D: Disk> Model for JoinedBench<D> {
       disk = s.journal.disk;
     } };
 
-    ghost invariant = { λ s. IsSession D.TELLS D.reads D.images D.images_since D.moment D.faults
+    ghost invariant = { λ s. IsSession D.Disk
         (woven s.marks.items (s.bench.records ++ s.bench.staged)) s.marks.items
         (vec_capacity s.marks) s.due s.bench s.journal };
 }
@@ -101,7 +101,7 @@ impl<D: Disk> JoinedBench<D> {
         ensures pieces { IfOk result (λ session. session.core.state.settings.pieces ≡ s.pieces) }
         ensures none_staged { IfOk result (λ session. session.core.staged ≡ []) }
         ensures attached { IfOk result
-            (λ session. IsAttachedTo D.TELLS D.reads D.moment D.faults s disk session) }
+            (λ session. IsAttachedTo D.Disk s disk session) }
 
         // A crash since the call began leaves what it might have left before, or a fresh file of a
         // fresh one.
@@ -177,8 +177,7 @@ impl<D: Disk> JoinedBench<D> {
             (λ a. Rose a.faults (D.faults self.now.disk)) }
         ensures ended { is_failed self.now.line ≡ true → EndsBroken self.now.line }
         ensures receipts { IsHonest D.TELLS →
-            KeepsReceipts self.now.core.state.settings.pieces D.reads D.images D.images_since
-            D.moment self.now.line self.now.disk }
+            KeepsReceipts self.now.core.state.settings.pieces D.Disk self.now.line self.now.disk }
     {
         &self.bench
     }
@@ -212,7 +211,7 @@ impl<D: Disk> JoinedBench<D> {
     pub fn into_disk(self) -> D
         ensures disk { result ≡ self.disk }
         ensures receipts { IsHonest D.TELLS → IfSome (attachment_of self.line)
-            (λ a. KeepsReceipts a.pieces D.reads D.images D.images_since D.moment self.line
+            (λ a. KeepsReceipts a.pieces D.Disk self.line
             result) }
         ensures broken { is_failed self.line ≡ true → IfSome (attachment_of self.line)
             (λ a. Rose a.faults (D.faults result)) }

@@ -84,7 +84,7 @@ impl<D: Disk> Session<D> {
         requires lease { s.lease ≤ MOST_LEASE }
         ensures pieces { IfOk result (λ session. session.core.state.settings.pieces ≡ s.pieces) }
         ensures attached { IfOk result
-            (λ session. IsAttachedTo D.TELLS D.reads D.moment D.faults s disk session) }
+            (λ session. IsAttachedTo D.Disk s disk session) }
 
         // A crash since the call began leaves what it might have left before, or a fresh file of a
         // fresh one.
@@ -137,8 +137,7 @@ impl<D: Disk> Session<D> {
             (λ a. Rose a.faults (D.faults self.now.disk)) }
         ensures ended { is_failed self.now.line ≡ true → EndsBroken self.now.line }
         ensures receipts { IsHonest D.TELLS →
-            KeepsReceipts self.now.core.state.settings.pieces D.reads D.images D.images_since
-            D.moment self.now.line self.now.disk }
+            KeepsReceipts self.now.core.state.settings.pieces D.Disk self.now.line self.now.disk }
     {
         self.joined.bench()
     }
@@ -148,7 +147,7 @@ impl<D: Disk> Session<D> {
     pub fn into_disk(self) -> D
         ensures disk { result ≡ self.disk }
         ensures receipts { IsHonest D.TELLS → IfSome (attachment_of self.line)
-            (λ a. KeepsReceipts a.pieces D.reads D.images D.images_since D.moment self.line
+            (λ a. KeepsReceipts a.pieces D.Disk self.line
             result) }
         ensures broken { is_failed self.line ≡ true → IfSome (attachment_of self.line)
             (λ a. Rose a.faults (D.faults result)) }

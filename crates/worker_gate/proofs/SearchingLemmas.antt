@@ -3,6 +3,7 @@ use Rattle.std.proofs.Common.{◌≡◌, ◌≤◌, ◌++◌, ◌∷◌, [], ℕ
 use Rattle.std.specs.Prelude.{Bool, false, All, Option, Some, Ok, Err}
 use Rattle.std.specs.Option.{option_map_or}
 use Rattle.std.proofs.lemmas.List.Elements.{All-weaker, All-push}
+use Rattle.bench_disk.specs.declared.disk.Disk.{Ghosts}
 use Rattle.draughts_board.specs.Draughts.{draughts}
 use Rattle.draughts_board.specs.Game.{is_at_sight}
 use Rattle.certificate_checker.specs.declared.outcomes.Outcome.{Outcome}
@@ -56,9 +57,9 @@ can_search_core k line core stands pieces depth =
     }
 
 -- .. and those that a session was attached with
-pub can_search_attached : {D : Type 0} (tells : Bool) (reads : D → List ℕ) (moment faults : D → ℕ) (s : Settings) (disk : D) (new : SessionState D) (k : ℕ) (front : List Entry)
-    → IsAttachedTo tells reads moment faults s disk new → s.pieces ≡ k → s.depth ≤ 12 → front ≡ new.line → CanSearch k front
-can_search_attached tells reads moment faults s disk new k front begins pieces depth same =
+pub can_search_attached : {D : Type 0} (g : Ghosts D) (s : Settings) (disk : D) (new : SessionState D) (k : ℕ) (front : List Entry)
+    → IsAttachedTo g s disk new → s.pieces ≡ k → s.depth ≤ 12 → front ≡ new.line → CanSearch k front
+can_search_attached g s disk new k front begins pieces depth same =
     let attached : attachment_of front ≡ Some begins.attachment = ap attachment_of (same ∙ begins.line) ∙ replayed_attachment begins.replayed begins.attachment in
     let first : (of : Attachment → ℕ) → option_map_or of (attachment_of front) 0 ≡ of begins.attachment = λ of. ap (λ (o : Option Attachment). option_map_or of o 0) attached in
     record {

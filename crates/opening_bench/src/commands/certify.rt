@@ -29,17 +29,17 @@ fn certificate_text(alloc: Global, c: &Certificate) -> Result<Output, Refusal>
 /// The text of the certificate of a root of the journal, by its number from 1, and the disk.
 /// Nothing is written to it.
 pub(crate) fn certify<D: Disk>(alloc: Global, root: u32, disk: D) -> (D, Result<Output, Refusal>)
-    ensures leaves { LeavesDisk D.TELLS D.reads D.images D.images_since D.moment D.faults
+    ensures leaves { LeavesDisk D.Disk
         (commands.Certify root) disk result.0 }
     ensures answers { IfOk result.1 (λ output.
-        AnswersBytes D.TELLS D.reads D.images D.images_since D.moment D.faults
+        AnswersBytes D.Disk
         (commands.Certify root) [] disk result.0 output.text.items output.is_settled) }
     ensures says { IfOk result.1 (λ output. SaysTrue output.text.items) }
     ensures refused { IfErr result.1
-        (RefusesBytes D.TELLS D.reads D.images D.images_since D.moment D.faults
+        (RefusesBytes D.Disk
         (commands.Certify root) [] disk result.0) }
-    ensures asked { AcceptsAsked D.TELLS D.reads (commands.Certify root) disk result.1 }
-    ensures looked { AnswersLook D.TELLS D.reads (commands.Certify root) disk result.1 }
+    ensures asked { AcceptsAsked D.Disk (commands.Certify root) disk result.1 }
+    ensures looked { AnswersLook D.Disk (commands.Certify root) disk result.1 }
     ensures used { IfErr result.1 (λ r. ComesBeforeDisk r → ⊥) }
 {
     let mut disk = disk;

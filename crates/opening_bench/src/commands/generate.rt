@@ -46,15 +46,15 @@ fn run_counted<R: Threads + Wait + Sync, D: Disk + Send, G: Gate + Sync>(
     gate: &G,
 ) -> (D, Result<Output, Refusal>)
     requires { IsWithinLimits (commands.Generate seed count) }
-    ensures leaves { LeavesDisk D.TELLS D.reads D.images D.images_since D.moment D.faults
+    ensures leaves { LeavesDisk D.Disk
         (commands.Generate seed count) disk result.0 }
     ensures resumes { IsHonest D.TELLS → IfOk result.1 (λ output.
-        Resumes D.reads D.images D.images_since D.moment D.faults
+        Resumes D.Disk
         (λ roots. summary_line (forest_roots roots)) GENERATE_PIECES GENERATE_DEPTH
         count positions.now disk result.0 output.text.items output.is_settled) }
     ensures counts { IfOk result.1 (λ output. CountsRoots positions.now output.text.items) }
     ensures refused { IfErr result.1
-        (IsRefusedRun D.TELLS D.reads D.images D.images_since D.moment D.faults
+        (IsRefusedRun D.Disk
         GENERATE_PIECES positions.now disk result.0) }
     ensures unused { IfErr result.1 (λ r. ComesBeforeDisk r → result.0 ≡ disk) }
 {
@@ -102,14 +102,14 @@ pub(crate) fn generate<R: Threads + Wait + Sync, D: Disk + Send, G: Gate + Sync>
     gate: &G,
 ) -> (D, Result<Output, Refusal>)
     requires { IsWithinLimits (commands.Generate seed count) }
-    ensures leaves { LeavesDisk D.TELLS D.reads D.images D.images_since D.moment D.faults
+    ensures leaves { LeavesDisk D.Disk
         (commands.Generate seed count) disk result.0 }
     ensures answers { IfOk result.1 (λ output.
-        AnswersBytes D.TELLS D.reads D.images D.images_since D.moment D.faults
+        AnswersBytes D.Disk
         (commands.Generate seed count) [] disk result.0 output.text.items output.is_settled) }
     ensures says { IfOk result.1 (λ output. SaysTrue output.text.items) }
     ensures refused { IfErr result.1
-        (RefusesBytes D.TELLS D.reads D.images D.images_since D.moment D.faults
+        (RefusesBytes D.Disk
         (commands.Generate seed count) [] disk result.0) }
     ensures unused { IfErr result.1 (λ r. ComesBeforeDisk r → result.0 ≡ disk) }
 {

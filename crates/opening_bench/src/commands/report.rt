@@ -13,17 +13,17 @@ use std::alloc::Global;
 
 /// The report on the roots of the journal, and the disk. Nothing is written to it.
 pub(crate) fn report<D: Disk>(alloc: Global, disk: D) -> (D, Result<Output, Refusal>)
-    ensures leaves { LeavesDisk D.TELLS D.reads D.images D.images_since D.moment D.faults
+    ensures leaves { LeavesDisk D.Disk
         commands.Report disk result.0 }
     ensures answers { IfOk result.1 (λ output.
-        AnswersBytes D.TELLS D.reads D.images D.images_since D.moment D.faults
+        AnswersBytes D.Disk
         commands.Report [] disk result.0 output.text.items output.is_settled) }
     ensures says { IfOk result.1 (λ output. SaysTrue output.text.items) }
     ensures refused { IfErr result.1
-        (RefusesBytes D.TELLS D.reads D.images D.images_since D.moment D.faults
+        (RefusesBytes D.Disk
         commands.Report [] disk result.0) }
-    ensures asked { AcceptsAsked D.TELLS D.reads commands.Report disk result.1 }
-    ensures looked { AnswersLook D.TELLS D.reads commands.Report disk result.1 }
+    ensures asked { AcceptsAsked D.Disk commands.Report disk result.1 }
+    ensures looked { AnswersLook D.Disk commands.Report disk result.1 }
     ensures used { IfErr result.1 (λ r. ComesBeforeDisk r → ⊥) }
 {
     let mut disk = disk;

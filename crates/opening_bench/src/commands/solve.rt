@@ -85,15 +85,15 @@ fn run_with<R: Threads + Wait + Sync, D: Disk + Send, G: Gate + Sync>(
     gate: &G,
 ) -> (D, Result<Output, Refusal>)
     requires { IsWithinLimits (commands.Solve options.now) }
-    ensures leaves { LeavesDisk D.TELLS D.reads D.images D.images_since D.moment D.faults
+    ensures leaves { LeavesDisk D.Disk
         (commands.Solve options.now) disk result.0 }
     ensures resumes { IsHonest D.TELLS → IfOk result.1 (λ output.
-        Resumes D.reads D.images D.images_since D.moment D.faults
+        Resumes D.Disk
         (λ roots. report_of (forest_roots roots)) options.now.pieces options.now.depth
         options.now.budget positions.now disk result.0 output.text.items output.is_settled) }
     ensures values { IfOk result.1 (λ output. ReportsTruth positions.now output.text.items) }
     ensures refused { IfErr result.1
-        (IsRefusedRun D.TELLS D.reads D.images D.images_since D.moment D.faults
+        (IsRefusedRun D.Disk
         options.now.pieces positions.now disk result.0) }
     ensures unused { IfErr result.1 (λ r. ComesBeforeDisk r → result.0 ≡ disk) }
 {
@@ -140,17 +140,17 @@ pub(crate) fn solve<R: Threads + Wait + Sync, D: Disk + Send, G: Gate + Sync>(
     gate: &G,
 ) -> (D, Result<Output, Refusal>)
     requires { IsWithinLimits (commands.Solve options.now) }
-    ensures leaves { LeavesDisk D.TELLS D.reads D.images D.images_since D.moment D.faults
+    ensures leaves { LeavesDisk D.Disk
         (commands.Solve options.now) disk result.0 }
     ensures answers { IfOk result.1 (λ output.
-        AnswersBytes D.TELLS D.reads D.images D.images_since D.moment D.faults
+        AnswersBytes D.Disk
         (commands.Solve options.now) text.now disk result.0
         output.text.items output.is_settled) }
     ensures says { IfOk result.1 (λ output. SaysTrue output.text.items) }
     ensures refused { IfErr result.1
-        (RefusesBytes D.TELLS D.reads D.images D.images_since D.moment D.faults
+        (RefusesBytes D.Disk
         (commands.Solve options.now) text.now disk result.0) }
-    ensures accepted { IfErr result.1 (AcceptsBytes D.TELLS D.reads
+    ensures accepted { IfErr result.1 (AcceptsBytes D.Disk
         (commands.Solve options.now) text.now disk) }
     ensures unused { IfErr result.1 (λ r. ComesBeforeDisk r → result.0 ≡ disk) }
 {

@@ -12,20 +12,20 @@ run_session-session-requires-clause-tables g c κs within = c.requires.tables �
 
 pub run_session-session-requires-clause-depth : goal.run_session-session-requires-clause-depth
 run_session-session-requires-clause-depth g c κs within =
-    subst (λ n. n ≤ 12) (sym (first_depth g.D.Disk.reads g.D.Disk.images g.D.Disk.images_since g.D.Disk.moment g.D.Disk.faults g.D.Disk.TELLS _ c.args.disk _ c.in-Ok.ensures.attached)) c.requires.depth
+    subst (λ n. n ≤ 12) (sym (first_depth g.D.Disk _ c.args.disk _ c.in-Ok.ensures.attached)) c.requires.depth
 
 pub run_session-session-requires-clause-idle : goal.run_session-session-requires-clause-idle
 run_session-session-requires-clause-idle g c κs within =
-    first_idle g.D.Disk.reads g.D.Disk.images g.D.Disk.images_since g.D.Disk.moment g.D.Disk.faults g.D.Disk.TELLS _ c.args.disk _ c.in-Ok.ensures.attached
+    first_idle g.D.Disk _ c.args.disk _ c.in-Ok.ensures.attached
 
 pub run_session-session-requires-clause-stands : goal.run_session-session-requires-clause-stands
 run_session-session-requires-clause-stands g c κs within =
-    first_stands g.D.Disk.reads g.D.Disk.images g.D.Disk.images_since g.D.Disk.moment g.D.Disk.faults g.D.Disk.TELLS _ c.args.disk _ c.in-Ok.ensures.attached
+    first_stands g.D.Disk _ c.args.disk _ c.in-Ok.ensures.attached
 
 pub returns-in-Ok-clause-leaves : goal.returns-in-Ok-clause-leaves
 returns-in-Ok-clause-leaves g c = λ honest none_pending.
     let laws = g.met.D.Disk g.world.𝓛 g.world.𝓜 g.world.𝓡 ((λ s x. x), (λ x. x), (λ x. x), λ x. x) in
-    keeps_begun g.D.Disk.reads g.D.Disk.images g.D.Disk.images_since g.D.Disk.moment g.D.Disk.faults g.D.Disk.TELLS _ c.args.disk _ c.in-Ok.ensures.attached
+    keeps_begun g.D.Disk _ c.args.disk _ c.in-Ok.ensures.attached
     _ c.run_session-session.ensures.goes_on c.into_disk.result honest c.in-Ok.ensures.cause (c.into_disk.ensures.receipts honest) c.into_disk.ensures.broken
     (λ t image le now. laws.now_counts _ t image honest le now)
 
@@ -35,7 +35,7 @@ returns-in-Ok-clause-does g c = λ honest.
     let last = c.run_session-session.result.0 in
     if_ok (λ ran. HasWorked (account_of c.args.account) c.in-Ok.session c.args.positions.now last ran.text.items ran.is_settled) _ c.run_session-session.result.1
     (λ ran worked.
-    resumes_begun g.D.Disk.reads g.D.Disk.images g.D.Disk.images_since g.D.Disk.moment g.D.Disk.faults g.D.Disk.TELLS _ c.args.disk _ c.in-Ok.ensures.attached
+    resumes_begun g.D.Disk _ c.args.disk _ c.in-Ok.ensures.attached
     (account_of c.args.account) c.args.positions.now last c.into_disk.result _ _ c.run_session-session.ensures.goes_on honest worked (c.into_disk.ensures.receipts honest)
     (laws.reads_is_image _ honest) (λ t image le now. laws.now_counts _ t image honest le now))
     c.run_session-session.ensures.worked
@@ -45,14 +45,14 @@ returns-in-Ok-clause-fault g c =
     let last = c.run_session-session.result.0 in
     if_err (λ r. r ≡ refusal.Disk → is_failed last.line ≡ true) _ c.run_session-session.result.1
     (λ r failed is.
-    rose_begun g.D.Disk.reads g.D.Disk.images g.D.Disk.images_since g.D.Disk.moment g.D.Disk.faults g.D.Disk.TELLS _ c.args.disk _ c.in-Ok.ensures.attached
+    rose_begun g.D.Disk _ c.args.disk _ c.in-Ok.ensures.attached
     last.line c.run_session-session.ensures.goes_on c.into_disk.result c.in-Ok.ensures.cause (c.into_disk.ensures.broken (failed is)))
     c.run_session-session.ensures.fault
 
 pub returns-in-Ok-clause-refused : goal.returns-in-Ok-clause-refused
 returns-in-Ok-clause-refused g c = λ honest.
     if_err (IsWorkRefusal c.in-Ok.session c.args.positions.now) _ c.run_session-session.result.1
-    (λ r h. caused_begun g.D.Disk.reads g.D.Disk.images g.D.Disk.images_since g.D.Disk.moment g.D.Disk.faults g.D.Disk.TELLS _ c.args.disk _ c.in-Ok.ensures.attached c.args.positions.now r honest h)
+    (λ r h. caused_begun g.D.Disk _ c.args.disk _ c.in-Ok.ensures.attached c.args.positions.now r honest h)
     c.run_session-session.ensures.refused
 
 pub returns-in-Err : goal.returns-in-Err
@@ -60,7 +60,7 @@ returns-in-Err g c = record {
   leaves = λ honest none_pending.
       let new = c.in-Err.disk in
       let laws = g.met.D.Disk g.world.𝓛 g.world.𝓜 g.world.𝓡 ((λ s x. x), (λ x. x), (λ x. x), λ x. x) in
-      keeps_refused g.D.Disk.reads g.D.Disk.images g.D.Disk.images_since g.D.Disk.moment g.D.Disk.faults _ c.args.disk new none_pending
+      keeps_refused g.D.Disk _ c.args.disk new none_pending
       (c.in-Err.ensures.crash honest) (c.in-Err.ensures.unwritten honest) (c.in-Err.ensures.settled honest none_pending)
       (laws.reads_is_image new honest) (λ t image le now. laws.now_counts new t image honest le now) (λ s t image le since. laws.earlier_counts new s t image honest le since);
   does = λ honest. tt;

@@ -23,60 +23,60 @@ returns-in-Err-clause-ample_generated g c seed count said ample = absurd (c.in-E
 pub returns-in-Ok-clause-accepted : goal.returns-in-Ok-clause-accepted
 returns-in-Ok-clause-accepted g c options said =
     let same = said_once (texts c.args.words.now) c.in-Ok.command (Solve options) c.in-Ok.ensures.each_command said in
-    openings_accepted g.D.Disk.TELLS g.D.Disk.reads options (g.S.Source.left c.args.source.now) c.args.disk c.run_command.result.0
-    (subst (λ command. Accepts g.D.Disk.TELLS g.D.Disk.reads command (g.S.Source.left c.args.source.now) c.args.disk c.run_command.result.0) same c.run_command.ensures.runs.accepted)
+    openings_accepted g.D.Disk options (g.S.Source.left c.args.source.now) c.args.disk c.run_command.result.0
+    (subst (λ command. Accepts g.D.Disk command (g.S.Source.left c.args.source.now) c.args.disk c.run_command.result.0) same c.run_command.ensures.runs.accepted)
 
 pub returns-in-Ok-clause-ample : goal.returns-in-Ok-clause-ample
 returns-in-Ok-clause-ample g c options said =
     let same = said_once (texts c.args.words.now) c.in-Ok.command (Solve options) c.in-Ok.ensures.each_command said in
-    ample_solves g.D.Disk.TELLS g.D.Disk.reads g.D.Disk.images g.D.Disk.images_since g.D.Disk.moment g.D.Disk.faults options (g.S.Source.left c.args.source.now) (g.K.Sink.taken c.args.sink.now) (g.K.Sink.taken c.run_command.new.sink) c.args.disk c.run_command.result.1 c.run_command.result.0
-    (λ reports. subst (λ command. Does g.D.Disk.TELLS g.D.Disk.reads g.D.Disk.images g.D.Disk.images_since g.D.Disk.moment g.D.Disk.faults command (g.S.Source.left c.args.source.now) (g.K.Sink.taken c.args.sink.now) (g.K.Sink.taken c.run_command.new.sink) c.args.disk c.run_command.result.1 c.run_command.result.0) same
+    ample_solves g.D.Disk options (g.S.Source.left c.args.source.now) (g.K.Sink.taken c.args.sink.now) (g.K.Sink.taken c.run_command.new.sink) c.args.disk c.run_command.result.1 c.run_command.result.0
+    (λ reports. subst (λ command. Does g.D.Disk command (g.S.Source.left c.args.source.now) (g.K.Sink.taken c.args.sink.now) (g.K.Sink.taken c.run_command.new.sink) c.args.disk c.run_command.result.1 c.run_command.result.0) same
     (c.run_command.ensures.runs.does reports))
 
 pub returns-in-Ok-clause-accepted_generated : goal.returns-in-Ok-clause-accepted_generated
 returns-in-Ok-clause-accepted_generated g c seed count said room =
     let same = said_once (texts c.args.words.now) c.in-Ok.command (Generate seed count) c.in-Ok.ensures.each_command said in
-    c.run_command.ensures.runs.asked (subst (λ command. HasAsked g.D.Disk.TELLS g.D.Disk.reads command c.args.disk) (sym same) room)
+    c.run_command.ensures.runs.asked (subst (λ command. HasAsked g.D.Disk command c.args.disk) (sym same) room)
 
 pub returns-in-Ok-clause-ample_generated : goal.returns-in-Ok-clause-ample_generated
 returns-in-Ok-clause-ample_generated g c seed count said =
     let same = said_once (texts c.args.words.now) c.in-Ok.command (Generate seed count) c.in-Ok.ensures.each_command said in
-    ample_generates g.D.Disk.TELLS g.D.Disk.reads g.D.Disk.images g.D.Disk.images_since g.D.Disk.moment g.D.Disk.faults seed count (g.S.Source.left c.args.source.now) (g.K.Sink.taken c.args.sink.now) (g.K.Sink.taken c.run_command.new.sink) c.args.disk c.run_command.result.1 c.run_command.result.0
-    (λ reports. subst (λ command. Does g.D.Disk.TELLS g.D.Disk.reads g.D.Disk.images g.D.Disk.images_since g.D.Disk.moment g.D.Disk.faults command (g.S.Source.left c.args.source.now) (g.K.Sink.taken c.args.sink.now) (g.K.Sink.taken c.run_command.new.sink) c.args.disk c.run_command.result.1 c.run_command.result.0) same
+    ample_generates g.D.Disk seed count (g.S.Source.left c.args.source.now) (g.K.Sink.taken c.args.sink.now) (g.K.Sink.taken c.run_command.new.sink) c.args.disk c.run_command.result.1 c.run_command.result.0
+    (λ reports. subst (λ command. Does g.D.Disk command (g.S.Source.left c.args.source.now) (g.K.Sink.taken c.args.sink.now) (g.K.Sink.taken c.run_command.new.sink) c.args.disk c.run_command.result.1 c.run_command.result.0) same
     (c.run_command.ensures.runs.does reports))
 
 pub returns-in-Ok-clause-settled_generated : goal.returns-in-Ok-clause-settled_generated
 returns-in-Ok-clause-settled_generated g c seed count said honest read = (
-  returns-in-Ok-clause-accepted_generated g c seed count said (new_has_room g.D.Disk.TELLS g.D.Disk.reads seed count c.args.disk said.1.1.1 honest read),
-  returns-in-Ok-clause-ample_generated g c seed count said (new_has_ample_budget g.D.Disk.TELLS g.D.Disk.reads seed count c.args.disk said.1.1.1 honest read),
+  returns-in-Ok-clause-accepted_generated g c seed count said (new_has_room g.D.Disk seed count c.args.disk said.1.1.1 honest read),
+  returns-in-Ok-clause-ample_generated g c seed count said (new_has_ample_budget g.D.Disk seed count c.args.disk said.1.1.1 honest read),
 )
 
 pub returns-in-Ok-clause-accepted_certificates : goal.returns-in-Ok-clause-accepted_certificates
 returns-in-Ok-clause-accepted_certificates g c said =
     let same = said_once (texts c.args.words.now) c.in-Ok.command Verify c.in-Ok.ensures.each_command said in
-    certificates_accepted g.D.Disk.TELLS g.D.Disk.reads (g.S.Source.left c.args.source.now) c.args.disk c.run_command.result.0
-    (subst (λ command. Accepts g.D.Disk.TELLS g.D.Disk.reads command (g.S.Source.left c.args.source.now) c.args.disk c.run_command.result.0) same c.run_command.ensures.runs.accepted)
+    certificates_accepted g.D.Disk (g.S.Source.left c.args.source.now) c.args.disk c.run_command.result.0
+    (subst (λ command. Accepts g.D.Disk command (g.S.Source.left c.args.source.now) c.args.disk c.run_command.result.0) same c.run_command.ensures.runs.accepted)
 
 pub returns-in-Ok-clause-accepted_tables : goal.returns-in-Ok-clause-accepted_tables
 returns-in-Ok-clause-accepted_tables g c said =
     let same = said_once (texts c.args.words.now) c.in-Ok.command TableCheck c.in-Ok.ensures.each_command said in
-    tables_accepted g.D.Disk.TELLS g.D.Disk.reads (g.S.Source.left c.args.source.now) c.args.disk c.run_command.result.0
-    (subst (λ command. Accepts g.D.Disk.TELLS g.D.Disk.reads command (g.S.Source.left c.args.source.now) c.args.disk c.run_command.result.0) same c.run_command.ensures.runs.accepted)
+    tables_accepted g.D.Disk (g.S.Source.left c.args.source.now) c.args.disk c.run_command.result.0
+    (subst (λ command. Accepts g.D.Disk command (g.S.Source.left c.args.source.now) c.args.disk c.run_command.result.0) same c.run_command.ensures.runs.accepted)
 
 pub returns-in-Ok-clause-accepted_reports : goal.returns-in-Ok-clause-accepted_reports
 returns-in-Ok-clause-accepted_reports g c said honest pieces records read =
     let same = said_once (texts c.args.words.now) c.in-Ok.command Report c.in-Ok.ensures.each_command said in
-    c.run_command.ensures.runs.asked (subst (λ command. HasAsked g.D.Disk.TELLS g.D.Disk.reads command c.args.disk) (sym same) (honest, (pieces, (records, read))))
+    c.run_command.ensures.runs.asked (subst (λ command. HasAsked g.D.Disk command c.args.disk) (sym same) (honest, (pieces, (records, read))))
 
 pub returns-in-Ok-clause-accepted_roots : goal.returns-in-Ok-clause-accepted_roots
 returns-in-Ok-clause-accepted_roots g c root said honest there =
     let same = said_once (texts c.args.words.now) c.in-Ok.command (Certify root) c.in-Ok.ensures.each_command said in
-    c.run_command.ensures.runs.asked (subst (λ command. HasAsked g.D.Disk.TELLS g.D.Disk.reads command c.args.disk) (sym same) (honest, there))
+    c.run_command.ensures.runs.asked (subst (λ command. HasAsked g.D.Disk command c.args.disk) (sym same) (honest, there))
 
 pub returns-in-Ok-clause-accepted_pieces : goal.returns-in-Ok-clause-accepted_pieces
 returns-in-Ok-clause-accepted_pieces g c pieces said =
     let same = said_once (texts c.args.words.now) c.in-Ok.command (MakeTable pieces) c.in-Ok.ensures.each_command said in
-    c.run_command.ensures.runs.asked (subst (λ command. HasAsked g.D.Disk.TELLS g.D.Disk.reads command c.args.disk) (sym same) tt)
+    c.run_command.ensures.runs.asked (subst (λ command. HasAsked g.D.Disk command c.args.disk) (sym same) tt)
 
 pub returns-in-Ok-clause-looked : goal.returns-in-Ok-clause-looked
 returns-in-Ok-clause-looked g c honest command said cause stands =

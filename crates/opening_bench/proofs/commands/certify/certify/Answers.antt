@@ -20,4 +20,4 @@ returns-in-Err-clause-looked g c honest cause stands = look_answers _ _ c.in-Err
 
 pub returns-in-Err-clause-refused : goal.returns-in-Err-clause-refused
 returns-in-Err-clause-refused g c =
-    uncertified g.D.Disk.TELLS g.D.Disk.reads g.D.Disk.images g.D.Disk.images_since g.D.Disk.moment g.D.Disk.faults _ c.args.root c.args.disk c.certify.new.disk c.in-Err.refusal c.refusal_of.result c.refusal_of.ensures c.in-Err.ensures.cause c.in-Err.ensures.refused
+    uncertified g.D.Disk _ c.args.root c.args.disk c.certify.new.disk c.in-Err.refusal c.refusal_of.result c.refusal_of.ensures c.in-Err.ensures.cause c.in-Err.ensures.refused

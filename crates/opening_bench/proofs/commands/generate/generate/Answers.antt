@@ -9,13 +9,13 @@ returns-in-Ok-clause-says g c = counts_say _ c.run_counted.result.1 (λ output. 
 pub returns-in-Ok-clause-answers : goal.returns-in-Ok-clause-answers
 returns-in-Ok-clause-answers g c =
     let same : c.as_slice.result.now ≡ c.in-Ok.positions.keys = search rules in
-    counts_answer g.D.Disk.TELLS g.D.Disk.reads g.D.Disk.images g.D.Disk.images_since g.D.Disk.moment g.D.Disk.faults c.args.seed c.args.count c.in-Ok.positions.keys c.as_slice.result.now c.args.disk c.run_counted.result.0 c.run_counted.result.1 (λ output. output.text.items) (λ output. output.is_settled)
+    counts_answer g.D.Disk c.args.seed c.args.count c.in-Ok.positions.keys c.as_slice.result.now c.args.disk c.run_counted.result.0 c.run_counted.result.1 (λ output. output.text.items) (λ output. output.is_settled)
     c.in-Ok.ensures.openings same c.run_counted.ensures.resumes c.run_counted.ensures.counts
 
 pub returns-in-Ok-clause-refused : goal.returns-in-Ok-clause-refused
 returns-in-Ok-clause-refused g c =
     let same : c.as_slice.result.now ≡ c.in-Ok.positions.keys = search rules in
-    counts_refuse g.D.Disk.TELLS g.D.Disk.reads g.D.Disk.images g.D.Disk.images_since g.D.Disk.moment g.D.Disk.faults c.args.seed c.args.count c.in-Ok.positions.keys c.as_slice.result.now c.args.disk c.run_counted.result.0 c.run_counted.result.1
+    counts_refuse g.D.Disk c.args.seed c.args.count c.in-Ok.positions.keys c.as_slice.result.now c.args.disk c.run_counted.result.0 c.run_counted.result.1
     c.in-Ok.ensures.openings same c.run_counted.ensures.refused
 
 pub returns-in-Err-clause-refused : goal.returns-in-Err-clause-refused

@@ -5,7 +5,7 @@ use Rattle.opening_bench.proofs.commands.generate.run_counted.Goals as goal
 
 pub returns-in-Err-clause-refused : goal.returns-in-Err-clause-refused
 returns-in-Err-clause-refused g c =
-    no_memory g.D.Disk.TELLS g.D.Disk.reads g.D.Disk.images g.D.Disk.images_since g.D.Disk.moment g.D.Disk.faults GENERATE_PIECES c.args.positions.now c.args.disk
+    no_memory g.D.Disk GENERATE_PIECES c.args.positions.now c.args.disk
 
 pub returns-clause-leaves : goal.returns-clause-leaves
 returns-clause-leaves g c = inr c.solve-disk.ensures.leaves

@@ -3,4 +3,4 @@ use Rattle.opening_bench.proofs.commands.solve.run_with.Goals as goal
 
 pub returns-in-Err-clause-refused : goal.returns-in-Err-clause-refused
 returns-in-Err-clause-refused g c =
-    no_memory g.D.Disk.TELLS g.D.Disk.reads g.D.Disk.images g.D.Disk.images_since g.D.Disk.moment g.D.Disk.faults c.args.options.now.pieces c.args.positions.now c.args.disk
+    no_memory g.D.Disk c.args.options.now.pieces c.args.positions.now c.args.disk

@@ -9,7 +9,7 @@ returns-in-Ok-clause-says g c = run_says _ c.run_with.result.1 (λ output. outpu
 pub returns-in-Ok-clause-accepted : goal.returns-in-Ok-clause-accepted
 returns-in-Ok-clause-accepted g c =
     let same : c.as_slice.result.now ≡ c.in-Ok.positions.keys = search rules in
-    run_all_accepts g.D.Disk.TELLS g.D.Disk.reads g.D.Disk.images g.D.Disk.images_since g.D.Disk.moment g.D.Disk.faults c.args.options.now c.args.text.now c.in-Ok.positions.keys c.as_slice.result.now c.args.disk c.run_with.result.0 c.run_with.result.1
+    run_all_accepts g.D.Disk c.args.options.now c.args.text.now c.in-Ok.positions.keys c.as_slice.result.now c.args.disk c.run_with.result.0 c.run_with.result.1
     c.in-Ok.ensures.read same c.run_with.ensures.refused
 
 pub returns-in-Err-clause-refused : goal.returns-in-Err-clause-refused

@@ -39,7 +39,7 @@ invariant_of-result g c =
     let faults : c.faults.result ≡ g.D.Disk.faults log.disk = search rules in
     let number : log.count ≡ length payloads = c.in-Ok.ensures.state.2 ∙ sym (length_texts c.in-Ok.attached.1.items) in
     let room : length c.push_reserved.new.self.items ≤ vec_capacity c.push_reserved.new.self = omega (arith, c.push_reserved.new.self.ok.0, c.push_reserved.new.self.ok.1) in
-    kept_begun g.D.Disk.TELLS g.D.Disk.reads g.D.Disk.images g.D.Disk.images_since g.D.Disk.moment g.D.Disk.faults
+    kept_begun g.D.Disk
     rs c.push_reserved.new.self.items (vec_capacity c.push_reserved.new.self) c.start_session.new.self log a payloads
     marks (new_begun c.args.s core c.start_session.new.self (min core.state.settings.budget (1000000 - count_by is_work rs)) a c.in-Ok-replay_all.ensures.replayed c.start_session.ensures c.requires.lasts budget refl k refl)
     spelled pieces c.in-Ok.ensures.state.1 c.in-Ok.ensures.state.3 number faults room

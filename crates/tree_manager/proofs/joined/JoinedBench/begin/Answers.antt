@@ -26,7 +26,7 @@ invariant_of-self-2 g c =
     let count : c.len-count.result ≡ length added = c.len-count.ensures.len ∙ sym (ap length c.as_slice.ensures.keys) in
     let room : length c.self.inside.marks.items + (c.self.inside.due + length added + length added) ≤ vec_capacity c.push_puts.new.marks =
     omega (arith, c.in_ok-reserve.ensures.ok, c.reserve.ensures.len, c.self.inside.marks.ok.0, c.push_puts.ensures.capacity, count) in
-    kept_roots g.D.Disk.TELLS g.D.Disk.reads g.D.Disk.images g.D.Disk.images_since g.D.Disk.moment g.D.Disk.faults
+    kept_roots g.D.Disk
     c.self.inside.marks.items c.push_puts.new.marks.items (vec_capacity c.self.inside.marks) (vec_capacity c.push_puts.new.marks) c.self.inside.due (c.self.inside.due + c.len-count.result) c.self.inside.bench c.stage_roots.new.bench c.self.inside.journal c.stage_roots.new.journal added
     c.self.invariant unfailed marks c.in_ok-stage_roots.ensures.bench c.in_ok-stage_roots.ensures.may c.stage_roots.ensures.grows c.in_ok-stage_roots.ensures.journal (ap (λ n. c.self.inside.due + n) count) room
 

@@ -13,6 +13,6 @@ returns-clause-stands g c =
 
 pub returns-clause-receipts : goal.returns-clause-receipts
 returns-clause-receipts g c honest =
-    subst (λ (s : SessionState g.row.D.Denot). KeepsReceipts s.core.state.settings.pieces g.D.Disk.reads g.D.Disk.images g.D.Disk.images_since g.D.Disk.moment s.line s.disk) c.self.view_is
-    (receipts_of g.D.Disk.TELLS g.D.Disk.reads g.D.Disk.images g.D.Disk.images_since g.D.Disk.moment g.D.Disk.faults
+    subst (λ (s : SessionState g.row.D.Denot). KeepsReceipts s.core.state.settings.pieces g.D.Disk s.line s.disk) c.self.view_is
+    (receipts_of g.D.Disk
     c.self.inside.marks.items (vec_capacity c.self.inside.marks) c.self.inside.due c.self.inside.bench c.self.inside.journal c.self.invariant honest)

@@ -1,6 +1,7 @@
 use Rattle.std.proofs.Common.{◌≡◌, ℕ, List, sym, subst}
 use Rattle.std.specs.Prelude.{true, IfSome}
 use Rattle.std.specs.Vec.{vec_capacity}
+use Rattle.bench_disk.specs.declared.disk.Disk.{Ghosts}
 use Rattle.shared_words.specs.Counts.{Rose}
 use Rattle.bench_core.specs.States.{SessionSettings}
 use Rattle.bench_core.specs.Cores.{Core}
@@ -15,18 +16,18 @@ use Rattle.tree_manager.proofs.CallLemmas.{receipts_of}
 use Rattle.tree_manager.proofs.joined.JoinedBench.into_disk.Goals as goal
 
 -- receipts, by the pieces of the Attached
-receipts_attached : {D : Type 0} (reads : D → List ℕ) (images : D → List ℕ → Type 0) (images_since : D → ℕ → List ℕ → Type 0) (moment : D → ℕ) (line : List Entry) (core : Core) (disk : D) → IsCoreOf line core
-    → KeepsReceipts core.state.settings.pieces reads images images_since moment line disk → IfSome (attachment_of line) (λ a. KeepsReceipts a.pieces reads images images_since moment line disk)
-receipts_attached reads images images_since moment line core disk stands receipts =
-    subst (λ found. IfSome found (λ (a : Attachment). KeepsReceipts a.pieces reads images images_since moment line disk)) (sym stands.state.attached)
-    (subst (λ (s : SessionSettings). KeepsReceipts s.pieces reads images images_since moment line disk) stands.state.settings receipts)
+receipts_attached : {D : Type 0} (g : Ghosts D) (line : List Entry) (core : Core) (disk : D) → IsCoreOf line core
+    → KeepsReceipts core.state.settings.pieces g line disk → IfSome (attachment_of line) (λ a. KeepsReceipts a.pieces g line disk)
+receipts_attached g line core disk stands receipts =
+    subst (λ found. IfSome found (λ (a : Attachment). KeepsReceipts a.pieces g line disk)) (sym stands.state.attached)
+    (subst (λ (s : SessionSettings). KeepsReceipts s.pieces g line disk) stands.state.settings receipts)
 
 pub returns-clause-receipts : goal.returns-clause-receipts
 returns-clause-receipts g c honest =
-    subst (λ (s : SessionState g.row.D.Denot). IfSome (attachment_of s.line) (λ a. KeepsReceipts a.pieces g.D.Disk.reads g.D.Disk.images g.D.Disk.images_since g.D.Disk.moment s.line c.into_disk.result)) c.self.view_is
+    subst (λ (s : SessionState g.row.D.Denot). IfSome (attachment_of s.line) (λ a. KeepsReceipts a.pieces g.D.Disk s.line c.into_disk.result)) c.self.view_is
     (rw (c.into_disk.ensures)
-    (receipts_attached g.D.Disk.reads g.D.Disk.images g.D.Disk.images_since g.D.Disk.moment _ _ _ (history_stands _ _ c.self.invariant.history).0
-    (receipts_of g.D.Disk.TELLS g.D.Disk.reads g.D.Disk.images g.D.Disk.images_since g.D.Disk.moment g.D.Disk.faults
+    (receipts_attached g.D.Disk _ _ _ (history_stands _ _ c.self.invariant.history).0
+    (receipts_of g.D.Disk
     c.self.inside.marks.items (vec_capacity c.self.inside.marks) c.self.inside.due c.self.inside.bench c.self.inside.journal c.self.invariant honest)))
 
 pub returns-clause-broken : goal.returns-clause-broken

@@ -20,7 +20,7 @@ invariant_of-self-2 g c =
     let marks : c.push_reserved.new.self.items ≡ c.self.inside.marks.items ++ mark.Leased c.in_ok-lease.lease ∷ [] = c.push_reserved.ensures.items ∙ ap (λ (l : List Mark). l ++ mark.Leased c.in_ok-lease.lease ∷ []) c.reserve.ensures.items in
     let room : length c.push_reserved.new.self.items + (c.self.inside.due + 2) ≤ vec_capacity c.push_reserved.new.self =
     omega (arith, ap length marks, length-append c.self.inside.marks.items (mark.Leased c.in_ok-lease.lease ∷ []), c.push_reserved.ensures.capacity, c.in_ok-reserve.ensures.ok, c.reserve.ensures.len, c.self.inside.marks.ok.0) in
-    kept_leased g.D.Disk.TELLS g.D.Disk.reads g.D.Disk.images g.D.Disk.images_since g.D.Disk.moment g.D.Disk.faults
+    kept_leased g.D.Disk
     c.self.inside.marks.items c.push_reserved.new.self.items (vec_capacity c.self.inside.marks) (vec_capacity c.push_reserved.new.self) c.self.inside.due c.self.inside.bench c.lease.new.self c.self.inside.journal c.args.worker c.in_ok-lease.lease
     c.self.invariant unfailed marks c.in_ok-lease.ensures.answer c.in_ok-lease.ensures.event room
 

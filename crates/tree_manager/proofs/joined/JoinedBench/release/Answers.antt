@@ -10,7 +10,7 @@ pub invariant_of-self-2 : goal.invariant_of-self-2
 invariant_of-self-2 g c =
     let unfailed : c.self.inside.journal.failed ≡ false = cc (c.if-is_failed.false, c.is_failed.ensures) in
     let more : vec_capacity c.self.inside.marks ≤ vec_capacity c.push_reserved.new.self = omega (arith, c.push_reserved.ensures.capacity) in
-    kept_released g.D.Disk.TELLS g.D.Disk.reads g.D.Disk.images g.D.Disk.images_since g.D.Disk.moment g.D.Disk.faults
+    kept_released g.D.Disk
     c.self.inside.marks.items c.push_reserved.new.self.items (vec_capacity c.self.inside.marks) (vec_capacity c.push_reserved.new.self) c.self.inside.due c.self.inside.bench c.release.new.self c.self.inside.journal c.args.id
     c.self.invariant unfailed c.push_reserved.ensures.items c.in_ok-release.ensures.row c.in_ok-release.ensures.event more
 

@@ -18,7 +18,7 @@ invariant_of-self-in-Err g c =
     let core : Core = c.self.inside.bench in
     let r : BenchRecord = record_of c.args.found.lease c.args.found.outcome in
     let back : c.forget_ready.new.self ≡ core = forgotten_back _ core c.forget_ready.new.self r c.self.invariant.history c.in_ok-text.ensures.may (subst (λ x. IsForgotten x c.forget_ready.new.self) c.in_ok-text.ensures.staged c.forget_ready.ensures) in
-    keeps_back g.D.Disk.TELLS g.D.Disk.reads g.D.Disk.images g.D.Disk.images_since g.D.Disk.moment g.D.Disk.faults
+    keeps_back g.D.Disk
     c.self.inside.marks.items (vec_capacity c.self.inside.marks) c.self.inside.due core c.forget_ready.new.self c.self.inside.journal c.stage.new.self back c.in-Err.ensures.err c.self.invariant
 
 pub returns-in-Err-clause-unchanged : goal.returns-in-Err-clause-unchanged
@@ -35,7 +35,7 @@ invariant_of-self-2 g c =
     let r : BenchRecord = record_of c.args.found.lease c.args.found.outcome in
     let text : c.deref.result.now ≡ c.in_ok-text.text.items = c.deref.ensures.value in
     let more : vec_capacity c.self.inside.marks ≤ vec_capacity c.push_reserved.new.self = omega (arith, c.push_reserved.ensures.capacity) in
-    kept_result g.D.Disk.TELLS g.D.Disk.reads g.D.Disk.images g.D.Disk.images_since g.D.Disk.moment g.D.Disk.faults
+    kept_result g.D.Disk
     c.self.inside.marks.items c.push_reserved.new.self.items (vec_capacity c.self.inside.marks) (vec_capacity c.push_reserved.new.self) c.self.inside.due core c.ready_result.new.self r c.deref.result.now c.self.inside.journal c.stage.new.self
     c.self.invariant unfailed c.push_reserved.ensures.items c.in_ok-text.ensures.may (outcome_result core c.args.found.lease c.args.found.outcome c.in_ok-text.ensures.may)
     (λ before. subst (λ t. IsText core.state.settings.pieces before r t) (sym text) (c.in_ok-text.ensures.text before))
