@@ -6,6 +6,7 @@ pub mod ExactLemmas
 pub mod FrameLemmas
 pub mod FreshLemmas
 pub mod GateLemmas
+pub mod LooksLemmas
 pub mod JournalLemmas
 pub mod ReadLemmas
 pub mod ReceiptLemmas

@@ -4,5 +4,6 @@ pub mod FormatLaws
 pub mod Frame
 pub mod Gate
 pub mod Log
+pub mod Reads
 pub mod Refusals
 pub mod Rest

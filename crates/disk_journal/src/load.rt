@@ -5,10 +5,10 @@ ghost use Rattle.shared_words.specs.Counts.{HasCause, Rose};
 ghost use Rattle.bench_disk.specs.Runs.{Leaves};
 ghost use Rattle.disk_journal.specs.Format.{HasPayloads, HasPlaces, IsFresh, IsPieceCount, file_head};
 ghost use Rattle.disk_journal.specs.Log.{IsAtRest, StaysOrFresh};
-ghost use Rattle.bench_disk.specs.Runs.{OnlyLooks};
 ghost use Rattle.std.specs.Bool.{OnFalse};
 ghost use Rattle.shared_words.specs.Answers.{IsExact};
 ghost use Rattle.disk_journal.specs.Contents.{IsReadAs, read_contents};
+ghost use Rattle.disk_journal.specs.Reads.{OnlyReads};
 ghost use Rattle.disk_journal.specs.Refusals.{Explains, ExplainsAny, says_nothing_of_file};
 ghost use Rattle.disk_journal.specs.Rest.{HoldsFrames};
 
@@ -32,12 +32,7 @@ pub fn read_journal<D: Disk>(
     ensures exact { IsHonest D.TELLS → IsExact says_nothing_of_file (IsReadAs (D.reads disk.old))
         (ExplainsAny (D.reads disk.old)) (read_contents result) }
     ensures table { IfOk result (λ r. IsPieceCount r.0) }
-    ensures looks { IsHonest D.TELLS → OnlyLooks D.reads D.images D.images_since D.moment disk.old
-        disk.new }
-    ensures later { D.moment disk.old ≤ D.moment disk.new }
-    ensures faults { D.faults disk.old ≤ D.faults disk.new }
-    ensures cause { result ≡ Err JournalRefusal.DiskFault →
-        Rose (D.faults disk.old) (D.faults disk.new) }
+    ensures reads { OnlyReads D.Disk disk.old disk.new (result ≡ Err JournalRefusal.DiskFault) }
 {
     let len = measure(disk)?;
     if len <= MAX_FRESH {
@@ -63,12 +58,7 @@ fn read_asked<D: Disk>(
     ensures bound { IfOk result (λ f. (length f.payloads.items ≤ f.gate) × (f.gate < 2 ^ 62)) }
     ensures refused { IsHonest D.TELLS → IfErr result
         (λ e. OnFalse (says_nothing_of_file e) (Explains (D.reads disk.old) pieces e)) }
-    ensures looks { IsHonest D.TELLS → OnlyLooks D.reads D.images D.images_since D.moment disk.old
-        disk.new }
-    ensures later { D.moment disk.old ≤ D.moment disk.new }
-    ensures faults { D.faults disk.old ≤ D.faults disk.new }
-    ensures cause { result ≡ Err JournalRefusal.DiskFault →
-        Rose (D.faults disk.old) (D.faults disk.new) }
+    ensures reads { OnlyReads D.Disk disk.old disk.new (result ≡ Err JournalRefusal.DiskFault) }
 {
     let found = read_head(disk)?;
     if found != pieces {

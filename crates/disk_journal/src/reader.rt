@@ -1,10 +1,9 @@
 //! Reading a journal from a disk, frame by frame.
-ghost use Rattle.std.specs.Prelude.{◌≡◌, ◌+◌, ◌-◌, ◌≤◌, ◌<◌, ◌^◌, length, take, drop, IfErr, IfNone, IfOk, IfSome, MatchBool, MatchOption};
+ghost use Rattle.std.specs.Prelude.{◌≡◌, ◌+◌, ◌-◌, ◌≤◌, ◌<◌, ◌^◌, length, take, drop, IfErr, IfNone, IfOk, IfSome, IsErr, MatchBool, MatchOption};
 ghost use Rattle.std.specs.Bool.{OnFalse};
 ghost use Rattle.bench_disk.specs.Disk.{IsHonest};
-ghost use Rattle.shared_words.specs.Counts.{HasCause, Rose};
 ghost use Rattle.disk_journal.specs.Format.{IsPieceCount};
-ghost use Rattle.bench_disk.specs.Runs.{OnlyLooks};
+ghost use Rattle.disk_journal.specs.Reads.{OnlyReads};
 ghost use Rattle.disk_journal.specs.Refusals.{HasHead, says_nothing_of_file};
 ghost use Rattle.disk_journal.specs.Rest.{AddsFrame, BeginsGate, HoldsFrames, IsBrokenAt, IsClosed, IsDamage, IsGateWithin, LacksHead};
 
@@ -27,12 +26,7 @@ pub fn read_head<D: Disk>(disk: &mut D) -> Result<u8, JournalRefusal>
     ensures head { IsHonest D.TELLS → IfOk result (λ pieces. HasHead pieces (D.reads disk.old)) }
     ensures table { IfOk result IsPieceCount }
     ensures refused { IsHonest D.TELLS → IfErr result (LacksHead (D.reads disk.old)) }
-    ensures looks { IsHonest D.TELLS → OnlyLooks D.reads D.images D.images_since D.moment disk.old
-        disk.new }
-    ensures later { D.moment disk.old ≤ D.moment disk.new }
-    ensures faults { D.faults disk.old ≤ D.faults disk.new }
-    ensures cause { result ≡ Err JournalRefusal.DiskFault →
-        Rose (D.faults disk.old) (D.faults disk.new) }
+    ensures reads { OnlyReads D.Disk disk.old disk.new (result ≡ Err JournalRefusal.DiskFault) }
 {
     let mut start = [0; 8];
     let count = disk.read_at(0, &mut start)?;
@@ -48,10 +42,7 @@ fn read_gate<D: Disk>(disk: &mut D, len: u64, gate: u64) -> Result<Gate, DiskFau
     requires within { gate ≤ len }
     ensures begins { IsHonest D.TELLS → IfOk result (BeginsGate (drop gate (D.reads disk.old))) }
     ensures within { IfOk result (IsGateWithin (len - gate)) }
-    ensures looks { IsHonest D.TELLS → OnlyLooks D.reads D.images D.images_since D.moment disk.old
-        disk.new }
-    ensures later { D.moment disk.old ≤ D.moment disk.new }
-    ensures cause { HasCause (D.faults disk.old) (D.faults disk.new) result }
+    ensures reads { OnlyReads D.Disk disk.old disk.new (IsErr result) }
 {
     let mut start = [0; 9];
     let count = disk.read_at(gate, &mut start)?;
@@ -63,10 +54,7 @@ fn fill<D: Disk>(disk: &mut D, at: u64, into: &mut [u8]) -> Result<bool, DiskFau
     ensures bytes { IsHonest D.TELLS → IfOk result (λ whole. MatchBool whole
         (into.new ≡ take (length into.old) (drop at (D.reads disk.old)))
         (length (drop at (D.reads disk.old)) < length into.old)) }
-    ensures looks { IsHonest D.TELLS → OnlyLooks D.reads D.images D.images_since D.moment disk.old
-        disk.new }
-    ensures later { D.moment disk.old ≤ D.moment disk.new }
-    ensures cause { HasCause (D.faults disk.old) (D.faults disk.new) result }
+    ensures reads { OnlyReads D.Disk disk.old disk.new (IsErr result) }
 {
     Ok(disk.read_at(at, into)? == into.len())
 }
@@ -95,12 +83,7 @@ fn read_frame<D: Disk>(
     ensures refused { IsHonest D.TELLS →
         IfErr result (λ e. OnFalse (says_nothing_of_file e)
         (IsBrokenAt gate (drop gate (D.reads disk.old)) e)) }
-    ensures looks { IsHonest D.TELLS → OnlyLooks D.reads D.images D.images_since D.moment disk.old
-        disk.new }
-    ensures later { D.moment disk.old ≤ D.moment disk.new }
-    ensures faults { D.faults disk.old ≤ D.faults disk.new }
-    ensures cause { result ≡ Err JournalRefusal.DiskFault →
-        Rose (D.faults disk.old) (D.faults disk.new) }
+    ensures reads { OnlyReads D.Disk disk.old disk.new (result ≡ Err JournalRefusal.DiskFault) }
 {
     let size = match read_gate(disk, len, gate)? {
         Gate::Closed => return Ok(None),
@@ -135,12 +118,7 @@ pub fn read_frames<D: Disk>(
     ensures bound { IfOk result (λ f. (length f.payloads.items ≤ f.gate) × (f.gate < len)) }
     ensures refused { IsHonest D.TELLS → IfErr result
         (λ e. OnFalse (says_nothing_of_file e) (IsDamage pieces (D.reads disk.old) e)) }
-    ensures looks { IsHonest D.TELLS → OnlyLooks D.reads D.images D.images_since D.moment disk.old
-        disk.new }
-    ensures later { D.moment disk.old ≤ D.moment disk.new }
-    ensures faults { D.faults disk.old ≤ D.faults disk.new }
-    ensures cause { result ≡ Err JournalRefusal.DiskFault →
-        Rose (D.faults disk.old) (D.faults disk.new) }
+    ensures reads { OnlyReads D.Disk disk.old disk.new (result ≡ Err JournalRefusal.DiskFault) }
 {
     let mut gate = 8;
     let mut text = Vec::new(alloc);
@@ -156,12 +134,7 @@ pub fn measure<D: Disk>(disk: &mut D) -> Result<u64, JournalRefusal>
     ensures len { IsHonest D.TELLS → IfOk result (λ n. n ≡ length (D.reads disk.old)) }
     ensures bound { IfOk result (λ n. n ≤ 2 ^ 62) }
     ensures refused { IfErr result (λ refusal. refusal ≡ JournalRefusal.DiskFault) }
-    ensures looks { IsHonest D.TELLS → OnlyLooks D.reads D.images D.images_since D.moment disk.old
-        disk.new }
-    ensures later { D.moment disk.old ≤ D.moment disk.new }
-    ensures faults { D.faults disk.old ≤ D.faults disk.new }
-    ensures cause { result ≡ Err JournalRefusal.DiskFault →
-        Rose (D.faults disk.old) (D.faults disk.new) }
+    ensures reads { OnlyReads D.Disk disk.old disk.new (result ≡ Err JournalRefusal.DiskFault) }
 {
     Ok(disk.len()?)
 }

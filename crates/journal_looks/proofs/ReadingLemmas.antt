@@ -1,10 +1,8 @@
--- What is read of a journal, and what reading leaves.
-use Rattle.std.proofs.Common.{◌≡◌, ◌≤◌, ℕ, List, [], map, sym, subst, ◌⊎◌, inl, inr, ⊎_elim}
+-- What is read of a journal.
+use Rattle.std.proofs.Common.{◌≡◌, ℕ, List, [], map, sym, subst, ◌⊎◌, inl, inr, ⊎_elim}
 use Rattle.std.specs.Prelude.{Result, Ok, Err, IfOk, IfErr}
 use Rattle.std.specs.Bool.{OnFalse}
 use Rattle.shared_words.proofs.Exactness.{on_false}
-use Rattle.bench_disk.specs.Disk.{Stays}
-use Rattle.bench_disk.specs.Runs.{OnlyLooks}
 use Rattle.disk_journal.specs.declared.payload.Payload.{Payload}
 use Rattle.disk_journal.specs.declared.refusal.JournalRefusal.{JournalRefusal}
 use Rattle.disk_journal.specs.declared.refusal.JournalRefusal.TheVariants.{DiskFault, NotAJournal, OtherTable, Damaged, Memory}
@@ -17,17 +15,6 @@ use Rattle.tree_manager.specs.Receipts.{SpellsRecords}
 use Rattle.tree_manager.specs.Replaying.{RefusesPayloads, payload_texts}
 use Rattle.tree_manager.proofs.ReplayLemmas.{replay_explained}
 use Rattle.journal_looks.specs.Looks.{ExplainsUnread, HasForest}
-
--- ---- what is left
-
-module _ {D : Type 0} (reads : D → List ℕ) (images : D → List ℕ → Type 0) (images_since : D → ℕ → List ℕ → Type 0) (moment : D → ℕ)
-    (now_counts : (disk : D) (t : ℕ) (image : List ℕ) → t ≤ moment disk → images disk image → images_since disk t image) where
-  pub stays_from : (old new : D) → OnlyLooks reads images images_since moment old new → Stays reads images old new
-  stays_from old new looks = record {
-    same = looks.same;
-    none_added = λ image now. looks.run.each image (now_counts new (moment old) image looks.run.later now);
-    none_lost = looks.stays;
-  }
 
 -- ---- why it is not read
 

@@ -1,7 +1,7 @@
 //! The report on a journal, and a certificate of one of its roots.
-ghost use Rattle.std.specs.Prelude.{◌≡◌, ◌≤◌, ◌-◌, ℕ, List, IfOk, IfErr, OnOk, IfSome, IsSome, slice_get, Err};
-ghost use Rattle.shared_words.specs.Counts.{Rose};
-ghost use Rattle.bench_disk.specs.Disk.{IsHonest, Stays};
+ghost use Rattle.std.specs.Prelude.{◌≡◌, ◌-◌, ℕ, List, IfOk, IfErr, OnOk, IfSome, IsSome, slice_get, Err};
+ghost use Rattle.bench_disk.specs.Disk.{IsHonest};
+ghost use Rattle.disk_journal.specs.Reads.{OnlyReads};
 ghost use Rattle.disk_journal.specs.declared.refusal.JournalRefusal.TheVariants as journal;
 ghost use Rattle.strategy_certificate.specs.Tables.{IsTableSize};
 ghost use Rattle.strategy_certificate.specs.Certificates.{IsGood};
@@ -65,10 +65,8 @@ pub fn report<D: Disk>(alloc: Global, disk: &mut D) -> Result<Looked, LookRefusa
     ensures values { IfOk result (λ looked. IsTrueReport looked.text.items) }
 
     // What is left of the disk.
-    ensures stays { IsHonest D.TELLS → Stays D.reads D.images disk.old disk.new }
-    ensures faults { D.faults disk.old ≤ D.faults disk.new }
-    ensures cause { result ≡ Err (LookRefusal.Journal journal.DiskFault) →
-        Rose (D.faults disk.old) (D.faults disk.new) }
+    ensures reads { OnlyReads D.Disk disk.old disk.new
+        (result ≡ Err (LookRefusal.Journal journal.DiskFault)) }
 {
     let read = match read_bench(alloc, disk) {
         Ok(read) => read,
@@ -135,10 +133,8 @@ pub fn certify<D: Disk>(alloc: Global, disk: &mut D, root: u32) -> Result<Certif
     ensures tables { IfOk result (λ c. IsTableSize c.pieces) }
 
     // What is left of the disk.
-    ensures stays { IsHonest D.TELLS → Stays D.reads D.images disk.old disk.new }
-    ensures faults { D.faults disk.old ≤ D.faults disk.new }
-    ensures cause { result ≡ Err (LookRefusal.Journal journal.DiskFault) →
-        Rose (D.faults disk.old) (D.faults disk.new) }
+    ensures reads { OnlyReads D.Disk disk.old disk.new
+        (result ≡ Err (LookRefusal.Journal journal.DiskFault)) }
 {
     let read = match read_bench(alloc, disk) {
         Ok(read) => read,

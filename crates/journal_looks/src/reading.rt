@@ -1,7 +1,7 @@
 //! The bench of what a journal reads as.
-ghost use Rattle.std.specs.Prelude.{◌≡◌, ◌≤◌, [], IfOk, IfErr, Err};
-ghost use Rattle.shared_words.specs.Counts.{Rose};
-ghost use Rattle.bench_disk.specs.Disk.{IsHonest, Stays};
+ghost use Rattle.std.specs.Prelude.{◌≡◌, [], IfOk, IfErr, Err};
+ghost use Rattle.bench_disk.specs.Disk.{IsHonest};
+ghost use Rattle.disk_journal.specs.Reads.{OnlyReads};
 ghost use Rattle.strategy_certificate.specs.Tables.{IsTableSize};
 ghost use Rattle.bench_core.specs.Growing.{IsForestOf};
 ghost use Rattle.tree_manager.specs.Receipts.{SpellsRecords};
@@ -57,10 +57,7 @@ pub(crate) fn read_bench<D: Disk>(
     ensures forest { IsHonest D.TELLS → IfOk result (λ read.
         HasForest read.1.pieces (D.reads disk.old) read.0.state.forest) }
     ensures refused { IsHonest D.TELLS → IfErr result (ExplainsUnread (D.reads disk.old)) }
-    ensures stays { IsHonest D.TELLS → Stays D.reads D.images disk.old disk.new }
-    ensures faults { D.faults disk.old ≤ D.faults disk.new }
-    ensures cause { result ≡ Err JournalRefusal.DiskFault →
-        Rose (D.faults disk.old) (D.faults disk.new) }
+    ensures reads { OnlyReads D.Disk disk.old disk.new (result ≡ Err JournalRefusal.DiskFault) }
 {
     let read = match read_journal(alloc, disk) {
         Ok(read) => read,

@@ -5,15 +5,14 @@ use Rattle.disk_journal.specs.Contents.{HasContents, IsReadAs, contents_of, read
 use Rattle.disk_journal.specs.Format.{IsFresh}
 use Rattle.disk_journal.specs.Refusals.{ExplainsAny, says_nothing_of_file}
 use Rattle.disk_journal.proofs.ExactLemmas.{reads_exactly}
-use Rattle.bench_disk.specs.Runs.{looks_then}
+use Rattle.disk_journal.proofs.LooksLemmas.{reads_then}
 use Rattle.disk_journal.proofs.load.read_journal.Goals as goal
 
-pub returns-clause-looks : goal.returns-clause-looks
-returns-clause-looks g c = λ tells.
-    looks_then g.D.Disk.reads g.D.Disk.images g.D.Disk.images_since g.D.Disk.moment (λ disk t image. g.met.D.Disk.now_counts disk t image tells) (λ disk s t image. g.met.D.Disk.earlier_counts disk s t image tells) _ _ _
-    (looks_then g.D.Disk.reads g.D.Disk.images g.D.Disk.images_since g.D.Disk.moment (λ disk t image. g.met.D.Disk.now_counts disk t image tells) (λ disk s t image. g.met.D.Disk.earlier_counts disk s t image tells) _ _ _
-    (c.in_ok-len.ensures.looks tells) (c.in_ok-pieces.ensures.looks tells))
-    (c.in_ok-found.ensures.looks tells)
+pub returns-clause-reads : goal.returns-clause-reads
+returns-clause-reads g c =
+    reads_then g.D.Disk g.met.D.Disk.now_counts g.met.D.Disk.earlier_counts _ _ _ _ _ _
+    (reads_then g.D.Disk g.met.D.Disk.now_counts g.met.D.Disk.earlier_counts _ _ _ _ _ _ c.in_ok-len.ensures.reads c.in_ok-pieces.ensures.reads (λ is. is))
+    c.in_ok-found.ensures.reads (λ is. absurd cc)
 
 pub returns-in_err-pieces-clause-exact : goal.returns-in_err-pieces-clause-exact
 returns-in_err-pieces-clause-exact g c = λ tells.

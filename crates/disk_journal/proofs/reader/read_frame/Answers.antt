@@ -4,7 +4,7 @@ use Rattle.std.proofs.lemmas.List.{length-map, take_at}
 use Rattle.disk_journal.specs.Refusals.{IsNoBody}
 use Rattle.disk_journal.specs.Rest.{IsOpen}
 use Rattle.disk_journal.proofs.FrameLemmas.{length_body}
-use Rattle.bench_disk.specs.Runs.{looks_then}
+use Rattle.disk_journal.proofs.LooksLemmas.{reads_then}
 use Rattle.disk_journal.proofs.ReadLemmas.{bad_body, good_body}
 use Rattle.disk_journal.proofs.reader.read_frame.Goals as goal
 
@@ -16,17 +16,16 @@ returns-then-not-branch-2-clause-refused g c = λ tells.
     let long : length c.deref_mut.result.now ≡ size = omega (arith, c.deref_mut.ensures.len, c.in_ok-resize.ensures.len) in
     let whole : c.in_ok-fill.field-0 ≡ true = search rules in
     let read = rw whole at (c.in_ok-fill.ensures.bytes tells) in
-    let same = ap (λ (l : List ℕ). take (length c.deref_mut.result.now) (drop (c.args.gate + 9) l)) (c.in_ok-read_gate.ensures.looks tells).same in
+    let same = ap (λ (l : List ℕ). take (length c.deref_mut.result.now) (drop (c.args.gate + 9) l)) (c.in_ok-read_gate.ensures.reads.looks tells).same in
     let filled : c.fill.new.into ≡ take size (drop (c.args.gate + 9) file) = read ∙ same ∙ ap (λ n. take n (drop (c.args.gate + 9) file)) long in
     let text : c.deref.result.now ≡ c.fill.new.into = c.deref.ensures.value ∙ take_at c.fill.new.into _ c.resize.new.self.len (omega (arith, c.fill.auto.into, c.deref_mut.ensures.len)) in
     let none : c.in_ok-read_body.field-0 ≡ false = search rules in
     let no_body : IsNoBody c.deref.result.now = rw none at c.in_ok-read_body.ensures in
     (refl, bad_body c.args.gate size file c.deref.result.now at_gate (omega arith) (text ∙ filled) (omega (arith, ap length text, c.fill.auto.into, long)) no_body)
 
-pub returns-then-not-branch-2-clause-looks : goal.returns-then-not-branch-2-clause-looks
-returns-then-not-branch-2-clause-looks g c = λ tells.
-    looks_then g.D.Disk.reads g.D.Disk.images g.D.Disk.images_since g.D.Disk.moment (λ disk t image. g.met.D.Disk.now_counts disk t image tells) (λ disk s t image. g.met.D.Disk.earlier_counts disk s t image tells)
-    _ _ _ (c.in_ok-read_gate.ensures.looks tells) (c.in_ok-fill.ensures.looks tells)
+pub returns-then-not-branch-2-clause-reads : goal.returns-then-not-branch-2-clause-reads
+returns-then-not-branch-2-clause-reads g c =
+    reads_then g.D.Disk g.met.D.Disk.now_counts g.met.D.Disk.earlier_counts _ _ _ _ _ _ c.in_ok-read_gate.ensures.reads c.in_ok-fill.ensures.reads (λ is. absurd cc)
 
 pub returns-clause-frame : goal.returns-clause-frame
 returns-clause-frame g c = λ tells.
@@ -36,7 +35,7 @@ returns-clause-frame g c = λ tells.
     let long : length c.deref_mut.result.now ≡ size = omega (arith, c.deref_mut.ensures.len, c.in_ok-resize.ensures.len) in
     let whole : c.in_ok-fill.field-0 ≡ true = search rules in
     let read = rw whole at (c.in_ok-fill.ensures.bytes tells) in
-    let same = ap (λ (l : List ℕ). take (length c.deref_mut.result.now) (drop (c.args.gate + 9) l)) (c.in_ok-read_gate.ensures.looks tells).same in
+    let same = ap (λ (l : List ℕ). take (length c.deref_mut.result.now) (drop (c.args.gate + 9) l)) (c.in_ok-read_gate.ensures.reads.looks tells).same in
     let filled : c.fill.new.into ≡ take size (drop (c.args.gate + 9) file) = read ∙ same ∙ ap (λ n. take n (drop (c.args.gate + 9) file)) long in
     let text : c.deref.result.now ≡ c.fill.new.into = c.deref.ensures.value ∙ take_at c.fill.new.into _ c.resize.new.self.len (omega (arith, c.fill.auto.into, c.deref_mut.ensures.len)) in
     let some : c.in_ok-read_body.field-0 ≡ true = search rules in
@@ -58,7 +57,6 @@ returns-clause-goes g c =
       omega (arith, counted, length_body found.0, ap length found.2, ap length text, c.fill.auto.into, long),
     )
 
-pub returns-clause-looks : goal.returns-clause-looks
-returns-clause-looks g c = λ tells.
-    looks_then g.D.Disk.reads g.D.Disk.images g.D.Disk.images_since g.D.Disk.moment (λ disk t image. g.met.D.Disk.now_counts disk t image tells) (λ disk s t image. g.met.D.Disk.earlier_counts disk s t image tells)
-    _ _ _ (c.in_ok-read_gate.ensures.looks tells) (c.in_ok-fill.ensures.looks tells)
+pub returns-clause-reads : goal.returns-clause-reads
+returns-clause-reads g c =
+    reads_then g.D.Disk g.met.D.Disk.now_counts g.met.D.Disk.earlier_counts _ _ _ _ _ _ c.in_ok-read_gate.ensures.reads c.in_ok-fill.ensures.reads (λ is. absurd cc)

@@ -1,7 +1,7 @@
 use Rattle.std.specs.Prelude.{◌+◌, ◌<◌, ◌≤◌, length}
 use Rattle.std.proofs.Common.{arith, subst}
 use Rattle.disk_journal.specs.Rest.{AddsFrame}
-use Rattle.bench_disk.specs.Runs.{looks_then}
+use Rattle.disk_journal.proofs.LooksLemmas.{reads_then}
 use Rattle.disk_journal.proofs.ReadLemmas.{read_more}
 use Rattle.disk_journal.proofs.reader.read_frames.Goals as goal
 
@@ -15,10 +15,6 @@ loop-payloads-preserved g c =
       read = λ tells.
           let adds : AddsFrame c.loop-payloads.gate c.in-Some.next (g.D.Disk.reads c.loop-payloads.disk) c.loop-payloads.payloads.items c.read_frame.new.payloads.items = rw c.in-Some.is at (c.in_ok-next.ensures.frame tells) in
           read_more c.args.pieces c.loop-payloads.gate c.in-Some.next (g.D.Disk.reads c.args.disk.now) _ _ (c.loop-payloads.invariant.read tells)
-          (subst (λ file. AddsFrame c.loop-payloads.gate c.in-Some.next file c.loop-payloads.payloads.items c.read_frame.new.payloads.items) (c.loop-payloads.invariant.looks tells).same adds);
-      looks = λ tells.
-          looks_then g.D.Disk.reads g.D.Disk.images g.D.Disk.images_since g.D.Disk.moment (λ disk t image. g.met.D.Disk.now_counts disk t image tells) (λ disk s t image. g.met.D.Disk.earlier_counts disk s t image tells)
-          _ _ _ (c.loop-payloads.invariant.looks tells) (c.in_ok-next.ensures.looks tells);
-      later = omega (arith, c.loop-payloads.invariant.later, c.in_ok-next.ensures.later);
-      faults = omega (arith, c.loop-payloads.invariant.faults, c.in_ok-next.ensures.faults);
+          (subst (λ file. AddsFrame c.loop-payloads.gate c.in-Some.next file c.loop-payloads.payloads.items c.read_frame.new.payloads.items) (c.loop-payloads.invariant.reads.looks tells).same adds);
+      reads = reads_then g.D.Disk g.met.D.Disk.now_counts g.met.D.Disk.earlier_counts _ _ _ _ _ _ c.loop-payloads.invariant.reads c.in_ok-next.ensures.reads absurd;
     }

@@ -1,4 +1,5 @@
 use Rattle.strategy_certificate.specs.declared.certificates.Certificate.{Certificate}
+use Rattle.disk_journal.proofs.LooksLemmas.{reads_so}
 use Rattle.journal_looks.proofs.LookLemmas.{certifies_from, certify_accepted, certify_read, certify_unread, no_fault, refuses_from, size_from, unread_accepted}
 use Rattle.journal_looks.proofs.looks.certify.Goals as goal
 
@@ -17,8 +18,10 @@ returns-clause-refused g c honest =
     refuses_from c.in-Ok.read.1.pieces (g.D.Disk.reads c.args.disk.now) c.in-Ok.read.0.state.forest c.args.root c.certified_root.result
     (c.in-Ok.ensures.forest honest) c.certified_root.ensures.refused
 
-pub returns-clause-cause : goal.returns-clause-cause
-returns-clause-cause g c is = absurd (no_fault c.in-Ok.read.0.state.forest c.args.root c.certified_root.result c.certified_root.ensures.refused is)
+pub returns-clause-reads : goal.returns-clause-reads
+returns-clause-reads g c =
+    reads_so g.D.Disk _ _ _ _ c.in-Ok.ensures.reads
+    (λ is. absurd (no_fault c.in-Ok.read.0.state.forest c.args.root c.certified_root.result c.certified_root.ensures.refused is))
 
 pub returns-in-Err-clause-causes : goal.returns-in-Err-clause-causes
 returns-in-Err-clause-causes g c honest = certify_unread Certificate (g.D.Disk.reads c.args.disk.now) c.args.root c.in-Err.refusal (c.in-Err.ensures.refused honest)

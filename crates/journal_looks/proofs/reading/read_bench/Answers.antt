@@ -1,23 +1,18 @@
 use Rattle.std.proofs.Common.{ℕ, List, [], subst}
 use Rattle.std.specs.Prelude.{IfOk, IfErr}
 use Rattle.disk_journal.specs.declared.payload.Payload.{Payload}
+use Rattle.disk_journal.proofs.LooksLemmas.{reads_so}
 use Rattle.tree_manager.specs.Receipts.{SpellsRecords}
 use Rattle.tree_manager.specs.Replaying.{RefusesPayloads, payload_texts}
-use Rattle.journal_looks.proofs.ReadingLemmas.{stays_from, unread_journal, forest_read, refused_read, no_fault_read}
+use Rattle.journal_looks.proofs.ReadingLemmas.{unread_journal, forest_read, refused_read, no_fault_read}
 use Rattle.journal_looks.proofs.reading.read_bench.Goals as goal
 
 pub returns-in-Err-clause-refused : goal.returns-in-Err-clause-refused
 returns-in-Err-clause-refused g c honest = unread_journal (g.D.Disk.reads c.args.disk.now) c.in-Err.refusal (c.in-Err.ensures.exact honest).fault
 
-pub returns-in-Err-clause-stays : goal.returns-in-Err-clause-stays
-returns-in-Err-clause-stays g c honest =
-    stays_from g.D.Disk.reads g.D.Disk.images g.D.Disk.images_since g.D.Disk.moment (λ disk t image. g.met.D.Disk.now_counts disk t image honest) c.args.disk.now c.read_journal.new.disk
-    (c.in-Err.ensures.looks honest)
-
-pub returns-clause-stays : goal.returns-clause-stays
-returns-clause-stays g c honest =
-    stays_from g.D.Disk.reads g.D.Disk.images g.D.Disk.images_since g.D.Disk.moment (λ disk t image. g.met.D.Disk.now_counts disk t image honest) c.args.disk.now c.read_journal.new.disk
-    (c.in-Ok.ensures.looks honest)
+pub returns-clause-reads : goal.returns-clause-reads
+returns-clause-reads g c =
+    reads_so g.D.Disk _ _ _ _ c.in-Ok.ensures.reads (λ is. absurd (no_fault_read c.in-Ok.read.0 c.deref.result.now c.bench_of.result c.bench_of.ensures.refused is))
 
 pub returns-clause-forest : goal.returns-clause-forest
 returns-clause-forest g c honest =
@@ -34,6 +29,3 @@ returns-clause-refused g c honest =
     let items : List Payload = c.in-Ok.read.1.items in
     refused_read k file items c.bench_of.result (c.in-Ok.ensures.exact honest).good.0.payloads (c.in-Ok.ensures.exact honest).good.0.places
     (subst (λ (l : List Payload). IfErr c.bench_of.result (RefusesPayloads k l)) c.deref.ensures.value c.bench_of.ensures.refused)
-
-pub returns-clause-cause : goal.returns-clause-cause
-returns-clause-cause g c is = absurd (no_fault_read c.in-Ok.read.0 c.deref.result.now c.bench_of.result c.bench_of.ensures.refused is)
