@@ -1,6 +1,6 @@
 -- What each call does to a session, in the terms of its contract.
 use Rattle.std.proofs.Common.{◌≡◌, ◌≤◌, ◌<◌, ◌+◌, ◌-◌, ℕ, suc, List, [], ◌∷◌, ◌++◌, length, refl, ap, sym, ◌∙◌, subst, arith, length-append}
-use Rattle.std.specs.Prelude.{Bool, false, Ok}
+use Rattle.std.specs.Prelude.{false, Ok}
 use Rattle.std.proofs.lemmas.List.Sums.{count_by-le-length}
 use Rattle.bench_disk.specs.declared.disk.Disk.{Ghosts}
 use Rattle.bench_disk.specs.Disk.{IsHonest}

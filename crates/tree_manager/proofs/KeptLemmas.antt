@@ -1,6 +1,6 @@
 -- Each call keeps what a session keeps.
 use Rattle.std.proofs.Common.{◌≡◌, ◌≤◌, ◌+◌, ◌-◌, ℕ, List, [], ◌∷◌, ◌++◌, length, refl, ap, sym, ◌∙◌, subst, arith, append_assoc, length-append}
-use Rattle.std.specs.Prelude.{Bool, true, false, not, Some, IfSome}
+use Rattle.std.specs.Prelude.{true, false, not, Some, IfSome}
 use Rattle.std.specs.List.{AllByRecursion as Each}
 use Rattle.std.proofs.lemmas.Bool.{true≢false}
 use Rattle.std.proofs.lemmas.List.{append-nil}

@@ -1,18 +1,15 @@
 -- How many records a line has, and how many of them are applied.
-use Rattle.std.proofs.Common.{◌≡◌, ◌≤◌, ◌+◌, ℕ, List, [], ◌∷◌, ◌++◌, length, refl, ap, sym, ◌∙◌, subst, arith, length-append}
-use Rattle.std.specs.Prelude.{false}
-use Rattle.bench_records.specs.declared.records.BenchRecord.{BenchRecord}
+use Rattle.std.proofs.Common.{◌≡◌, ◌≤◌, ◌+◌, ℕ, List, [], ◌∷◌, ◌++◌, length, ap, sym, ◌∙◌, subst, arith, length-append}
 use Rattle.bench_core.specs.Cores.{Core}
 use Rattle.tree_manager.specs.declared.entries.Entry.{Entry}
-use Rattle.tree_manager.specs.declared.entries.Entry.TheVariants as entry
 use Rattle.tree_manager.specs.declared.marks.Mark.{Mark}
 use Rattle.tree_manager.specs.declared.marks.Mark.TheVariants.{Put, Attached, Leased, Released, Acked, Broken}
-use Rattle.tree_manager.specs.Entries.{record_put, breaks}
-use Rattle.tree_manager.specs.Lines.{recorded, applied_in, unapplied_in, is_failed}
+use Rattle.tree_manager.specs.Entries.{record_put}
+use Rattle.tree_manager.specs.Lines.{recorded, applied_in, unapplied_in}
 use Rattle.tree_manager.specs.Histories.{IsHistory}
 use Rattle.tree_manager.specs.Turns.{GrowsByTurns}
 use Rattle.tree_manager.specs.Weaving.{puts_marked}
-use Rattle.tree_manager.proofs.LineLemmas.{any_push_not, recorded_split}
+use Rattle.tree_manager.proofs.LineLemmas.{recorded_split}
 use Rattle.tree_manager.proofs.HistoryLaws.{history_stands}
 
 -- ---- a session's line
@@ -34,10 +31,6 @@ recorded_length line core history =
 
 pub applied_length : (line : List Entry) (core : Core) → IsHistory line core → length (applied_in line) ≡ length core.records
 applied_length line core history = ap length (sym (history_stands line core history).0.records)
-
--- one record more does not make it fail
-pub unfailed_put : (line new : List Entry) (r : BenchRecord) → is_failed line ≡ false → new ≡ line ++ entry.Put r ∷ [] → is_failed new ≡ false
-unfailed_put line new r unfailed is = ap is_failed is ∙ (any_push_not breaks line (entry.Put r) refl ∙ unfailed)
 
 -- ---- turns
 

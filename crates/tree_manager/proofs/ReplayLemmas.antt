@@ -1,6 +1,6 @@
 -- One payload more is replayed.
 use Rattle.std.proofs.Common.{◌≡◌, ◌≤◌, ◌<◌, ◌+◌, ℕ, suc, List, [], ◌∷◌, ◌++◌, map, take, drop, get_or, length, refl, ap, sym, ◌∙◌, subst, ◌⊎◌, inl, inr, arith}
-use Rattle.std.specs.Prelude.{Bool, false, Result, Ok, Err, IfOk, IfErr}
+use Rattle.std.specs.Prelude.{false, Result, Ok, Err, IfOk, IfErr}
 use Rattle.std.specs.Bool.{OnFalse}
 use Rattle.std.specs.List.{AllByRecursion as Each}
 use Rattle.std.proofs.Math.Seq.{split_at}
@@ -53,10 +53,6 @@ map_more_read f xs i x within is = map_more f xs i x within ∙ ap (λ y. map f 
 
 pub spell_more : (k : ℕ) (rs qs : List BenchRecord) (ps us : List (List ℕ)) (r : BenchRecord) (p : List ℕ) → SpellsRecords k [] rs ps → IsText k rs r p → qs ≡ rs ++ r ∷ [] → us ≡ ps ++ p ∷ [] → SpellsRecords k [] qs us
 spell_more k rs qs ps us r p h text x y = rw (x, y) (spell_append k [] rs (r ∷ []) ps (p ∷ []) h (text, tt))
-
--- a bench without roots
-pub new_replayed : (s : Settings) (core : Core) → core ≡ new_core s → IsReplayedCore s core
-new_replayed s core is = subst (IsReplayedCore s) (sym is) (record { forest = refl; rest = refl })
 
 -- what it knows of its settings
 pub replayed_pieces : (s : Settings) (core : Core) → IsReplayedCore s core → core.state.settings.pieces ≡ s.pieces
@@ -179,10 +175,6 @@ pub cause_first : (file : List ℕ) (k : ℕ) (refusal e : JournalRefusal)
     → IsExact {T = Contents} says_nothing_of_file (IsAttachedAs file k) (Explains file k) (Err refusal) → Explains file k e → OnFalse (says_nothing_of_file refusal) (refusal ≡ e)
 cause_first file k refusal e exact stands =
     on_false (says_nothing_of_file refusal) _ (refusal ≡ e) (λ same. subst (λ (x : Result Contents JournalRefusal). IfErr x (λ v. refusal ≡ v)) same refl) (exact.only_fault e stands)
-
--- no fault of the disk
-pub replay_no_fault : (k : ℕ) (payloads : List Payload) (refusal : JournalRefusal) → RefusesPayloads k payloads refusal → refusal ≡ DiskFault → ⊥
-replay_no_fault k payloads refusal refused is = subst (RefusesPayloads k payloads) is refused
 
 -- ---- the beginning
 

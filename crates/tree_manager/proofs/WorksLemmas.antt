@@ -1,8 +1,6 @@
 -- A session that works goes on.
-use Rattle.std.proofs.Common.{◌≡◌, ℕ, List, [], ◌∷◌, refl, ap, sym, ◌∙◌, subst, inl, inr, ⊎_elim}
+use Rattle.std.proofs.Common.{◌≡◌, List, [], ◌∷◌, refl, ap, ◌∙◌, inl, inr, ⊎_elim}
 use Rattle.std.specs.Prelude.{◌⊎◌, false, Result, Ok, Err, OnOk, IfOk}
-use Rattle.bench_disk.specs.declared.disk.Disk.{Ghosts}
-use Rattle.bench_disk.specs.Disk.{GoesOn}
 use Rattle.disk_journal.specs.declared.journal.Receipt.{Receipt}
 use Rattle.tree_manager.specs.declared.entries.Entry.TheVariants.{Acked}
 use Rattle.tree_manager.specs.Entries.{breaks}
@@ -22,7 +20,3 @@ commit_works old new (Ok receipt) whole idle appends = ⊎_elim
     (λ none. ap (λ (s : SessionState _). is_failed s.line) (idle whole none) ∙ whole)
     (λ some. ap is_failed (appends some).line ∙ (any_push_not breaks old.line (Acked receipt.moment) refl ∙ whole))
     (none_or_some old.core.staged)
-
--- a disk that stays goes on
-pub same_goes_on : {D : Type 0} (g : Ghosts D) (old new : D) → new ≡ old → GoesOn (g.moment old) (g.images_since old) (g.images_since new)
-same_goes_on g old new same = subst (λ d. GoesOn (g.moment old) (g.images_since old) (g.images_since d)) (sym same) (record { nothing_else = λ t image le since. inl since; keeps = λ t image le past. past })

@@ -1,5 +1,7 @@
 -- What a session keeps among its fields. Nobody has to believe it.
-use Rattle.std.specs.Prelude.{◌≡◌, ◌≤◌, ◌+◌, ◌*◌, ℕ, Bool, true, false, not, List, length, count_by, IfSome}
+use Rattle.std.specs.Prelude.{◌≡◌, ◌≤◌, ◌+◌, ◌*◌, ◌++◌, [], ℕ, true, false, not, List, length, count_by, IfSome, Vec}
+use Rattle.std.specs.declared.alloc.Global.{Global}
+use Rattle.std.specs.Vec.{vec_capacity}
 use Rattle.std.specs.List.{AllByRecursion as Each}
 use Rattle.bench_disk.specs.declared.disk.Disk.{Ghosts}
 use Rattle.bench_disk.specs.Disk.{IsHonest}
@@ -7,13 +9,15 @@ use Rattle.shared_words.specs.Counts.{Rose}
 use Rattle.disk_journal.specs.Log.{Log}
 use Rattle.lease_table.specs.declared.leases.Row.{Row}
 use Rattle.bench_core.specs.Cores.{CanApplyAll, Core}
+use Rattle.bench_core.specs.Records.{begun}
 use Rattle.tree_manager.specs.declared.entries.Entry.{Entry}
 use Rattle.tree_manager.specs.declared.marks.Mark.{Mark}
 use Rattle.tree_manager.specs.Entries.{faults_told}
 use Rattle.tree_manager.specs.Lines.{attachment_of, is_failed, EndsBroken}
 use Rattle.tree_manager.specs.Histories.{IsHistory}
 use Rattle.tree_manager.specs.Synced.{IsSynced}
-use Rattle.tree_manager.specs.Weaving.{puts_marked}
+use Rattle.tree_manager.specs.Weaving.{puts_marked, woven}
+use Rattle.tree_manager.specs.Sessions.{SessionState}
 
 -- how many leases live that are not kept
 abbrev pub waiting_leases : List Row → ℕ
@@ -42,3 +46,37 @@ pub record IsSession {D : Type 0} (g : Ghosts D) (line : List Entry) (marks : Li
       → IfSome (attachment_of line) (λ a. Rose a.faults (g.faults log.disk))
   pub ended : is_failed line ≡ true → EndsBroken line
   pub synced : IsHonest g.TELLS → IsSynced g line log
+
+-- The fields of a session, as a call that has not ended finds them.
+pub record Parts (D : Type 0) : Type 0 where
+  pub marks : List Mark
+  pub capacity : ℕ
+  pub due : ℕ
+  pub core : Core
+  pub log : Log D
+
+abbrev pub parts_of : {D : Type 0} → Vec Mark Global → ℕ → Core → Log D → Parts D
+parts_of marks due core log = record {
+  marks = marks.items;
+  capacity = vec_capacity marks;
+  due = due;
+  core = core;
+  log = log;
+}
+
+abbrev pub line_in : {D : Type 0} → Parts D → List Entry
+line_in parts = woven parts.marks (parts.core.records ++ parts.core.staged)
+
+-- the session that its callers see
+abbrev pub state_of : {D : Type 0} → Parts D → SessionState D
+state_of parts = record { line = line_in parts; core = parts.core; disk = parts.log.disk }
+
+-- what holds within a call too, where roots may be staged
+abbrev pub HoldsWithinCall : {D : Type 0} → Ghosts D → Parts D → Type 0
+HoldsWithinCall g parts =
+    IsSession g (line_in parts) parts.marks parts.capacity parts.due parts.core parts.log
+
+-- What holds between calls: unless it has failed, no root is staged.
+pub record HoldsBetweenCalls {D : Type 0} (g : Ghosts D) (parts : Parts D) : Type 0 where
+  pub within : HoldsWithinCall g parts
+  pub rootless : is_failed (line_in parts) ≡ false → begun parts.core.staged ≡ []

@@ -1,5 +1,5 @@
 -- A session as its callers see it, what each call does to it, and why it refuses.
-use Rattle.std.specs.Prelude.{◌≡◌, ◌⊎◌, ◌+◌, ◌<◌, ℕ, Bool, true, false, cond, min, ◌-◌, List, [], ◌∷◌, ◌++◌, map, length, count_by, Contains, Result}
+use Rattle.std.specs.Prelude.{◌≡◌, ◌⊎◌, ◌+◌, ◌<◌, ℕ, true, false, cond, min, ◌-◌, List, [], ◌∷◌, ◌++◌, map, length, count_by, Contains, Result}
 use Rattle.std.specs.List.{list_any, AllByRecursion as Each}
 use Rattle.bench_disk.specs.declared.disk.Disk.{Ghosts}
 use Rattle.draughts_board.specs.Board.{Board, same_board}

@@ -30,9 +30,9 @@
 mod counting;
 mod entries;
 mod held;
-mod joined;
 pub mod laws;
 mod marks;
+mod parts;
 mod refusals;
 mod replaying;
 mod roots;

@@ -1,16 +1,21 @@
 //! A session.
-ghost use Rattle.std.specs.Prelude.{◌≡◌, ◌≢◌, ◌⊎◌, ◌+◌, ◌≤◌, ◌<◌, ◌++◌, ◌∷◌, [], ℕ, List, Contains, length, true, false, Ok, IsOk, IfOk, IfErr, OnOk, OnErr, IfSome, MatchResult};
+ghost use Rattle.std.specs.Prelude.{◌≡◌, ◌≢◌, ◌⊎◌, ◌+◌, ◌≤◌, ◌<◌, ◌++◌, [], ℕ, Contains, length, true, false, Ok, IfOk, IfErr, OnOk, OnErr, IfSome, MatchResult};
 ghost use Rattle.bench_disk.specs.Disk.{GoesOn, IsHonest};
 ghost use Rattle.shared_words.specs.Counts.{Rose};
 
-use crate::joined::JoinedBench;
+use crate::entries::Attachment;
+use crate::marks::{Mark, push_puts};
+use crate::parts::commit_parts;
 use crate::refusals::{BeginRefusal, CommitRefusal, StageRefusal};
+use crate::replaying::replay_all;
+use crate::roots::{new_roots, stage_roots};
 use bench_core::{Bench, LeaseRefusal, LeaseResult, Settings};
 use bench_disk::Disk;
 use certificate_checker::Outcome;
-use disk_journal::{JournalRefusal, Receipt};
+use disk_journal::{Journal, JournalRefusal, Receipt};
 use draughts_board::Position;
 use lease_table::{Lease, LeaseId, Stale};
+use proof_tree::MOST_ROOTS;
 use std::alloc::Global;
 use std::marker::Model;
 use strategy_certificate::Oracle;
@@ -21,24 +26,34 @@ use strategy_certificate::Oracle;
 /// alone: unless it has failed, none is staged between calls.
 #[derive(Drop)]
 pub struct Session<D: Disk> {
-    joined: JoinedBench<D>,
+    bench: Bench,
+    journal: Journal<D>,
+    /// The entries of the line, but for records.
+    marks: Vec<Mark>,
+    /// For so many entries more there is room, beyond those of which one is taken at once: those that end leases and
+    /// commits.
+    due: usize,
 }
 
 impl<D: Disk> Model for Session<D> {
-    ghost use Rattle.std.specs.Prelude.{◌≡◌, [], false};
+    ghost use Rattle.std.specs.Prelude.{◌++◌};
     ghost use Rattle.std.specs.Coded.{codes};
     ghost use Rattle.proof_tree.specs.Code.{forest_code};
-    ghost use Rattle.bench_core.specs.Records.{begun};
-    ghost use Rattle.tree_manager.specs.Lines.{is_failed};
     ghost use Rattle.tree_manager.specs.Sessions.{SessionState};
+    ghost use Rattle.tree_manager.specs.Keeping.{HoldsBetweenCalls, parts_of};
+    ghost use Rattle.tree_manager.specs.Weaving.{woven};
 
     ghost Value = { SessionState D };
 
     ghost coded = { Prim.hlevel (codes, forest_code) };
 
-    ghost view = { λ s. s.joined };
+    ghost view = { λ s. record {
+      line = woven s.marks.items (s.bench.records ++ s.bench.staged);
+      core = s.bench;
+      disk = s.journal.disk;
+    } };
 
-    ghost invariant = { λ s. is_failed s.joined.line ≡ false → begun s.joined.core.staged ≡ [] };
+    ghost invariant = { λ s. HoldsBetweenCalls D.Disk (parts_of s.marks s.due s.bench s.journal) };
 }
 
 impl<D: Disk> Session<D> {
@@ -51,15 +66,16 @@ impl<D: Disk> Session<D> {
     ghost use Rattle.disk_journal.specs.Log.{StaysOrFresh};
     ghost use Rattle.disk_journal.specs.Refusals.{Explains, says_nothing_of_file};
     ghost use Rattle.std.specs.Bool.{OnFalse};
+    ghost use Rattle.std.specs.Option.{option_map};
     ghost use Rattle.draughts_board.specs.Draughts.{draughts};
     ghost use Rattle.draughts_board.specs.Game.{is_at_sight};
     ghost use Rattle.proof_tree.specs.Sound.{root_positions};
-    ghost use Rattle.bench_core.specs.Records.{begun};
+    ghost use Rattle.lease_table.specs.Rows.{first_unkept};
     ghost use Rattle.bench_core.specs.States.{HasRow, lease_answer};
     ghost use Rattle.bench_core.specs.Cores.{IsOutcomeOf, record_of};
     ghost use Rattle.bench_core.specs.Answers.{unkept};
     ghost use Rattle.tree_manager.specs.declared.entries.Entry.TheVariants as entry;
-    ghost use Rattle.tree_manager.specs.Lines.{recorded, applied_in, unapplied_in, attachment_of, is_failed, EndsBroken};
+    ghost use Rattle.tree_manager.specs.Lines.{recorded, applied_in, attachment_of, is_failed, EndsBroken};
     ghost use Rattle.tree_manager.specs.Histories.{IsHistory, IsCoreOf};
     ghost use Rattle.tree_manager.specs.Entries.{faults_told};
     ghost use Rattle.tree_manager.specs.Receipts.{KeepsReceipts, acknowledgements};
@@ -120,10 +136,33 @@ impl<D: Disk> Session<D> {
             IfErr result (λ e. NothingPending (D.reads e.0) (D.images e.0) ⊎
             (IsFresh (D.reads disk) × Rose (D.faults disk) (D.faults e.0))) }
     {
-        match JoinedBench::attach(alloc, disk, s, oracle) {
-            Ok(joined) => Ok(Session { joined }),
-            Err(refused) => Err(refused),
+        let pieces = oracle.pieces();
+        let (journal, payloads) = match Journal::attach(alloc, disk, pieces) {
+            Ok(attached) => attached,
+            Err(refused) => return Err(refused),
+        };
+        let (mut bench, mut marks) = match replay_all(alloc, s, &payloads, oracle) {
+            Ok(replayed) => replayed,
+            Err(refusal) => return Err((journal.into_disk(), refusal)),
+        };
+        if let Err(error) = marks.reserve(1) {
+            return Err((journal.into_disk(), JournalRefusal::Memory(error)));
         }
+        bench.start_session();
+        marks.push_reserved(Mark::Attached(Attachment {
+            opened: journal.opened(),
+            faults: journal.disk().faults(),
+            budget: bench.budget(),
+            depth: s.depth,
+            pieces,
+            limit: s.lease,
+        }));
+        Ok(Session {
+            bench,
+            journal,
+            marks,
+            due: 0,
+        })
     }
 
     /// The bench. Every session keeps these facts: its line leads to its bench's core, which is what the line stands for;
@@ -139,7 +178,31 @@ impl<D: Disk> Session<D> {
         ensures receipts { IsHonest D.TELLS →
             KeepsReceipts self.now.core.state.settings.pieces D.Disk self.now.line self.now.disk }
     {
-        self.joined.bench()
+        &self.bench
+    }
+
+    /// How many entries its line has.
+    pub fn len(&self) -> u64
+        ensures { result ≡ length self.now.line }
+    {
+        self.marks.len() as u64
+    }
+
+    /// How many records its line has, those that are staged among them.
+    pub fn recorded(&self) -> u64
+        ensures { is_failed self.now.line ≡ false → result ≡ length (recorded self.now.line) }
+    {
+        let staged = self.journal.staged() as u64;
+        self.journal.count().saturating_add(staged)
+    }
+
+    /// So many records of its line are applied, and so durable. Of a session that has failed it says no.
+    pub fn has_applied(&self, number: u64) -> bool
+        ensures yes { result ≡ true → number ≤ length (applied_in self.now.line) }
+        ensures no { result ≡ false → is_failed self.now.line ≡ false
+            → length (applied_in self.now.line) < number }
+    {
+        !self.journal.is_failed() && number <= self.journal.count()
     }
 
     /// The disk, with what was committed. It keeps the session's receipts; where the session has failed, its faults rose
@@ -152,7 +215,7 @@ impl<D: Disk> Session<D> {
         ensures broken { is_failed self.line ≡ true → IfSome (attachment_of self.line)
             (λ a. Rose a.faults (D.faults result)) }
     {
-        self.joined.into_disk()
+        self.journal.into_disk()
     }
 
     /// Begins a root at each of these positions that has none yet, in order, and commits.
@@ -178,7 +241,27 @@ impl<D: Disk> Session<D> {
             (D.images_since self.old.disk) (D.images_since self.new.disk) }
         ensures refused { IfErr result (RefusesBegin D.faults self.old positions.now self.new) }
     {
-        self.joined.begin(positions, oracle)
+        if self.journal.is_failed() {
+            return Err(BeginRefusal::Failed);
+        }
+        let added = new_roots(*self.marks.allocator(), self.bench.tree(), positions)?;
+        let count = added.len();
+        if self.bench.tree().roots() as usize + count > MOST_ROOTS {
+            return Err(BeginRefusal::TooManyRoots);
+        }
+        self.marks.reserve(self.due + count + count)?;
+        stage_roots(&mut self.bench, &mut self.journal, added.as_slice(), oracle)?;
+        push_puts(&mut self.marks, added.as_slice());
+        self.due += count;
+        match commit_parts(
+            &mut self.bench,
+            &mut self.journal,
+            &mut self.marks,
+            &mut self.due,
+        ) {
+            Ok(receipt) => Ok(receipt),
+            Err(_) => Err(BeginRefusal::Disk),
+        }
     }
 
     /// Leases the next leaf to a worker; it is not decided at sight. It makes the room for the entry that will end the
@@ -197,7 +280,15 @@ impl<D: Disk> Session<D> {
         ensures grows { GrowsByTurns self.old.line self.new.line }
         ensures turn { Leases self.old.line self.new.line worker result }
     {
-        self.joined.lease(worker)
+        if self.journal.is_failed() {
+            return Err(LeaseRefusal::Failed);
+        }
+        self.marks.reserve(self.due + 3)?;
+        let lease = self.bench.lease(worker)?;
+        let given = &lease;
+        self.marks.push_reserved(Mark::Leased(*given));
+        self.due += 2;
+        Ok(lease)
     }
 
     /// Ends a lease without a result. `Stale` comes exactly where it does not live, is kept, or the session has failed. It
@@ -213,7 +304,13 @@ impl<D: Disk> Session<D> {
         ensures grows { GrowsByTurns self.old.line self.new.line }
         ensures turn { Releases self.old.line self.new.line id result }
     {
-        self.joined.release(id)
+        if self.journal.is_failed() {
+            return Err(Stale(id));
+        }
+        self.bench.release(id)?;
+        self.marks.push_reserved(Mark::Released(id));
+        self.due -= 2;
+        Ok(())
     }
 
     /// Stages the result of a lease's search, and keeps the lease for it. After a refusal the session is as it was, and
@@ -232,10 +329,14 @@ impl<D: Disk> Session<D> {
         ensures grows { GrowsByTurns self.old.line self.new.line }
         ensures turn { Stages self.old.line self.new.line lease.now outcome result }
     {
-        self.joined.stage(lease, outcome)
+        if self.journal.is_failed() {
+            return Err(StageRefusal::Failed);
+        }
+        let found = LeaseResult::new(*self.marks.allocator(), lease, outcome)?;
+        self.stage_result(found)
     }
 
-    /// Stages a result that is made already, as `stage` does. It copies no certificate and encodes nothing.
+    /// Stages a result that is made already, as `stage` does.
     pub(crate) fn stage_result(&mut self, found: LeaseResult) -> Result<(), StageRefusal>
         ensures appends { OnOk result
             (Appends self.old (entry.Put (record_of found.lease found.outcome)) self.new) }
@@ -249,7 +350,17 @@ impl<D: Disk> Session<D> {
         ensures grows { GrowsByTurns self.old.line self.new.line }
         ensures turn { Stages self.old.line self.new.line found.lease found.outcome result }
     {
-        self.joined.stage_result(found)
+        if self.journal.is_failed() {
+            return Err(StageRefusal::Failed);
+        }
+        let text = self.bench.ready_result(found)?;
+        if let Err(error) = self.journal.stage(&text) {
+            self.bench.forget_ready();
+            return Err(StageRefusal::Memory(error));
+        }
+        self.marks.push_reserved(Mark::Put);
+        self.due -= 1;
+        Ok(())
     }
 
     /// Stages a result that is made already, as `stage` does, and answers with the number of its record in the journal, from
@@ -270,7 +381,6 @@ impl<D: Disk> Session<D> {
     /// fault of the disk the session has failed: its forest stays, and its line ends there.
     pub fn commit(&mut self) -> Result<Receipt, CommitRefusal>
         ensures unfailed { OnOk result (is_failed self.old.line ≡ false) }
-        ensures works { OnOk result (is_failed self.new.line ≡ false) }
         ensures idle { is_failed self.old.line ≡ false → self.old.core.staged ≡ []
             → OnOk result (self.new ≡ self.old) }
         ensures appends { self.old.core.staged ≢ [] → IfOk result
@@ -282,36 +392,33 @@ impl<D: Disk> Session<D> {
         ensures calls { D.moment self.new.disk ≤ D.moment self.old.disk + 4 }
         ensures since { IsHonest D.TELLS → GoesOn (D.moment self.old.disk)
             (D.images_since self.old.disk) (D.images_since self.new.disk) }
-        ensures refused { IfErr result (RefusesCommit D.faults self.old self.new) }
-        ensures grows { GrowsByTurns self.old.line self.new.line }
-        ensures turn { Commits self.old.line self.new.line result }
         ensures moments { IsHonest D.TELLS → IfOk result (λ receipt.
             Each (λ ack. ack.moment ≤ receipt.moment) (acknowledgements self.new.line)) }
+        ensures refused { IfErr result (RefusesCommit D.faults self.old self.new) }
+        ensures works { OnOk result (is_failed self.new.line ≡ false) }
+        ensures grows { GrowsByTurns self.old.line self.new.line }
+        ensures turn { Commits self.old.line self.new.line result }
     {
-        self.joined.commit()
+        if self.journal.is_failed() {
+            return Err(CommitRefusal::Failed);
+        }
+        commit_parts(
+            &mut self.bench,
+            &mut self.journal,
+            &mut self.marks,
+            &mut self.due,
+        )
     }
 
-    /// How many entries its line has.
-    pub fn len(&self) -> u64
-        ensures { result ≡ length self.now.line }
+    /// The number of the first lease that lives and is not kept, which is the least; none where there is no such lease.
+    fn first_waiting(&self) -> Option<LeaseId>
+        ensures history { IsHistory self.now.line self.now.core }
+        ensures first { result ≡ option_map (λ row. row.lease.id)
+            (first_unkept self.now.core.state.leases.rows) }
+        ensures least { IfSome result (λ id.
+            Each (λ row. row.kept ≡ false → id ≤ row.lease.id) self.now.core.state.leases.rows) }
     {
-        self.joined.len()
-    }
-
-    /// How many records its line has, those that are staged among them.
-    pub fn recorded(&self) -> u64
-        ensures { is_failed self.now.line ≡ false → result ≡ length (recorded self.now.line) }
-    {
-        self.joined.recorded()
-    }
-
-    /// So many records of its line are applied, and so durable. Of a session that has failed it says no.
-    pub fn has_applied(&self, number: u64) -> bool
-        ensures yes { result ≡ true → number ≤ length (applied_in self.now.line) }
-        ensures no { result ≡ false → is_failed self.now.line ≡ false
-            → length (applied_in self.now.line) < number }
-    {
-        self.joined.has_applied(number)
+        self.bench.first_waiting()
     }
 
     /// Ends every lease that lives and is not kept, in rising order of number. Where nothing is staged, none lives then. It
@@ -324,6 +431,8 @@ impl<D: Disk> Session<D> {
         ensures unleased { self.old.core.staged ≡ [] → self.new.core.state.leases.rows ≡ [] }
         ensures stands { IsCoreOf self.new.line self.new.core }
     {
-        self.joined.end_leases();
+        while let Some(id) = self.first_waiting() {
+            let _ended = self.release(id);
+        }
     }
 }

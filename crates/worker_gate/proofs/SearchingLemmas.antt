@@ -1,6 +1,6 @@
 -- What can be searched, and that it stays so as the line grows. Crates above cite these too.
 use Rattle.std.proofs.Common.{◌≡◌, ◌≤◌, ◌++◌, ◌∷◌, [], ℕ, List, refl, ap, sym, ◌∙◌, subst}
-use Rattle.std.specs.Prelude.{Bool, false, All, Option, Some, Ok, Err}
+use Rattle.std.specs.Prelude.{false, All, Option, Some, Ok, Err}
 use Rattle.std.specs.Option.{option_map_or}
 use Rattle.std.proofs.lemmas.List.Elements.{All-weaker, All-push}
 use Rattle.bench_disk.specs.declared.disk.Disk.{Ghosts}
@@ -12,18 +12,17 @@ use Rattle.leaf_search.specs.Search.{IsOutcome}
 use Rattle.lease_table.specs.declared.leases.Lease.{Lease}
 use Rattle.bench_core.specs.declared.refusals.LeaseRefusal.TheVariants as lease
 use Rattle.bench_core.specs.declared.settings.Settings.{Settings}
-use Rattle.bench_core.specs.States.{CoreState, SessionSettings, lease_answer}
-use Rattle.bench_core.specs.Cores.{Core, IsOutcomeOf}
+use Rattle.bench_core.specs.States.{CoreState, lease_answer}
+use Rattle.bench_core.specs.Cores.{IsOutcomeOf}
 use Rattle.tree_manager.specs.declared.entries.Attachment.{Attachment}
 use Rattle.tree_manager.specs.declared.entries.Entry.{Entry}
 use Rattle.tree_manager.specs.Lines.{attachment_of}
-use Rattle.tree_manager.specs.Histories.{IsCoreOf}
 use Rattle.tree_manager.specs.Sessions.{SessionState, IsAttachedTo}
 use Rattle.tree_manager.specs.Turns.{GrowsByTurns, AsksForSearch, Leases}
 use Rattle.tree_manager.proofs.CoreLemmas.{replayed_attachment}
 use Rattle.tree_manager.proofs.SearchLemmas.{pieces_stay, depth_stays, asks_for_search}
 use Rattle.tree_manager.proofs.TurnLemmas.{grows_same}
-use Rattle.worker_gate.specs.declared.worker.Ended.TheVariants.{Done, Spent, Failed}
+use Rattle.worker_gate.specs.declared.worker.Ended.TheVariants.{Spent, Failed}
 use Rattle.worker_gate.specs.Work.{CanSearch, CanSearchLeaf, ShowsEnd}
 
 -- the outcome of a search of the lease's leaf is of the lease
@@ -46,17 +45,7 @@ can_search_on k old new can grows = record {
   depth = subst (λ n. n ≤ 12) (sym (depth_stays old new grows)) can.depth;
 }
 
--- a line's own settings are those of its core
-pub can_search_core : (k : ℕ) (line : List Entry) (core : Core) → IsCoreOf line core → k ≡ core.state.settings.pieces → core.state.settings.depth ≤ 12 → CanSearch k line
-can_search_core k line core stands pieces depth =
-    let state = stands.state in record {
-      tables =
-          pieces ∙ (ap (λ (s : SessionSettings). s.pieces) state.settings ∙ sym (ap (λ (o : Option Attachment). option_map_or (λ a. a.pieces) o 0) state.attached));
-      depth = subst (λ n. n ≤ 12)
-          (ap (λ (s : SessionSettings). s.depth) state.settings ∙ sym (ap (λ (o : Option Attachment). option_map_or (λ a. a.depth) o 0) state.attached)) depth;
-    }
-
--- .. and those that a session was attached with
+-- the settings that a session was attached with are those of its line
 pub can_search_attached : {D : Type 0} (g : Ghosts D) (s : Settings) (disk : D) (new : SessionState D) (k : ℕ) (front : List Entry)
     → IsAttachedTo g s disk new → s.pieces ≡ k → s.depth ≤ 12 → front ≡ new.line → CanSearch k front
 can_search_attached g s disk new k front begins pieces depth same =
@@ -91,9 +80,6 @@ pub leaves_can_be : (k : ℕ) (front : List Entry) (given : List Lease) → CanS
 leaves_can_be k front given can all = All-weaker (AsksForSearch front) (CanSearchLeaf k) (λ lease asks. leaf_can_be k front lease can asks) given all
 
 -- what a refusal to lease shows of the end of a worker
-pub done_shown : (found new : List Entry) (worker : ℕ) → Leases found new worker (Err lease.Done) → ShowsEnd Done new
-done_shown found new worker leases = (worker, leases.1)
-
 pub spent_shown : (found new : List Entry) (worker records budget : ℕ) → Leases found new worker (Err (lease.Spent records budget)) → ShowsEnd Spent new
 spent_shown found new worker records budget leases = (worker, records, budget, leases.1)
 

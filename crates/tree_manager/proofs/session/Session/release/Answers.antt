@@ -1,13 +1,46 @@
-use Rattle.std.proofs.Common.{subst}
+use Rattle.std.proofs.Common.{rules, ◌≡◌, ◌≤◌, ◌++◌, ◌∙◌, refl, sym, subst, arith, true, false}
+use Rattle.std.specs.Vec.{vec_capacity}
+use Rattle.tree_manager.specs.declared.entries.Entry.TheVariants as entry
+use Rattle.tree_manager.specs.declared.marks.Mark.TheVariants as mark
+use Rattle.tree_manager.proofs.KeptLemmas.{line_other}
+use Rattle.tree_manager.proofs.CallLemmas.{appends_from, kept_released}
+use Rattle.tree_manager.specs.Histories.{IsHistory}
+use Rattle.tree_manager.specs.Lines.{is_failed, EndsBroken}
 use Rattle.tree_manager.specs.Sessions.{SessionState}
-use Rattle.tree_manager.specs.Turns.{Releases}
+use Rattle.std.specs.Prelude.{Ok}
+use Rattle.tree_manager.specs.Weaving.{woven}
 use Rattle.tree_manager.proofs.TurnLemmas.{release_turn, releases_grow}
 use Rattle.tree_manager.proofs.session.Session.release.Goals as goal
 
+pub invariant_of-self-2 : goal.invariant_of-self-2
+invariant_of-self-2 g c =
+    let unfailed : c.self.inside.journal.failed ≡ false = cc (c.if-is_failed.false, c.is_failed.ensures) in
+    let more : vec_capacity c.self.inside.marks ≤ vec_capacity c.push_reserved.new.self = omega (arith, c.push_reserved.ensures.capacity) in
+    record {
+      within = kept_released g.D.Disk c.self.inside.marks.items c.push_reserved.new.self.items (vec_capacity c.self.inside.marks) (vec_capacity c.push_reserved.new.self) c.self.inside.due c.self.inside.bench c.release.new.self c.self.inside.journal c.args.id c.self.invariant.within unfailed c.push_reserved.ensures.items c.in_ok-release.ensures.row c.in_ok-release.ensures.event more;
+      rootless = λ whole. rw c.in_ok-release.ensures.event (c.self.invariant.rootless (sym c.self.invariant.within.failed ∙ unfailed));
+    }
+
+pub returns-clause-appends : goal.returns-clause-appends
+returns-clause-appends g c =
+    appends_from _ _ _ _ c.self.view_is (record {
+      line = line_other c.self.inside.marks.items c.push_reserved.new.self.items c.self.inside.bench c.release.new.self (mark.Released c.args.id) (entry.Released c.args.id) c.self.invariant.within.filled c.push_reserved.ensures.items refl refl
+          (rw c.in_ok-release.ensures.event refl);
+      enters = (c.in_ok-release.ensures.row, c.in_ok-release.ensures.event);
+    })
+
 pub returns-clause-turn : goal.returns-clause-turn
 returns-clause-turn g c =
-    subst (λ (s : SessionState g.row.D.Denot). Releases s.line c.release.new.self.line c.args.id c.release.result) c.self.view_is
-    (release_turn c.self.inside.joined c.release.new.self c.release.ensures.history c.release.ensures.ended c.args.id c.release.result c.release.ensures.appends c.release.ensures.stale c.release.ensures.unchanged)
+    release_turn c.args.self.now _ (subst (λ (s : SessionState g.row.D.Denot). IsHistory s.line s.core) c.self.view_is c.self.invariant.within.history)
+    (subst (λ (s : SessionState g.row.D.Denot). is_failed s.line ≡ true → EndsBroken s.line) c.self.view_is c.self.invariant.within.ended)
+    c.args.id (Ok tt) (returns-clause-appends g c) tt tt
 
 pub returns-clause-grows : goal.returns-clause-grows
-returns-clause-grows g c = releases_grow _ _ c.args.id _ (returns-clause-turn g c)
+returns-clause-grows g c = releases_grow _ _ c.args.id (Ok tt) (returns-clause-turn g c)
+
+pub returns-in_err-release-clause-turn : goal.returns-in_err-release-clause-turn
+returns-in_err-release-clause-turn g c =
+    release_turn c.args.self.now (record { line = woven c.self.inside.marks.items (c.release.new.self.records ++ c.release.new.self.staged); core = c.release.new.self; disk = c.self.inside.journal.disk })
+    (subst (λ (s : SessionState g.row.D.Denot). IsHistory s.line s.core) c.self.view_is c.self.invariant.within.history)
+    (subst (λ (s : SessionState g.row.D.Denot). is_failed s.line ≡ true → EndsBroken s.line) c.self.view_is c.self.invariant.within.ended)
+    c.args.id c.from_residual.result (search rules) (search rules) (search rules)

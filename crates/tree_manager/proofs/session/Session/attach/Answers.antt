@@ -2,7 +2,7 @@ use Rattle.std.proofs.Common.{rules, ◌≡◌, ◌≤◌, ◌++◌, ◌∷◌, 
 use Rattle.std.specs.Prelude.{count_by}
 use Rattle.std.specs.Vec.{vec_capacity}
 use Rattle.disk_journal.specs.declared.payload.Payload.{Payload}
-use Rattle.bench_core.specs.Records.{is_work}
+use Rattle.bench_core.specs.Records.{begun, is_work}
 use Rattle.bench_core.specs.Cores.{Core}
 use Rattle.bench_records.specs.declared.records.BenchRecord.{BenchRecord}
 use Rattle.tree_manager.specs.declared.entries.Attachment.{Attachment}
@@ -18,7 +18,7 @@ use Rattle.tree_manager.specs.Sessions.{session_budget}
 use Rattle.tree_manager.specs.Replaying.{RefusesPayloads, payload_texts}
 use Rattle.tree_manager.proofs.ReplayLemmas.{cause_first, journal_explained, kept_begun, length_texts, line_begun, new_begun, none_attached, replayed_budget, replayed_pieces, replayed_staged, replay_explained, same_attachment}
 use Rattle.tree_manager.proofs.ExactLemmas.{refused_unlawful, unlawful_unread}
-use Rattle.tree_manager.proofs.joined.JoinedBench.attach.Goals as goal
+use Rattle.tree_manager.proofs.session.Session.attach.Goals as goal
 
 pub invariant_of-result : goal.invariant_of-result
 invariant_of-result g c =
@@ -39,17 +39,22 @@ invariant_of-result g c =
     let faults : c.faults.result ≡ g.D.Disk.faults log.disk = search rules in
     let number : log.count ≡ length payloads = c.in-Ok.ensures.state.2 ∙ sym (length_texts c.in-Ok.attached.1.items) in
     let room : length c.push_reserved.new.self.items ≤ vec_capacity c.push_reserved.new.self = omega (arith, c.push_reserved.new.self.ok.0, c.push_reserved.new.self.ok.1) in
-    kept_begun g.D.Disk
-    rs c.push_reserved.new.self.items (vec_capacity c.push_reserved.new.self) c.start_session.new.self log a payloads
-    marks (new_begun c.args.s core c.start_session.new.self (min core.state.settings.budget (1000000 - count_by is_work rs)) a c.in-Ok-replay_all.ensures.replayed c.start_session.ensures c.requires.lasts budget refl k refl)
-    spelled pieces c.in-Ok.ensures.state.1 c.in-Ok.ensures.state.3 number faults room
-    (λ tells. (
-      subst (λ n. n ≤ g.D.Disk.moment log.disk) (sym opened) c.in-Ok.ensures.reached,
-      (
-        rw pieces (c.in-Ok.ensures.same tells),
-        (c.in-Ok.ensures.durable tells, rw (opened, pieces) (c.in-Ok.ensures.since_opened tells payloads (subst (λ n. HasPayloads n (g.D.Disk.reads c.args.disk) payloads) pieces (c.in-Ok.ensures.exact tells).good.0.payloads))),
-      ),
-    ))
+    record {
+      within =
+          kept_begun g.D.Disk
+          rs c.push_reserved.new.self.items (vec_capacity c.push_reserved.new.self) c.start_session.new.self log a payloads
+          marks (new_begun c.args.s core c.start_session.new.self (min core.state.settings.budget (1000000 - count_by is_work rs)) a c.in-Ok-replay_all.ensures.replayed c.start_session.ensures c.requires.lasts budget refl k refl)
+          spelled pieces c.in-Ok.ensures.state.1 c.in-Ok.ensures.state.3 number faults room
+          (λ tells. (
+            subst (λ n. n ≤ g.D.Disk.moment log.disk) (sym opened) c.in-Ok.ensures.reached,
+            (
+              rw pieces (c.in-Ok.ensures.same tells),
+              (c.in-Ok.ensures.durable tells, rw (opened, pieces) (c.in-Ok.ensures.since_opened tells payloads (subst (λ n. HasPayloads n (g.D.Disk.reads c.args.disk) payloads) pieces (c.in-Ok.ensures.exact tells).good.0.payloads))),
+            ),
+          ));
+      rootless = λ whole.
+          ap begun (ap (λ (x : Core). x.staged) c.start_session.ensures ∙ replayed_staged c.args.s core c.in-Ok-replay_all.ensures.replayed);
+    }
 
 pub returns-clause-pieces : goal.returns-clause-pieces
 returns-clause-pieces g c =

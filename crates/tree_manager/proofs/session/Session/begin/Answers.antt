@@ -11,13 +11,15 @@ use Rattle.tree_manager.specs.declared.marks.Mark.TheVariants as mark
 use Rattle.tree_manager.specs.Lines.{is_failed}
 use Rattle.tree_manager.specs.Sessions.{SessionState, BeginsRoots, HasBegun, with_roots}
 use Rattle.tree_manager.proofs.BeginLemmas.{are_beginning, begin_refused, begun_stands, has_begun, kept_roots, rows_alive}
-use Rattle.tree_manager.proofs.joined.JoinedBench.begin.Goals as goal
+use Rattle.tree_manager.specs.Keeping.{parts_of, state_of}
+use Rattle.tree_manager.proofs.HistoryLaws.{history_stands}
+use Rattle.tree_manager.proofs.session.Session.begin.Goals as goal
 
 pub stage_roots-requires-clause-live : goal.stage_roots-requires-clause-live
-stage_roots-requires-clause-live g c = rows_alive _ c.self.inside.bench c.self.invariant.history
+stage_roots-requires-clause-live g c = rows_alive _ c.self.inside.bench c.self.invariant.within.history
 
-pub invariant_of-self-2 : goal.invariant_of-self-2
-invariant_of-self-2 g c =
+pub commit_parts-requires-clause-within : goal.commit_parts-requires-clause-within
+commit_parts-requires-clause-within g c =
     let unfailed : c.self.inside.journal.failed ≡ false = cc (c.if-is_failed.false, c.is_failed.ensures) in
     let added : List Board = c.as_slice.result.now in
     let again : c.as_slice-2.result.now ≡ added = c.as_slice-2.ensures.keys ∙ sym c.as_slice.ensures.keys in
@@ -28,7 +30,7 @@ invariant_of-self-2 g c =
     omega (arith, c.in_ok-reserve.ensures.ok, c.reserve.ensures.len, c.self.inside.marks.ok.0, c.push_puts.ensures.capacity, count) in
     kept_roots g.D.Disk
     c.self.inside.marks.items c.push_puts.new.marks.items (vec_capacity c.self.inside.marks) (vec_capacity c.push_puts.new.marks) c.self.inside.due (c.self.inside.due + c.len-count.result) c.self.inside.bench c.stage_roots.new.bench c.self.inside.journal c.stage_roots.new.journal added
-    c.self.invariant unfailed marks c.in_ok-stage_roots.ensures.bench c.in_ok-stage_roots.ensures.may c.stage_roots.ensures.grows c.in_ok-stage_roots.ensures.journal (ap (λ n. c.self.inside.due + n) count) room
+    c.self.invariant.within unfailed marks c.in_ok-stage_roots.ensures.bench c.in_ok-stage_roots.ensures.may c.stage_roots.ensures.grows c.in_ok-stage_roots.ensures.journal (ap (λ n. c.self.inside.due + n) count) room
 
 pub returns-in-Ok-clause-begun : goal.returns-in-Ok-clause-begun
 returns-in-Ok-clause-begun g c =
@@ -41,12 +43,12 @@ returns-in-Ok-clause-begun g c =
     subst (λ (ps : List Board). root_positions c.self.inside.bench.state.forest ++ ps ≡ with_roots (root_positions c.self.inside.bench.state.forest) c.args.positions.now) (sym c.as_slice.ensures.keys)
     (subst (λ (f : Forest). root_positions f ++ c.in_ok-added.added.keys ≡ with_roots (root_positions f) c.args.positions.now) c.tree.ensures.forest c.in_ok-added.ensures.all) in
     let mid = are_beginning c.self.inside.marks.items c.push_puts.new.marks.items c.self.inside.bench c.stage_roots.new.bench c.self.inside.journal c.stage_roots.new.journal c.args.positions.now added
-    c.self.invariant.filled marks c.in_ok-stage_roots.ensures.bench (ap (λ (l : Log g.row.D.Denot). l.disk) c.in_ok-stage_roots.ensures.journal.2) (sym c.self.invariant.failed ∙ unfailed) all in
-    subst (λ (s : SessionState g.row.D.Denot). HasBegun s c.args.positions.now c.in-Ok.receipt.moment c.commit.new.self) c.self.view_is
-    (has_begun _ _ c.commit.new.self c.args.positions.now added c.in-Ok.receipt.moment mid c.in-Ok.ensures.idle c.in-Ok.ensures.appends c.in-Ok.ensures.none_staged)
+    c.self.invariant.within.filled marks c.in_ok-stage_roots.ensures.bench (ap (λ (l : Log g.row.D.Denot). l.disk) c.in_ok-stage_roots.ensures.journal.2) (sym c.self.invariant.within.failed ∙ unfailed) all in
+    subst (λ (s : SessionState g.row.D.Denot). HasBegun s c.args.positions.now c.in-Ok.receipt.moment (state_of (parts_of c.commit_parts.new.marks c.commit_parts.new.due c.commit_parts.new.bench c.commit_parts.new.journal))) c.self.view_is
+    (has_begun _ _ (state_of (parts_of c.commit_parts.new.marks c.commit_parts.new.due c.commit_parts.new.bench c.commit_parts.new.journal)) c.args.positions.now added c.in-Ok.receipt.moment mid (λ whole. c.in-Ok.ensures.idle) c.in-Ok.ensures.appends c.in-Ok.ensures.none_staged)
 
 pub returns-in-Ok-clause-stands : goal.returns-in-Ok-clause-stands
-returns-in-Ok-clause-stands g c = begun_stands _ c.commit.new.self _ c.commit.ensures.history c.in-Ok.ensures.unfailed c.in-Ok.ensures.idle c.in-Ok.ensures.appends
+returns-in-Ok-clause-stands g c = (history_stands _ _ c.commit_parts.ensures.within.history).0
 
 pub returns-clause-refused : goal.returns-clause-refused
 returns-clause-refused g c =
@@ -59,6 +61,6 @@ returns-clause-refused g c =
     subst (λ (ps : List Board). root_positions c.self.inside.bench.state.forest ++ ps ≡ with_roots (root_positions c.self.inside.bench.state.forest) c.args.positions.now) (sym c.as_slice.ensures.keys)
     (subst (λ (f : Forest). root_positions f ++ c.in_ok-added.added.keys ≡ with_roots (root_positions f) c.args.positions.now) c.tree.ensures.forest c.in_ok-added.ensures.all) in
     let mid = are_beginning c.self.inside.marks.items c.push_puts.new.marks.items c.self.inside.bench c.stage_roots.new.bench c.self.inside.journal c.stage_roots.new.journal c.args.positions.now added
-    c.self.invariant.filled marks c.in_ok-stage_roots.ensures.bench (ap (λ (l : Log g.row.D.Denot). l.disk) c.in_ok-stage_roots.ensures.journal.2) (sym c.self.invariant.failed ∙ unfailed) all in
-    subst (λ (s : SessionState g.row.D.Denot). (is_failed s.line ≡ false) × (BeginsRoots s c.args.positions.now (entry.Broken (g.D.Disk.faults c.commit.new.self.disk) ∷ []) c.commit.new.self × ((c.commit.new.self.core.state.forest ≡ s.core.state.forest) × Rose (g.D.Disk.faults s.disk) (g.D.Disk.faults c.commit.new.self.disk)))) c.self.view_is
-    (begin_refused g.D.Disk.faults _ _ c.commit.new.self c.args.positions.now added c.in-Err.field-0 mid c.in-Err.ensures.refused)
+    c.self.invariant.within.filled marks c.in_ok-stage_roots.ensures.bench (ap (λ (l : Log g.row.D.Denot). l.disk) c.in_ok-stage_roots.ensures.journal.2) (sym c.self.invariant.within.failed ∙ unfailed) all in
+    subst (λ (s : SessionState g.row.D.Denot). (is_failed s.line ≡ false) × (BeginsRoots s c.args.positions.now (entry.Broken (g.D.Disk.faults (state_of (parts_of c.commit_parts.new.marks c.commit_parts.new.due c.commit_parts.new.bench c.commit_parts.new.journal)).disk) ∷ []) (state_of (parts_of c.commit_parts.new.marks c.commit_parts.new.due c.commit_parts.new.bench c.commit_parts.new.journal)) × (((state_of (parts_of c.commit_parts.new.marks c.commit_parts.new.due c.commit_parts.new.bench c.commit_parts.new.journal)).core.state.forest ≡ s.core.state.forest) × Rose (g.D.Disk.faults s.disk) (g.D.Disk.faults (state_of (parts_of c.commit_parts.new.marks c.commit_parts.new.due c.commit_parts.new.bench c.commit_parts.new.journal)).disk)))) c.self.view_is
+    (begin_refused g.D.Disk.faults _ _ (state_of (parts_of c.commit_parts.new.marks c.commit_parts.new.due c.commit_parts.new.bench c.commit_parts.new.journal)) c.args.positions.now added c.in-Err.field-0 mid c.in-Err.ensures.refused)

@@ -2,7 +2,7 @@ use Rattle.std.proofs.Common.{◌∙◌}
 use Rattle.tree_manager.proofs.IdLemmas.{ended_all, ended_none, ended_step}
 use Rattle.tree_manager.proofs.HistoryLaws.{history_stands}
 use Rattle.tree_manager.proofs.UnleasedLemmas.{unleased}
-use Rattle.tree_manager.proofs.joined.JoinedBench.end_leases.Goals as goal
+use Rattle.tree_manager.proofs.session.Session.end_leases.Goals as goal
 
 pub loop-id-init : goal.loop-id-init
 loop-id-init g c = ended_none c.args.self.now c.requires

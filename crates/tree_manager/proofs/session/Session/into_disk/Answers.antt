@@ -13,7 +13,7 @@ use Rattle.tree_manager.specs.Receipts.{KeepsReceipts}
 use Rattle.tree_manager.specs.Sessions.{SessionState}
 use Rattle.tree_manager.proofs.HistoryLaws.{history_stands}
 use Rattle.tree_manager.proofs.CallLemmas.{receipts_of}
-use Rattle.tree_manager.proofs.joined.JoinedBench.into_disk.Goals as goal
+use Rattle.tree_manager.proofs.session.Session.into_disk.Goals as goal
 
 -- receipts, by the pieces of the Attached
 receipts_attached : {D : Type 0} (g : Ghosts D) (line : List Entry) (core : Core) (disk : D) → IsCoreOf line core
@@ -26,11 +26,11 @@ pub returns-clause-receipts : goal.returns-clause-receipts
 returns-clause-receipts g c honest =
     subst (λ (s : SessionState g.row.D.Denot). IfSome (attachment_of s.line) (λ a. KeepsReceipts a.pieces g.D.Disk s.line c.into_disk.result)) c.self.view_is
     (rw (c.into_disk.ensures)
-    (receipts_attached g.D.Disk _ _ _ (history_stands _ _ c.self.invariant.history).0
+    (receipts_attached g.D.Disk _ _ _ (history_stands _ _ c.self.invariant.within.history).0
     (receipts_of g.D.Disk
-    c.self.inside.marks.items (vec_capacity c.self.inside.marks) c.self.inside.due c.self.inside.bench c.self.inside.journal c.self.invariant honest)))
+    c.self.inside.marks.items (vec_capacity c.self.inside.marks) c.self.inside.due c.self.inside.bench c.self.inside.journal c.self.invariant.within honest)))
 
 pub returns-clause-broken : goal.returns-clause-broken
 returns-clause-broken g c =
     subst (λ (s : SessionState g.row.D.Denot). is_failed s.line ≡ true → IfSome (attachment_of s.line) (λ a. Rose a.faults (g.D.Disk.faults c.into_disk.result))) c.self.view_is
-    (rw (c.into_disk.ensures) c.self.invariant.broken)
+    (rw (c.into_disk.ensures) c.self.invariant.within.broken)
