@@ -6,10 +6,9 @@
 //! other side's hold.
 //!
 //! Proved: `check` accepts exactly the certificates that are good by a sound oracle, and refuses
-//! exactly for what fails first, with part and entry from 1. It hands the certificate back.
-//! `child_at_sight` and `children_at_sight` give a position and its successors, in order, with
-//! exactly the facts that are known at sight. `told` and `told_by_all` give exactly the facts that
-//! a claim, or certificates of one position together, say or imply.
+//! exactly for what fails first, with part and entry from 1. It hands the certificate back. `told`
+//! and `told_by_all` give exactly the facts that a claim, or certificates of one position together,
+//! say or imply.
 #![tactic(auto)]
 
 mod checking;
