@@ -12,7 +12,7 @@ use Rattle.lease_table.specs.declared.leases.Lease.{Lease}
 use Rattle.lease_table.specs.declared.leases.Row.{Row}
 use Rattle.lease_table.specs.Rows.{LeaseRows, is_live_row, has_id, is_of, row_with, is_leased, live_rows, without_node}
 use Rattle.lease_table.specs.Laws.{swept}
-use Rattle.lease_table.proofs.TableLemmas.{swept_free}
+use Rattle.lease_table.proofs.Sweeping.{swept_free}
 use Rattle.bench_core.specs.declared.refusals.LeaseRefusal.TheVariants.{Done, Spent, NoLeaf}
 use Rattle.bench_core.specs.declared.settings.Settings.{Settings}
 use Rattle.bench_core.specs.declared.staged.Staged.{Staged}
