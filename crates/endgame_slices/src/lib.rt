@@ -4,7 +4,10 @@
 //! steps of men, crownings and captures lead to other slices, which are worked out before; inside a slice only kings
 //! step. A position takes two bytes while its slice is worked at, and one afterwards.
 //!
-//! Nothing is promised of what is found: whoever uses it gives it to the checker.
+//! Proved: each call ends and is safe, and a strategy is of the side that was asked, with ranks of at most
+//! `MOST_FOUND_RANK`. Nothing else is promised of what is found: whoever uses it gives it to the checker.
+//!
+//! Tests: proof_tests/src/slices.rt
 #![tactic(auto)]
 
 mod bits;

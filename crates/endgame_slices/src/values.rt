@@ -1,5 +1,7 @@
 //! What a slice keeps of a position: 0 where neither side is known to win, and else one more than the plies to the end.
 //! So the side to move wins where the value is even, and loses where it is odd.
+ghost use Rattle.std.specs.Prelude.{◌≤◌};
+
 use strategy_certificate::Answer;
 
 /// Neither side is known to win.
@@ -19,7 +21,9 @@ pub(crate) fn is_won(value: u8) -> bool {
 
 /// The value of a position one ply before one of this value; open where it would be too great.
 #[inline]
-pub(crate) fn one_more(value: u8) -> u8 {
+pub(crate) fn one_more(value: u8) -> u8
+    ensures { result ≤ MOST_VALUE }
+{
     if value < MOST_VALUE { value + 1 } else { OPEN }
 }
 

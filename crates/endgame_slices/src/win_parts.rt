@@ -1,10 +1,26 @@
 //! Strategies by which a side wins, made of slices.
+ghost use Rattle.std.specs.Prelude.{◌≡◌, ◌≤◌, IfOk, IfSome};
+ghost use Rattle.strategy_certificate.specs.Claims.{HasShortRanks};
+ghost use Rattle.strategy_certificate.specs.declared.entries.TheConstants.{MOST_FOUND_RANK};
+ghost use Rattle.strategy_certificate.specs.declared.certificates.Part.TheVariants as parts;
+
 use crate::slices::Slices;
-use draughts_board::{Position, Side};
+use draughts_board::{Move, Position, Side};
 use indexmap::IndexSet;
 use std::alloc::{AllocError, Global};
-use strategy_certificate::{Answer, MOST_RANK, Oracle, WinEntry, WinPart};
+use strategy_certificate::{Answer, Oracle, WinEntry, WinPart};
 use swift_moves::{move_to, successors};
+
+/// The entry of a position so many plies before the end, with this move.
+fn entry_of(plies: u32, chosen: Option<Move>) -> WinEntry
+    ensures rank { result.rank ≡ plies }
+    ensures chosen { result.chosen ≡ chosen }
+{
+    WinEntry {
+        rank: u64::from(plies),
+        chosen,
+    }
+}
 
 /// What a strategy that is being made needs: positions that the table does not answer for.
 #[derive(Drop)]
@@ -72,7 +88,9 @@ impl<O: Oracle> Needs<'_, '_, O> {
     }
 
     /// The entry of a position, after which what it needs is there. None where neither side was found to win.
-    fn entry(&mut self, alloc: Global, p: &Position) -> Result<Option<WinEntry>, AllocError> {
+    fn entry(&mut self, alloc: Global, p: &Position) -> Result<Option<WinEntry>, AllocError>
+        ensures { IfOk result (λ found. IfSome found (λ entry. entry.rank ≤ MOST_FOUND_RANK)) }
+    {
         match self.slices.answer(p, self.oracle) {
             Answer::Draw => Ok(None),
             Answer::Win(plies) => {
@@ -80,19 +98,13 @@ impl<O: Oracle> Needs<'_, '_, O> {
                     return Ok(None);
                 };
                 self.demand(&next)?;
-                Ok(Some(WinEntry {
-                    rank: u64::from(plies),
-                    chosen: move_to(alloc, p, &next)?,
-                }))
+                Ok(Some(entry_of(plies, move_to(alloc, p, &next)?)))
             }
             Answer::Loss(plies) => {
                 for q in &successors(alloc, p)? {
                     self.demand(q)?;
                 }
-                Ok(Some(WinEntry {
-                    rank: u64::from(plies),
-                    chosen: None,
-                }))
+                Ok(Some(entry_of(plies, None)))
             }
         }
     }
@@ -107,7 +119,10 @@ pub fn win_part<O: Oracle>(
     side: Side,
     most: usize,
     oracle: &O,
-) -> Result<Option<WinPart>, AllocError> {
+) -> Result<Option<WinPart>, AllocError>
+    ensures side { IfOk result (λ found. IfSome found (λ part. part.side ≡ side)) }
+    ensures ranks { IfOk result (λ found. IfSome found (λ part. HasShortRanks (parts.Win part))) }
+{
     let mut needs = Needs {
         slices,
         oracle,
@@ -123,9 +138,6 @@ pub fn win_part<O: Oracle>(
         let Some(entry) = needs.entry(alloc, &q)? else {
             return Ok(None);
         };
-        if entry.rank > MOST_RANK {
-            return Ok(None);
-        }
         part.add_new(q, entry)?;
     }
     Ok(None)
