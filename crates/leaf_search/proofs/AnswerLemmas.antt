@@ -84,6 +84,23 @@ no_winner k goal depth p mine theirs s shows = elim (one_side goal s) [
   | inr against ↦ theirs (subst (λ t. ShowsWin draughts k t depth p) against shows)
 ]
 
+-- neither side's win shows where both hold
+pub no_winner-held : (k : ℕ) (goal : Side) (depth : ℕ) (p : Board) → Holds draughts (other goal) p → Holds draughts goal p
+    → (s : Side) → ShowsWin draughts k s depth p → ⊥
+no_winner-held k goal depth p theirs mine s shows =
+    let wins = ShowsWin-wins draughts k s depth p shows in
+    elim (one_side goal s) [
+      | inl same ↦ theirs (subst (λ t. Wins draughts t p) (sym (other-other goal)) (subst (λ t. Wins draughts t p) same wins))
+      | inr against ↦ mine (subst (λ t. Wins draughts t p) against wins)
+    ]
+
+-- each win settles the goal
+pub win_settles : (goal s : Side) → Settles goal (Win s)
+win_settles goal s = elim (one_side goal s) [
+  | inl same ↦ inl (ap Win same)
+  | inr against ↦ inr (inl (ap Win against))
+]
+
 pub not_found : (o : Option Certificate) → ((x : Certificate) → o ≡ Some x → ⊥) → o ≡ None
 not_found None not_some = refl
 not_found (Some x) not_some = absurd (not_some x refl)

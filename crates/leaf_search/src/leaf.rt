@@ -8,6 +8,8 @@ ghost use Rattle.strategy_certificate.specs.Certificates.{claim_of};
 ghost use Rattle.strategy_certificate.specs.declared.claims.Claim.TheVariants as claim;
 ghost use Rattle.leaf_search.specs.Search.{IsShownBy, Proves, IsOutcome};
 
+use crate::allowances::allowed_for;
+use crate::beyond::settle_beyond;
 use crate::fortress::prove_fortress;
 use crate::holds::find_hold;
 use crate::memo::Memo;
@@ -20,12 +22,6 @@ use swift_sight::children_at_sight;
 
 /// No search looks further ahead.
 pub const MOST_DEPTH: u8 = 12;
-
-/// Up to this depth no closed set is grown beyond what the depth shows.
-const PLAIN_DEPTH: u8 = 4;
-
-/// No closed set is grown from a position with so many pieces more than the tables: none is found there.
-const FAR_FROM_TABLES: u8 = 7;
 
 /// The want of memory that a refusal is.
 fn want_of_memory(refusal: &CheckRefusal) -> AllocError
@@ -86,23 +82,6 @@ fn prove_win<O: Oracle>(
     Ok(Some(proved))
 }
 
-/// How many positions are looked through for a closed set at most in each attempt, by the depth of the search; none where the
-/// position has many pieces more than the tables. So a certificate has no more entries than that, some 100 bytes each in a
-/// journal.
-fn most_positions(p: &Position, depth: u8, table_pieces: u8) -> usize {
-    let pieces = p.count(Side::Black) + p.count(Side::White);
-    if pieces.saturating_sub(table_pieces) >= FAR_FROM_TABLES {
-        return 0;
-    }
-    match depth {
-        0..=PLAIN_DEPTH => 0,
-        5..=6 => 400,
-        7..=8 => 1_000,
-        9..=10 => 2_500,
-        _ => 8_000,
-    }
-}
-
 /// A certificate that the side holds, by a closed set or where looking `depth` plies ahead shows it.
 fn prove_hold<O: Oracle>(
     alloc: Global,
@@ -115,7 +94,7 @@ fn prove_hold<O: Oracle>(
         (ShowsHold draughts (O.piece_limit oracle.now) side depth [] p.now → ⊥)
         (Proves (O.piece_limit oracle.now) p.now (claim.Hold side))) }
 {
-    let most = most_positions(p, depth, oracle.pieces());
+    let most = allowed_for(p, depth, oracle.pieces()).set_positions;
     if most > 0 {
         let fortress = prove_fortress(alloc, p, side, most, oracle)?;
         if let Some(held) = fortress {
@@ -133,9 +112,9 @@ fn prove_hold<O: Oracle>(
 
 /// Looks `depth` plies ahead from a position for what settles the goal: its win, or that the other side wins or holds.
 ///
-/// What shows of the position comes with certificates, whose claims are true. Beyond what shows, a hold may come that was
-/// found by a closed set. Where too little is found, the positions after it come back. What the memory holds after want
-/// of memory is still exact.
+/// What shows of the position comes with certificates, whose claims are true. Beyond what shows, a win or holds may come
+/// that were found in all positions below this one, or a hold by a closed set. Where too little is found, the positions
+/// after it come back. What the memory holds after want of memory is still exact.
 pub fn search<O: Oracle>(
     alloc: Global,
     p: &Position,
@@ -158,6 +137,9 @@ pub fn search<O: Oracle>(
     if let Some(lost) = prove_win(alloc, p, goal.other(), depth, oracle, memo)? {
         proofs.push(lost)?;
         return Ok(Outcome::Solved(ProofList::from_vec(proofs)));
+    }
+    if let Some(found) = settle_beyond(alloc, p, goal, depth, oracle) {
+        return Ok(Outcome::Solved(found));
     }
     let Some(held) = prove_hold(alloc, p, goal.other(), depth, oracle)? else {
         return Ok(Outcome::Exhausted(Exhausted {

@@ -29,7 +29,7 @@ use crate::measure::best_time;
 use crate::settling::{Tally, settle_all};
 use anyhow::{Result, ensure};
 use endgame_table::{Table, fill};
-use leaf_search::{MOST_DEPTH, Memo};
+use leaf_search::Memo;
 use std::alloc::Global;
 use std::env;
 use std::rt::{Clock, Files};
@@ -124,25 +124,22 @@ fn tell_all(
 ) -> Result<()> {
     for table in tables {
         println!(rt; "fixed positions, table of {}", table.pieces())?;
-        for depth in 4..=10 {
+        for depth in 4..=6 {
             tell_memories(rt, fixed, depth, table)?;
         }
     }
     let valued = read_rows(rt, "values.txt")?;
     for table in tables {
         println!(rt; "positions of known values, table of {}", table.pieces())?;
-        for depth in [4, 6, 8] {
+        for depth in [4, 6] {
             tell_list(rt, valued.as_slice(), depth, table)?;
         }
     }
     let random = read_rows(rt, "random.txt")?;
     println!(rt; "positions from random games, table of 3")?;
-    for depth in [4, 6, 8, 10, 12] {
+    for depth in [4, 6] {
         tell_list(rt, random.as_slice(), depth, &tables[1])?;
     }
-    let first = read_rows(rt, "first.txt")?;
-    println!(rt; "first positions of random games, table of 3")?;
-    tell_list(rt, first.as_slice(), MOST_DEPTH, &tables[1])?;
     Ok(())
 }
 
@@ -154,7 +151,7 @@ fn main(rt: HostRuntime) -> Result<()> {
     let fixed = read_rows(&rt, "fixed.txt")?;
     if is_timed {
         for table in &tables {
-            for depth in [4, 6, 8] {
+            for depth in [4, 6] {
                 time(&rt, fixed.as_slice(), depth, table)?;
             }
         }

@@ -14,6 +14,9 @@ const NEAR_DOUBLE_CORNERS: [u32; 5] = [
 /// What a step of the way to a double corner costs, in one attempt after the other.
 pub(crate) const CORNER_WEIGHTS: [u32; 3] = [8, 16, 32];
 
+/// The same where it is known which positions are lost.
+pub(crate) const KNOWING_CORNER_WEIGHT: u32 = 32;
+
 /// The masks of a side's men and kings.
 pub(crate) type Pieces = (u32, u32);
 

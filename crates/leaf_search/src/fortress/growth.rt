@@ -5,6 +5,7 @@ ghost use Rattle.draughts_board.specs.Rules.{IsLegal};
 use crate::fortress::choice::{Pieces, cost, pieces_of};
 use crate::sight::is_mover;
 use draughts_board::{Move, Position, Side};
+use endgame_slices::Slices;
 use indexmap::IndexSet;
 use std::alloc::{AllocError, Global};
 use strategy_certificate::{HoldPart, Oracle, table_holds};
@@ -58,7 +59,7 @@ struct Link {
 enum Standing {
     /// The table shows that it is held.
     Held,
-    /// The table shows that it is not, or it was refuted.
+    /// The table or what was found before shows that it is not, or it was refuted.
     Lost,
     /// It is in the set.
     There,
@@ -86,7 +87,7 @@ pub(crate) enum Growing {
 
 /// A set of positions in which a side looks for a strategy that never leaves it.
 #[derive(Drop)]
-pub(crate) struct Growth {
+pub(crate) struct Growth<'a> {
     side: Side,
     /// The positions, each at its place; the first is the one to hold.
     positions: IndexSet<Position>,
@@ -101,11 +102,18 @@ pub(crate) struct Growth {
     seen: IndexSet<Pieces>,
     /// What a step of the way to a double corner costs.
     corner_weight: u32,
+    /// What was found of positions before, if anything.
+    known: Option<&'a Slices>,
 }
 
-impl Growth {
+impl<'a> Growth<'a> {
     /// An empty set for this side. No memory is taken.
-    pub(crate) fn new(alloc: Global, side: Side, corner_weight: u32) -> Growth {
+    pub(crate) fn new(
+        alloc: Global,
+        side: Side,
+        corner_weight: u32,
+        known: Option<&'a Slices>,
+    ) -> Growth<'a> {
         Growth {
             side,
             positions: IndexSet::new(alloc),
@@ -115,6 +123,15 @@ impl Growth {
             refuted: Vec::new(alloc),
             seen: IndexSet::new(alloc),
             corner_weight,
+            known,
+        }
+    }
+
+    /// The other side was found to win the position.
+    fn is_known_lost<O: Oracle>(&self, p: &Position, oracle: &O) -> bool {
+        match self.known {
+            Some(slices) => slices.is_win(self.side.other(), p, oracle),
+            None => false,
         }
     }
 
@@ -215,6 +232,7 @@ impl Growth {
         match self.positions.get_index_of(p) {
             Some(place) if self.is_refuted(place) => Standing::Lost,
             Some(_) => Standing::There,
+            None if self.is_known_lost(p, oracle) => Standing::Lost,
             None => Standing::Fresh,
         }
     }

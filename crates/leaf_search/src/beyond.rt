@@ -1,0 +1,111 @@
+//! What settles a position beyond the depth of a search: all positions below it, where they are few enough.
+ghost use Rattle.std.specs.Prelude.{◌≡◌, IfOk, IfSome};
+ghost use Rattle.certificate_checker.specs.Answers.{IsAnswer};
+ghost use Rattle.strategy_certificate.specs.Claims.{HasShortRanks};
+ghost use Rattle.strategy_certificate.specs.declared.certificates.Part.TheVariants as parts;
+
+use crate::allowances::{Allowance, allowed_for};
+use crate::checked::accept;
+use crate::fortress::prove_knowing;
+use certificate_checker::ProofList;
+use draughts_board::{Position, Side};
+use endgame_slices::{Slices, solve_below, win_part};
+use std::alloc::{AllocError, Global};
+use strategy_certificate::{Answer, Claim, Oracle, Part, WinPart};
+
+/// The answer that the side wins by this strategy, where it has at most `most` entries.
+fn prove_won<O: Oracle>(
+    alloc: Global,
+    p: &Position,
+    goal: Side,
+    depth: u8,
+    part: WinPart,
+    most: usize,
+    oracle: &O,
+) -> Result<Option<ProofList>, AllocError>
+    requires { HasShortRanks (parts.Win part) }
+    ensures { IfOk result (λ found. IfSome found
+        (IsAnswer (O.piece_limit oracle.now) goal depth p.now)) }
+{
+    let winner = part.side();
+    let claim = Claim::Win(winner);
+    let Some(won) = accept(alloc, p, claim, Part::Win(part), most, oracle)? else {
+        return Ok(None);
+    };
+    let mut proofs = Vec::new(alloc);
+    proofs.push(won)?;
+    Ok(Some(ProofList::from_vec(proofs)))
+}
+
+/// The answer that both sides hold, by closed sets of at most `most` positions each that the slices do not give away.
+fn prove_drawn<O: Oracle>(
+    alloc: Global,
+    p: &Position,
+    goal: Side,
+    depth: u8,
+    slices: &Slices,
+    most: usize,
+    oracle: &O,
+) -> Result<Option<ProofList>, AllocError>
+    ensures { IfOk result (λ found. IfSome found
+        (IsAnswer (O.piece_limit oracle.now) goal depth p.now)) }
+{
+    let Some(held) = prove_knowing(alloc, p, goal.other(), slices, most, oracle)? else {
+        return Ok(None);
+    };
+    let Some(also) = prove_knowing(alloc, p, goal, slices, most, oracle)? else {
+        return Ok(None);
+    };
+    let mut proofs = Vec::new(alloc);
+    proofs.push(held)?;
+    proofs.push(also)?;
+    Ok(Some(ProofList::from_vec(proofs)))
+}
+
+/// The answer that all positions below this one give, where the allowance is enough.
+fn settle<O: Oracle>(
+    alloc: Global,
+    p: &Position,
+    goal: Side,
+    depth: u8,
+    allowed: &Allowance,
+    oracle: &O,
+) -> Result<Option<ProofList>, AllocError>
+    ensures { IfOk result (λ found. IfSome found
+        (IsAnswer (O.piece_limit oracle.now) goal depth p.now)) }
+{
+    let most = allowed.entries;
+    let Some(slices) = solve_below(alloc, p, allowed.slice_positions, oracle)? else {
+        return Ok(None);
+    };
+    let winner = match slices.answer(p, oracle) {
+        Answer::Win(_) => p.to_move(),
+        Answer::Loss(_) => p.to_move().other(),
+        Answer::Draw => return prove_drawn(alloc, p, goal, depth, &slices, most, oracle),
+    };
+    let Some(part) = win_part(alloc, &slices, p, winner, most, oracle)? else {
+        return Ok(None);
+    };
+    prove_won(alloc, p, goal, depth, part, most, oracle)
+}
+
+/// An answer that was found beyond the depth, as far as its allowance reaches. None where none is found, or there is too
+/// little memory, which tells nothing of the position.
+pub(crate) fn settle_beyond<O: Oracle>(
+    alloc: Global,
+    p: &Position,
+    goal: Side,
+    depth: u8,
+    oracle: &O,
+) -> Option<ProofList>
+    ensures { IfSome result (IsAnswer (O.piece_limit oracle.now) goal depth p.now) }
+{
+    let allowed = allowed_for(p, depth, oracle.pieces());
+    if allowed.slice_positions == 0 {
+        return None;
+    }
+    let Ok(found) = settle(alloc, p, goal, depth, &allowed, oracle) else {
+        return None;
+    };
+    found
+}
