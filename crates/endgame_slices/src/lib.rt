@@ -6,8 +6,6 @@
 //!
 //! Proved: each call ends and is safe, and a strategy is of the side that was asked, with ranks of at most
 //! `MOST_FOUND_RANK`. Nothing else is promised of what is found: whoever uses it gives it to the checker.
-//!
-//! Tests: proof_tests/src/slices.rt
 #![tactic(auto)]
 
 mod bits;

@@ -13,26 +13,37 @@
 //! with at most three pieces a side.
 //!
 //! With the word `time` it prints nodes a second, the time that a position of the first list takes,
-//! and what share of the nodes a memory of one position takes.
+//! and what share of the nodes a memory of one position takes; and how many positions a second are
+//! worked out slice by slice, and looked through for closed sets. With the word `deep` it prints
+//! what is settled of the lists of random games at depths 8 and 12. With the word `endgames` it
+//! searches the random endgames of four sets at these depths, and prints the value that is found of
+//! each and the processor time that it takes. With the word `drawn` it prints the endgames of all
+//! sets.
 #![tactic(auto)]
 
 ghost use Rattle.std.specs.Prelude.{◌≤◌};
 
 mod counted;
+mod drawn_sets;
+mod endgames;
 mod lists;
 mod measure;
 mod settling;
+mod ways;
 
 use crate::counted::Counted;
+use crate::drawn_sets::{tell_drawn, tell_sets};
 use crate::lists::{ListedPosition, read_rows};
 use crate::measure::best_time;
 use crate::settling::{Tally, settle_all};
+use crate::ways::time_ways;
 use anyhow::{Result, ensure};
 use endgame_table::{Table, fill};
 use leaf_search::Memo;
 use std::alloc::Global;
 use std::env;
 use std::rt::{Clock, Files};
+use std::time::CpuClock;
 
 /// How many positions a memory keeps.
 const WIDE: usize = 65_536;
@@ -143,19 +154,45 @@ fn tell_all(
     Ok(())
 }
 
+/// Prints what is settled of the lists of random games where searches go beyond their depth.
+fn tell_deep(rt: &(impl Print + Files + Alloc<A = Global>), table: &Table) -> Result<()> {
+    for name in ["random.txt", "first.txt"] {
+        let rows = read_rows(rt, name)?;
+        println!(rt; "{name}, table of 3")?;
+        for depth in [8, 12] {
+            tell_list(rt, rows.as_slice(), depth, table)?;
+        }
+    }
+    Ok(())
+}
+
+/// Prints how fast the fixed positions are searched, and how fast each other way is.
+fn time_all(
+    rt: &(impl Print + Clock + CpuClock + Alloc<A = Global>),
+    fixed: &[ListedPosition],
+    tables: &[Table; 2],
+) -> Result<()> {
+    for table in tables {
+        for depth in [4, 6] {
+            time(rt, fixed, depth, table)?;
+        }
+    }
+    time_ways(rt, &tables[1])
+}
+
 fn main(rt: HostRuntime) -> Result<()> {
-    let is_timed = env::args(&rt)?
-        .nth(1)
-        .is_some_and(|word| word.as_str() == "time");
     let tables = [fill(rt.alloc(), 2)?, fill(rt.alloc(), 3)?];
     let fixed = read_rows(&rt, "fixed.txt")?;
-    if is_timed {
-        for table in &tables {
-            for depth in [4, 6] {
-                time(&rt, fixed.as_slice(), depth, table)?;
-            }
-        }
-        return Ok(());
+    let word = env::args(&rt)?.nth(1);
+    let word = match &word {
+        Some(word) => word.as_str(),
+        None => "",
+    };
+    match word {
+        "time" => time_all(&rt, fixed.as_slice(), &tables),
+        "deep" => tell_deep(&rt, &tables[1]),
+        "endgames" => tell_sets(&rt, &tables[1]),
+        "drawn" => tell_drawn(&rt),
+        _ => tell_all(&rt, fixed.as_slice(), &tables),
     }
-    tell_all(&rt, fixed.as_slice(), &tables)
 }
