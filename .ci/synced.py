@@ -2,8 +2,9 @@
 """Fails where a run on a journal does not write and sync the file in the order that a commit owes, as `strace` sees it.
 
 No contract can say what reaches a file of the operating system. So `solve` is run on a journal that does not exist, and its calls on
-the file and on its folder are compared with COMMITS commits: the folder is synced, then the file, and then for each commit the file is
-written (the frame) and synced, and written (its gate) and synced. The program is the first argument. Where `strace` is not there, a line says so.
+the file and on its folder are compared with what is due. The folder is synced and then the file, by the opening sync; the head of the
+new journal is written and synced; and each of COMMITS commits writes its frame, syncs, writes the frame's gate, and syncs. The program
+is the first argument. Where `strace` is not there, a line says so.
 """
 import os
 import re
@@ -40,7 +41,7 @@ def main():
             return 0
         with open(trace, encoding="utf-8", errors="replace") as lines:
             found = list(calls_of(lines.read(), journal))
-    due = ["sync folder", "sync"] + ["write", "sync", "write", "sync"] * COMMITS
+    due = ["sync folder", "sync"] + ["write", "sync"] + ["write", "sync", "write", "sync"] * COMMITS
     if found != due:
         print(f"look: on the journal's file the calls are {found} and not {due}", file=sys.stderr)
         return 1
