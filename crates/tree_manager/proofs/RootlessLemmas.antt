@@ -1,5 +1,5 @@
 -- No root is staged between calls: a result that is staged is none, and a commit leaves nothing staged.
-use Rattle.std.proofs.Common.{◌≡◌, List, [], ◌∷◌, ◌++◌, refl, ap, sym, ◌∙◌}
+use Rattle.std.proofs.Common.{◌≡◌, ℕ, List, [], ◌∷◌, ◌++◌, refl, ap, sym, ◌∙◌}
 use Rattle.std.specs.Prelude.{false, Result, Ok, Err, OnOk, IfErr}
 use Rattle.std.proofs.lemmas.Bool.{true≢false}
 use Rattle.disk_journal.specs.declared.journal.Receipt.{Receipt}
