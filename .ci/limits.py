@@ -2,7 +2,7 @@
 """Fails where the program takes more or less than a limit that it says: each is tried at its value and one past it.
 
 The program is the first argument. What `.ci/told` tries already, games and the bytes of `solve`, is not tried again. With `--long`
-behind it, the records of work of a journal are tried too, a million of them, which takes a minute and half a gigabyte.
+behind it, the roots of a journal and its records of work, a million of them, are tried too, which takes half a gigabyte.
 """
 import itertools
 import os
@@ -93,9 +93,9 @@ def main():
     memory = "/dev/shm" if os.path.isdir("/dev/shm") else None
     try_options(program)
     try_bytes(program)
-    with tempfile.TemporaryDirectory(dir=memory) as folder:
-        try_roots(program, folder)
-        if "--long" in sys.argv[2:]:
+    if "--long" in sys.argv[2:]:
+        with tempfile.TemporaryDirectory(dir=memory) as folder:
+            try_roots(program, folder)
             try_work(program, folder)
     print(*complaints, sep="\n", end="\n" if complaints else "", file=sys.stderr)
     return 1 if complaints else 0
