@@ -5,4 +5,4 @@ use Rattle.worker_trial.proofs.runs.share.Goals as goal
 pub returns-in-Ok-new-clause-settings : goal.returns-in-Ok-new-clause-settings
 returns-in-Ok-new-clause-settings c =
     let shallow : c.settings.result.depth ≤ 12 = search rules in
-    can_search_attached _ _ _ _ _ _ c.in-Ok.session 2 _ c.in-Ok.ensures.attached c.settings.ensures.pieces shallow c.in-Ok-new.ensures.front
+    can_search_attached _ _ _ c.in-Ok.session 2 _ c.in-Ok.ensures.attached c.settings.ensures.pieces shallow c.in-Ok-new.ensures.front
