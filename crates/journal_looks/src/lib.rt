@@ -18,5 +18,5 @@ mod looks;
 mod reading;
 mod refusals;
 
-pub use looks::{Looked, certify, report};
+pub use looks::{certify, report};
 pub use refusals::LookRefusal;

@@ -19,29 +19,22 @@ use bench_core::Bench;
 use bench_disk::Disk;
 use disk_journal::JournalRefusal;
 use endgame_table::Table;
-use opening_report::{is_settled, report_text, root_certificate};
+use opening_report::{Written, is_settled, report_text, root_certificate};
 use std::alloc::{AllocError, Global};
 use strategy_certificate::Certificate;
 
-/// The report on a journal, and whether each of its roots is settled.
-#[derive(Drop)]
-pub struct Looked {
-    pub text: Vec<u8>,
-    pub is_settled: bool,
-}
-
 /// The report on the roots of a bench, and whether each is settled.
-fn looked_of(alloc: Global, bench: &Bench, table: &Table) -> Result<Looked, AllocError>
+fn looked_of(alloc: Global, bench: &Bench, table: &Table) -> Result<Written, AllocError>
     requires { table.now.pieces ≡ bench.now.state.settings.pieces }
-    ensures text { IfOk result (λ looked.
-        looked.text.items ≡ report_of (forest_roots bench.now.state.forest)) }
-    ensures settled { IfOk result (λ looked.
-        looked.is_settled ≡ are_settled bench.now.state.forest) }
-    ensures values { IfOk result (λ looked. IsTrueReport looked.text.items) }
+    ensures text { IfOk result (λ written.
+        written.text.items ≡ report_of (forest_roots bench.now.state.forest)) }
+    ensures settled { IfOk result (λ written.
+        written.is_settled ≡ are_settled bench.now.state.forest) }
+    ensures values { IfOk result (λ written. IsTrueReport written.text.items) }
 {
     let text = report_text(alloc, bench, table)?;
     let is_settled = is_settled(bench);
-    Ok(Looked { text, is_settled })
+    Ok(Written { text, is_settled })
 }
 
 /// The report on the roots of the journal on a disk: a line for each, in order, and a summary. It
@@ -49,10 +42,10 @@ fn looked_of(alloc: Global, bench: &Bench, table: &Table) -> Result<Looked, Allo
 ///
 /// A refusal is that of the disk, of the journal's bytes, or of memory. A disk that was never
 /// written gives the report on no roots.
-pub fn report<D: Disk>(alloc: Global, disk: &mut D) -> Result<Looked, LookRefusal>
+pub fn report<D: Disk>(alloc: Global, disk: &mut D) -> Result<Written, LookRefusal>
     // What the file shows, or why it is refused.
-    ensures shows { IsHonest D.TELLS → IfOk result (λ looked.
-        Shows (D.reads disk.old) looked.text.items looked.is_settled) }
+    ensures shows { IsHonest D.TELLS → IfOk result (λ written.
+        Shows (D.reads disk.old) written.text.items written.is_settled) }
     ensures refused { IsHonest D.TELLS → IfErr result (ExplainsNoReport (D.reads disk.old)) }
 
     // Each refusal comes exactly where the file has its cause, and a file that reads as records has
@@ -62,7 +55,7 @@ pub fn report<D: Disk>(alloc: Global, disk: &mut D) -> Result<Looked, LookRefusa
         ReadsRecords pieces (D.reads disk.old) records → BlamesNoFile result }
 
     // The values are true whatever the disk tells.
-    ensures values { IfOk result (λ looked. IsTrueReport looked.text.items) }
+    ensures values { IfOk result (λ written. IsTrueReport written.text.items) }
 
     // What is left of the disk.
     ensures reads { OnlyReads D.Disk disk.old disk.new
@@ -73,7 +66,7 @@ pub fn report<D: Disk>(alloc: Global, disk: &mut D) -> Result<Looked, LookRefusa
         Err(refusal) => return Err(LookRefusal::Journal(refusal)),
     };
     match looked_of(alloc, &read.0, &read.1) {
-        Ok(looked) => Ok(looked),
+        Ok(written) => Ok(written),
         Err(error) => Err(LookRefusal::Journal(JournalRefusal::Memory(error))),
     }
 }

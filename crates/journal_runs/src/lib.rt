@@ -29,5 +29,5 @@ mod together;
 
 pub use alone::work_alone;
 pub use refusals::{JournalFlaw, RunRefusal};
-pub use runs::{Account, Ran, solve};
+pub use runs::{Account, solve};
 pub use together::work_together;

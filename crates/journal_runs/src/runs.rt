@@ -20,7 +20,7 @@ use bench_disk::Disk;
 use draughts_board::Position;
 use endgame_table::Table;
 use leaf_search::MOST_DEPTH;
-use opening_report::{report_text, summary_text};
+use opening_report::{Written, report_text, summary_text};
 use std::alloc::{AllocError, Global};
 use std::sync::Wait;
 use std::thread::Threads;
@@ -35,13 +35,6 @@ pub enum Account {
     Report,
     /// The line that counts the roots, alone.
     Summary,
-}
-
-/// What a run has to write, and whether each root is settled.
-#[derive(Drop)]
-pub struct Ran {
-    pub text: Vec<u8>,
-    pub is_settled: bool,
 }
 
 /// Goes on with the journal on a disk: begins a root at each of these positions that has none yet, lets so many workers
@@ -60,7 +53,7 @@ pub fn solve<R: Threads + Wait + Sync, D: Disk + Send, G: Gate + Sync>(
     table: &Table,
     gate: &G,
     account: Account,
-) -> (D, Result<Ran, RunRefusal>)
+) -> (D, Result<Written, RunRefusal>)
     requires tables { table.now.pieces ≡ settings.pieces }
     requires depth { settings.depth ≤ MOST_DEPTH }
     requires budget { settings.budget ≤ MOST_WORK }
@@ -69,12 +62,12 @@ pub fn solve<R: Threads + Wait + Sync, D: Disk + Send, G: Gate + Sync>(
     ensures leaves { IsHonest D.TELLS → NothingPending (D.reads disk) (D.images disk) →
         KeepsJournal D.Disk
         settings.pieces disk result.0 }
-    ensures does { IsHonest D.TELLS → IfOk result.1 (λ ran.
+    ensures does { IsHonest D.TELLS → IfOk result.1 (λ written.
         Resumes D.Disk
         (account_of account) settings.pieces settings.depth settings.budget
-        positions.now disk result.0 ran.text.items ran.is_settled) }
+        positions.now disk result.0 written.text.items written.is_settled) }
     ensures shows { IfOk result.1
-        (λ ran. IsTrueAccount account positions.now ran.text.items) }
+        (λ written. IsTrueAccount account positions.now written.text.items) }
     ensures fault { IfErr result.1
         (λ refusal. refusal ≡ RunRefusal.Disk → Rose (D.faults disk) (D.faults result.0)) }
     ensures refused { IsHonest D.TELLS →
@@ -101,17 +94,17 @@ fn run_session<R: Threads + Wait + Sync, D: Disk + Send, O: Oracle + Sync, G: Ga
     oracle: &O,
     gate: &G,
     account: Account,
-) -> (Session<D>, Result<Ran, RunRefusal>)
+) -> (Session<D>, Result<Written, RunRefusal>)
     requires tables { O.piece_limit oracle.now ≡ session.core.state.settings.pieces }
     requires depth { session.core.state.settings.depth ≤ MOST_DEPTH }
     requires idle { IsIdle session }
     requires stands { IsCoreOf session.line session.core }
     ensures goes_on { GoesOnFrom session.line result.0.line }
-    ensures worked { IfOk result.1 (λ ran. HasWorked
+    ensures worked { IfOk result.1 (λ written. HasWorked
         (account_of account) session positions.now result.0
-        ran.text.items ran.is_settled) }
+        written.text.items written.is_settled) }
     ensures shows { IfOk result.1
-        (λ ran. IsTrueAccount account positions.now ran.text.items) }
+        (λ written. IsTrueAccount account positions.now written.text.items) }
     ensures fault { IfErr result.1
         (λ refusal. refusal ≡ RunRefusal.Disk → is_failed result.0.line ≡ true) }
     ensures refused { IfErr result.1 (IsWorkRefusal session positions.now) }
@@ -135,19 +128,19 @@ fn report_on<D: Disk, O: Oracle>(
     session: &Session<D>,
     is_settled: bool,
     oracle: &O,
-) -> Result<Ran, RunRefusal>
+) -> Result<Written, RunRefusal>
     requires { CanSearch (O.piece_limit oracle.now) session.now.line }
     ensures history { IsHistory session.now.line session.now.core }
     ensures stands { IsCoreOf session.now.line session.now.core }
-    ensures text { IfOk result (λ ran.
-        ran.text.items ≡ report_of (forest_roots session.now.core.state.forest)) }
-    ensures settled { IfOk result (λ ran. ran.is_settled ≡ is_settled) }
+    ensures text { IfOk result (λ written.
+        written.text.items ≡ report_of (forest_roots session.now.core.state.forest)) }
+    ensures settled { IfOk result (λ written. written.is_settled ≡ is_settled) }
     ensures values { OnOk result (AreTrueRoots (forest_roots session.now.core.state.forest)) }
     ensures few { OnOk result (length (forest_roots session.now.core.state.forest) ≤ MOST_ROOTS) }
     ensures refused { IfErr result (λ r. r ≡ refusal.Memory) }
 {
     match report_text(alloc, session.bench(), oracle) {
-        Ok(text) => Ok(Ran { text, is_settled }),
+        Ok(text) => Ok(Written { text, is_settled }),
         Err(AllocError) => Err(RunRefusal::Memory),
     }
 }
@@ -157,17 +150,17 @@ fn count_on<D: Disk>(
     alloc: Global,
     session: &Session<D>,
     is_settled: bool,
-) -> Result<Ran, RunRefusal>
+) -> Result<Written, RunRefusal>
     ensures history { IsHistory session.now.line session.now.core }
     ensures stands { IsCoreOf session.now.line session.now.core }
-    ensures text { IfOk result (λ ran.
-        ran.text.items ≡ summary_line (forest_roots session.now.core.state.forest)) }
-    ensures settled { IfOk result (λ ran. ran.is_settled ≡ is_settled) }
+    ensures text { IfOk result (λ written.
+        written.text.items ≡ summary_line (forest_roots session.now.core.state.forest)) }
+    ensures settled { IfOk result (λ written. written.is_settled ≡ is_settled) }
     ensures line { IsLine (summary_line (forest_roots session.now.core.state.forest)) }
     ensures refused { IfErr result (λ r. r ≡ refusal.Memory) }
 {
     match summary_text(session.bench()).as_bytes().to_vec(alloc) {
-        Ok(line) => Ok(Ran {
+        Ok(line) => Ok(Written {
             text: line,
             is_settled,
         }),

@@ -16,7 +16,7 @@ use Rattle.opening_bench.specs.Bench.{ComesBeforeDisk, ComesToDisk, Finishes, Is
 use Rattle.opening_bench.specs.Disks.{LeavesDisk, of_look}
 use Rattle.opening_bench.specs.Runs.{RunsCommand}
 use Rattle.opening_bench.specs.Steps.{AcceptsBytes, AnswersBytes, AnswersLook, IsAnswer, IsLineOf, RefusesBytes, SaysTrue, says_nothing_of_bytes}
-use Rattle.opening_bench.specs.declared.output.Output.{Output}
+use Rattle.opening_report.specs.declared.written.Written.{Written}
 use Rattle.opening_bench.proofs.CauseLemmas.{Blames, bytes_refuse, command_blames}
 use Rattle.opening_bench.proofs.JournalLemmas.{silent_unrefused}
 use Rattle.opening_bench.proofs.LookingLemmas.{cut_accepts, cut_answers, no_error, refused_for, search_accepts, search_answers}
@@ -61,17 +61,17 @@ accept_unrefused g command (Some told) disk status h = λ good fits room. h
 -- ---- the answer of `generate`, whatever bytes there are, since none are read
 
 module _ {D : Type 0} (g : Ghosts D) (seed count : ℕ) (bytes : List ℕ) (old new : D) where
-  generated_answers : (answer : Result Output Refusal) → IfOk answer (λ output. AnswersBytes g (Generate seed count) [] old new output.text.items output.is_settled)
+  generated_answers : (answer : Result Written Refusal) → IfOk answer (λ output. AnswersBytes g (Generate seed count) [] old new output.text.items output.is_settled)
       → IfOk answer (λ output. AnswersBytes g (Generate seed count) bytes old new output.text.items output.is_settled)
   generated_answers (Ok output) h = record { answers = h.answers; shows = h.shows }
   generated_answers (Err r) h = tt
 
-  generated_accepts : (answer : Result Output Refusal) → IfErr answer (AcceptsBytes g (Generate seed count) bytes old)
+  generated_accepts : (answer : Result Written Refusal) → IfErr answer (AcceptsBytes g (Generate seed count) bytes old)
   generated_accepts (Ok output) = tt
   generated_accepts (Err r) = λ good room. absurd good
 
 module _ {D : Type 0} {g : Ghosts D}
-    {command : Command} {bytes : List ℕ} {old new : D} {answer : Result Output Refusal} where
+    {command : Command} {bytes : List ℕ} {old new : D} {answer : Result Written Refusal} where
   pub generated_answer : {seed count : ℕ} → command ≡ Generate seed count → LeavesDisk g (Generate seed count) old new
       → IfOk answer (λ output. AnswersBytes g (Generate seed count) [] old new output.text.items output.is_settled)
       → IfOk answer (λ output. SaysTrue output.text.items)
@@ -125,7 +125,7 @@ module _ {D : Type 0} {g : Ghosts D}
     {command : Command} {source rest : Option (List ℕ)} {read_before read_after : ℕ} {before after : Option (List ℕ)} {written_before written_after : ℕ} {old new : D} {status : Status} where
   refused_run : (r : Refusal) → LeavesDisk g command old new
       → IsCommandRefusal g command source rest read_before read_after old new r → Accepts g command source old (status_of r)
-      → (HasAsked g command old → says_nothing_of_bytes r ≡ true) → AnswersLook {T = Output} g command old (Err r) → (ComesBeforeDisk r → new ≡ old) → TakesAtMost command source rest
+      → (HasAsked g command old → says_nothing_of_bytes r ≡ true) → AnswersLook {T = Written} g command old (Err r) → (ComesBeforeDisk r → new ≡ old) → TakesAtMost command source rest
       → status ≡ status_of r → TakesLine r before after written_before written_after → IsLineOf r
       → RunsCommand g command source rest read_before read_after before after written_before written_after old new status
   refused_run r leaves cause accepted asked looked unused front is line said =
@@ -141,7 +141,7 @@ module _ {D : Type 0} {g : Ghosts D}
         words = blames.0;
         accepted = subst (Accepts g command source old) (sym is) accepted;
         asked = λ has. subst IsUnrefused (sym is) (silent_unrefused r (asked has));
-        looked = λ honest look stands. refused_for before after written_before written_after Output r (of_look look) status is line (looked honest look stands);
+        looked = λ honest look stands. refused_for before after written_before written_after Written r (of_look look) status is line (looked honest look stands);
         read = blames.1.0;
         write = λ e. absurd (subst Refuses e refuses);
         fault = blames.1.1;
@@ -164,7 +164,7 @@ module _ {D : Type 0} {g : Ghosts D}
 
 module _ {D : Type 0} {g : Ghosts D}
     {command : Command} {source middle rest : Option (List ℕ)} {read_before read_after : ℕ} {before after : Option (List ℕ)} {written_before written_after : ℕ} {old new : D} {status : Status} {bytes seen : List ℕ} where
-  pub answered_run : {answer : Result Output Refusal} → seen ≡ bytes → IsInput command source bytes → (ReadsSource command → IsAtEnd middle) → TakesAtMost command source middle
+  pub answered_run : {answer : Result Written Refusal} → seen ≡ bytes → IsInput command source bytes → (ReadsSource command → IsAtEnd middle) → TakesAtMost command source middle
       → rest ≡ middle → read_after ≡ read_before → IsAnswer g command seen old new answer
       → IfOk answer (λ output. TakesOutput status output.text.items output.is_settled before after)
       → IfErr answer (λ r. status ≡ status_of r) → IfErr answer (λ r. TakesLine r before after written_before written_after) → IfErr answer IsLineOf

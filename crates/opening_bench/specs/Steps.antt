@@ -17,7 +17,7 @@ use Rattle.opening_bench.specs.Bench.{ComesBeforeDisk, status_of}
 use Rattle.opening_bench.specs.Commands.{Answers, HasFault}
 use Rattle.opening_bench.specs.Disks.{LeavesDisk, ShowsDisk, HasDiskFault, of_look}
 use Rattle.opening_bench.specs.Solving.{OpeningsOf, roots_of_openings}
-use Rattle.opening_bench.specs.declared.output.Output.{Output}
+use Rattle.opening_report.specs.declared.written.Written.{Written}
 
 -- the refusal's text is one line
 abbrev pub IsLineOf : Refusal → Type 0
@@ -90,7 +90,7 @@ module _ {D : Type 0} (g : Ghosts D) where
   -- What a command has to write for these bytes, or why it is refused, and what it leaves of the
   -- disk.
   pub record IsAnswer (command : Command) (bytes : List ℕ) (old new : D)
-      (answer : Result Output Refusal) : Type 0 where
+      (answer : Result Written Refusal) : Type 0 where
     pub leaves : LeavesDisk g command old new
     pub answers : IfOk answer (λ output. AnswersBytes g
         command bytes old new output.text.items output.is_settled)

@@ -1,37 +1,16 @@
 //! What a run has to write, and how it is written.
-ghost use Rattle.std.specs.Prelude.{◌≡◌, true, IfOk, IfErr};
+ghost use Rattle.std.specs.Prelude.{◌≡◌, IfOk, IfErr};
 ghost use Rattle.shared_words.specs.Counts.{Rose};
 ghost use Rattle.opening_bench.specs.Bench.{TakesLine, TakesOutput, status_of};
 ghost use Rattle.opening_bench.specs.Steps.{IsLineOf};
 
 use crate::bench::refuse;
 use bench_edges::{Sink, Status, write_all};
-use opening_report::Refusal;
-
-/// What a run has to write, whole in memory.
-#[derive(Drop)]
-pub(crate) struct Output {
-    pub text: Vec<u8>,
-    /// Nothing in it is unsettled.
-    pub is_settled: bool,
-}
-
-impl Output {
-    /// An output that leaves nothing unsettled.
-    pub(crate) fn settled(text: Vec<u8>) -> Output
-        ensures text { result.text ≡ text }
-        ensures settled { result.is_settled ≡ true }
-    {
-        Output {
-            text,
-            is_settled: true,
-        }
-    }
-}
+use opening_report::{Refusal, Written};
 
 /// Writes the output. Where the sink fails, the status is `Write`; else it is `Done` where the
 /// output is settled, and `Unsolved` where it is not.
-fn write_output<K: Sink>(output: &Output, sink: &mut K) -> Status
+fn write_output<K: Sink>(output: &Written, sink: &mut K) -> Status
     ensures taken { TakesOutput result output.now.text.items output.now.is_settled
         (K.taken sink.old) (K.taken sink.new) }
     ensures write { result ≡ Status.Write → Rose (K.faults sink.old) (K.faults sink.new) }
@@ -44,7 +23,7 @@ fn write_output<K: Sink>(output: &Output, sink: &mut K) -> Status
 }
 
 /// Writes the output, or the line of the refusal, and answers the status.
-pub(crate) fn write_answer<K: Sink>(answer: Result<Output, Refusal>, sink: &mut K) -> Status
+pub(crate) fn write_answer<K: Sink>(answer: Result<Written, Refusal>, sink: &mut K) -> Status
     ensures taken { IfOk answer (λ output. TakesOutput result output.text.items output.is_settled
         (K.taken sink.old) (K.taken sink.new)) }
     ensures status { IfErr answer (λ r. result ≡ status_of r) }

@@ -11,11 +11,11 @@ use crate::commands::report::report;
 use crate::commands::table::table;
 use crate::commands::table_check::table_check;
 use crate::commands::verify::verify;
-use crate::output::{Output, write_answer};
+use crate::output::write_answer;
 use crate::reading::{hand_back, read_source};
 use bench_disk::Disk;
 use bench_edges::{Command, Sink, Source, Status};
-use opening_report::Refusal;
+use opening_report::{Refusal, Written};
 use std::alloc::Global;
 
 /// What a command that does not search has to write for these bytes of its source, and the disk.
@@ -24,7 +24,7 @@ fn quiet_bytes<D: Disk>(
     command: Command,
     bytes: &[u8],
     disk: D,
-) -> (D, Result<Output, Refusal>)
+) -> (D, Result<Written, Refusal>)
     requires quiet { Searches command → ⊥ }
     requires limits { IsWithinLimits command }
     ensures answers { IsAnswer D.Disk

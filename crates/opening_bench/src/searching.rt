@@ -8,11 +8,11 @@ ghost use Rattle.opening_bench.specs.Steps.{IsAnswer};
 use crate::bench::refuse;
 use crate::commands::generate::generate;
 use crate::commands::solve::solve;
-use crate::output::{Output, write_answer};
+use crate::output::write_answer;
 use crate::reading::{hand_back, read_source};
 use bench_disk::Disk;
 use bench_edges::{Command, Sink, Source, Status};
-use opening_report::Refusal;
+use opening_report::{Refusal, Written};
 use std::alloc::Global;
 use std::sync::Wait;
 use std::thread::Threads;
@@ -26,7 +26,7 @@ fn search_bytes<R: Threads + Wait + Sync, D: Disk + Send, G: Gate + Sync>(
     bytes: &[u8],
     disk: D,
     gate: &G,
-) -> (D, Result<Output, Refusal>)
+) -> (D, Result<Written, Refusal>)
     requires searches { Searches command }
     requires limits { IsWithinLimits command }
     ensures answers { IsAnswer D.Disk

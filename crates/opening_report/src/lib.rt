@@ -22,9 +22,11 @@ mod part_lines;
 mod refusals;
 mod reports;
 mod roots;
+mod written;
 
 pub use benches::{is_settled, report_text, root_certificate, summary_text};
 pub use findings::{sound_line, verified_line};
 pub use refusals::{Refusal, refusal_line};
 pub use reports::report;
 pub use roots::Root;
+pub use written::Written;

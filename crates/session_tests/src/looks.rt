@@ -5,7 +5,8 @@
 use bench_disk::MemoryDisk;
 use disk_journal::JournalRefusal;
 use draughts_board::Side;
-use journal_looks::{LookRefusal, Looked, certify, report};
+use journal_looks::{LookRefusal, certify, report};
+use opening_report::Written;
 use std::alloc::{AllocError, Global};
 use std::test::Fail;
 use strategy_certificate::Claim;
@@ -43,7 +44,7 @@ const TWICE: [u8; 71] = [
 type Told = Result<(bool, bool), LookRefusal>;
 
 /// What a report tells.
-fn told(answer: Result<Looked, LookRefusal>, text: &str) -> Told {
+fn told(answer: Result<Written, LookRefusal>, text: &str) -> Told {
     let looked = answer?;
     Ok((looked.text.as_slice() == text.as_bytes(), looked.is_settled))
 }

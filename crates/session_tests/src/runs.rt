@@ -10,7 +10,8 @@ use bench_disk::MemoryDisk;
 use draughts_board::Position;
 use endgame_table::{Table, fill};
 use fen_text::read_fen;
-use journal_runs::{Account, JournalFlaw, Ran, RunRefusal, solve};
+use journal_runs::{Account, JournalFlaw, RunRefusal, solve};
+use opening_report::Written;
 use std::alloc::Global;
 use std::sync::Wait;
 use std::test::Fail;
@@ -21,7 +22,7 @@ use worker_gate::OpenGate;
 type Told = Result<(bool, bool), RunRefusal>;
 
 /// What a run tells.
-fn told(answer: Result<Ran, RunRefusal>, text: &str) -> Told {
+fn told(answer: Result<Written, RunRefusal>, text: &str) -> Told {
     let ran = answer?;
     Ok((ran.text.as_slice() == text.as_bytes(), ran.is_settled))
 }

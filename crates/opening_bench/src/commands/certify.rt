@@ -9,26 +9,25 @@ ghost use Rattle.opening_bench.specs.Disks.{LeavesDisk};
 ghost use Rattle.opening_bench.specs.Steps.{AcceptsAsked, AnswersBytes, AnswersLook, RefusesBytes, SaysTrue};
 
 use crate::looking::refusal_of;
-use crate::output::Output;
 use bench_disk::Disk;
 use certificate_text::print_certificate;
-use opening_report::Refusal;
+use opening_report::{Refusal, Written};
 use std::alloc::Global;
 use strategy_certificate::Certificate;
 
 /// The text of a certificate.
-fn certificate_text(alloc: Global, c: &Certificate) -> Result<Output, Refusal>
+fn certificate_text(alloc: Global, c: &Certificate) -> Result<Written, Refusal>
     requires { IsTableSize c.now.pieces }
     ensures text { IfOk result (λ output. ReadsAs output.text.items c.now) }
     ensures settled { IfOk result (λ output. output.is_settled ≡ true) }
     ensures refused { IfErr result (λ r. r ≡ refusals.Memory) }
 {
-    Ok(Output::settled(print_certificate(alloc, c)?))
+    Ok(Written::settled(print_certificate(alloc, c)?))
 }
 
 /// The text of the certificate of a root of the journal, by its number from 1, and the disk.
 /// Nothing is written to it.
-pub(crate) fn certify<D: Disk>(alloc: Global, root: u32, disk: D) -> (D, Result<Output, Refusal>)
+pub(crate) fn certify<D: Disk>(alloc: Global, root: u32, disk: D) -> (D, Result<Written, Refusal>)
     ensures leaves { LeavesDisk D.Disk
         (commands.Certify root) disk result.0 }
     ensures answers { IfOk result.1 (λ output.

@@ -10,14 +10,13 @@ ghost use Rattle.opening_bench.specs.Disks.{IsRefusedRun, LeavesDisk};
 ghost use Rattle.opening_bench.specs.Steps.{AnswersBytes, RefusesBytes, SaysTrue};
 
 use crate::commands::solve::refusal_of;
-use crate::output::Output;
 use bench_core::Settings;
 use bench_disk::Disk;
 use capture_positions::capture_positions;
 use draughts_board::Position;
 use endgame_table::fill;
 use journal_runs::Account;
-use opening_report::Refusal;
+use opening_report::{Refusal, Written};
 use std::alloc::{AllocError, Global};
 use std::sync::Wait;
 use std::thread::Threads;
@@ -44,7 +43,7 @@ fn run_counted<R: Threads + Wait + Sync, D: Disk + Send, G: Gate + Sync>(
     positions: &[Position],
     disk: D,
     gate: &G,
-) -> (D, Result<Output, Refusal>)
+) -> (D, Result<Written, Refusal>)
     requires { IsWithinLimits (commands.Generate seed count) }
     ensures leaves { LeavesDisk D.Disk
         (commands.Generate seed count) disk result.0 }
@@ -80,13 +79,7 @@ fn run_counted<R: Threads + Wait + Sync, D: Disk + Send, G: Gate + Sync>(
         Account::Summary,
     );
     match answer {
-        Ok(ran) => (
-            disk,
-            Ok(Output {
-                text: ran.text,
-                is_settled: ran.is_settled,
-            }),
-        ),
+        Ok(written) => (disk, Ok(written)),
         Err(refusal) => (disk, Err(refusal_of(refusal))),
     }
 }
@@ -100,7 +93,7 @@ pub(crate) fn generate<R: Threads + Wait + Sync, D: Disk + Send, G: Gate + Sync>
     count: u32,
     disk: D,
     gate: &G,
-) -> (D, Result<Output, Refusal>)
+) -> (D, Result<Written, Refusal>)
     requires { IsWithinLimits (commands.Generate seed count) }
     ensures leaves { LeavesDisk D.Disk
         (commands.Generate seed count) disk result.0 }

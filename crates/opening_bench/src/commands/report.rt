@@ -6,13 +6,12 @@ ghost use Rattle.opening_bench.specs.Disks.{LeavesDisk};
 ghost use Rattle.opening_bench.specs.Steps.{AcceptsAsked, AnswersBytes, AnswersLook, RefusesBytes, SaysTrue};
 
 use crate::looking::refusal_of;
-use crate::output::Output;
 use bench_disk::Disk;
-use opening_report::Refusal;
+use opening_report::{Refusal, Written};
 use std::alloc::Global;
 
 /// The report on the roots of the journal, and the disk. Nothing is written to it.
-pub(crate) fn report<D: Disk>(alloc: Global, disk: D) -> (D, Result<Output, Refusal>)
+pub(crate) fn report<D: Disk>(alloc: Global, disk: D) -> (D, Result<Written, Refusal>)
     ensures leaves { LeavesDisk D.Disk
         commands.Report disk result.0 }
     ensures answers { IfOk result.1 (λ output.
@@ -28,13 +27,7 @@ pub(crate) fn report<D: Disk>(alloc: Global, disk: D) -> (D, Result<Output, Refu
 {
     let mut disk = disk;
     match journal_looks::report(alloc, &mut disk) {
-        Ok(looked) => (
-            disk,
-            Ok(Output {
-                text: looked.text,
-                is_settled: looked.is_settled,
-            }),
-        ),
+        Ok(written) => (disk, Ok(written)),
         Err(refusal) => (disk, Err(refusal_of(refusal))),
     }
 }

@@ -10,7 +10,6 @@ ghost use Rattle.opening_bench.specs.Disks.{IsRefusedRun, LeavesDisk, of_flaw, o
 ghost use Rattle.opening_bench.specs.Solving.{roots_of_openings};
 ghost use Rattle.opening_bench.specs.Steps.{AcceptsBytes, AnswersBytes, AreRootsIn, IsAnswerFault, IsAnswerFaultOnly, RefusesBytes, SaysTrue};
 
-use crate::output::Output;
 use bench_core::Settings;
 use bench_disk::Disk;
 use bench_edges::Options;
@@ -18,7 +17,7 @@ use draughts_board::Position;
 use endgame_table::fill;
 use indexmap::IndexSet;
 use journal_runs::{Account, JournalFlaw, RunRefusal};
-use opening_report::Refusal;
+use opening_report::{Refusal, Written};
 use pdn_openings::{Opening, openings};
 use pdn_text::read_games;
 use std::alloc::{AllocError, Global};
@@ -83,7 +82,7 @@ fn run_with<R: Threads + Wait + Sync, D: Disk + Send, G: Gate + Sync>(
     positions: &[Position],
     disk: D,
     gate: &G,
-) -> (D, Result<Output, Refusal>)
+) -> (D, Result<Written, Refusal>)
     requires { IsWithinLimits (commands.Solve options.now) }
     ensures leaves { LeavesDisk D.Disk
         (commands.Solve options.now) disk result.0 }
@@ -119,13 +118,7 @@ fn run_with<R: Threads + Wait + Sync, D: Disk + Send, G: Gate + Sync>(
         Account::Report,
     );
     match answer {
-        Ok(ran) => (
-            disk,
-            Ok(Output {
-                text: ran.text,
-                is_settled: ran.is_settled,
-            }),
-        ),
+        Ok(written) => (disk, Ok(written)),
         Err(refusal) => (disk, Err(refusal_of(refusal))),
     }
 }
@@ -138,7 +131,7 @@ pub(crate) fn solve<R: Threads + Wait + Sync, D: Disk + Send, G: Gate + Sync>(
     text: &[u8],
     disk: D,
     gate: &G,
-) -> (D, Result<Output, Refusal>)
+) -> (D, Result<Written, Refusal>)
     requires { IsWithinLimits (commands.Solve options.now) }
     ensures leaves { LeavesDisk D.Disk
         (commands.Solve options.now) disk result.0 }

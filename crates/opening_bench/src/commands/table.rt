@@ -5,13 +5,12 @@ ghost use Rattle.opening_report.specs.declared.refusals.Refusal.TheVariants as r
 ghost use Rattle.opening_bench.specs.Tables.{AreTableBytes};
 ghost use Rattle.opening_bench.specs.Steps.{SaysTrue};
 
-use crate::output::Output;
 use endgame_table::{fill, table_bytes};
-use opening_report::Refusal;
+use opening_report::{Refusal, Written};
 use std::alloc::Global;
 
 /// The bytes of the table of so many pieces, 2 or 3.
-pub(crate) fn table(alloc: Global, pieces: u8) -> Result<Output, Refusal>
+pub(crate) fn table(alloc: Global, pieces: u8) -> Result<Written, Refusal>
     requires { IsTableSize pieces }
     ensures answers { IfOk result (λ output. AreTableBytes pieces output.text.items) }
     ensures settled { IfOk result (λ output. output.is_settled ≡ true) }
@@ -19,5 +18,5 @@ pub(crate) fn table(alloc: Global, pieces: u8) -> Result<Output, Refusal>
     ensures refused { IfErr result (λ r. r ≡ refusals.Memory) }
 {
     let table = fill(alloc, pieces)?;
-    Ok(Output::settled(table_bytes(alloc, &table)?))
+    Ok(Written::settled(table_bytes(alloc, &table)?))
 }

@@ -6,9 +6,8 @@ ghost use Rattle.opening_report.specs.Lines.{IsLine};
 ghost use Rattle.opening_bench.specs.Commands.{Answers};
 ghost use Rattle.opening_bench.specs.Steps.{IsAnswerFault, IsAnswerFaultOnly, SaysTrue};
 
-use crate::output::Output;
 use endgame_table::Table;
-use opening_report::{Refusal, sound_line};
+use opening_report::{Refusal, Written, sound_line};
 use std::alloc::{AllocError, Global};
 use table_checker::check_table;
 
@@ -26,7 +25,7 @@ fn sound_text(alloc: Global, table: &Table) -> Result<Vec<u8>, AllocError>
 }
 
 /// The line on the table of these bytes.
-pub(crate) fn table_check(alloc: Global, bytes: &[u8]) -> Result<Output, Refusal>
+pub(crate) fn table_check(alloc: Global, bytes: &[u8]) -> Result<Written, Refusal>
     ensures answers { IfOk result (λ output. Answers commands.TableCheck bytes.now
         output.text.items output.is_settled) }
     ensures says { IfOk result (λ output. SaysTrue output.text.items) }
@@ -34,5 +33,5 @@ pub(crate) fn table_check(alloc: Global, bytes: &[u8]) -> Result<Output, Refusal
     ensures accepted { IfErr result (IsAnswerFaultOnly commands.TableCheck bytes.now) }
 {
     let table = check_table(alloc, bytes)?;
-    Ok(Output::settled(sound_text(alloc, &table)?))
+    Ok(Written::settled(sound_text(alloc, &table)?))
 }

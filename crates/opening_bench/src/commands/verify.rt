@@ -7,11 +7,10 @@ ghost use Rattle.opening_bench.specs.Commands.{Answers};
 ghost use Rattle.opening_bench.specs.Steps.{IsAnswerFault, IsAnswerFaultOnly, SaysTrue};
 ghost use Rattle.strategy_certificate.specs.Certificates.{IsGood, IsTrueOf};
 
-use crate::output::Output;
 use certificate_checker::{Proved, check};
 use certificate_text::read_certificate;
 use endgame_table::fill;
-use opening_report::{Refusal, verified_line};
+use opening_report::{Refusal, Written, verified_line};
 use std::alloc::{AllocError, Global};
 
 /// The longest source that `verify` reads, in bytes.
@@ -31,7 +30,7 @@ fn verified_text(alloc: Global, proved: &Proved) -> Result<Vec<u8>, AllocError>
 }
 
 /// The line on the certificate of this text, by the endgame table of the pieces that it names.
-pub(crate) fn verify(alloc: Global, text: &[u8]) -> Result<Output, Refusal>
+pub(crate) fn verify(alloc: Global, text: &[u8]) -> Result<Written, Refusal>
     ensures answers { IfOk result (λ output. Answers commands.Verify text.now
         output.text.items output.is_settled) }
     ensures says { IfOk result (λ output. SaysTrue output.text.items) }
@@ -41,7 +40,7 @@ pub(crate) fn verify(alloc: Global, text: &[u8]) -> Result<Output, Refusal>
     let certificate = read_certificate(alloc, text)?;
     let table = fill(alloc, certificate.pieces)?;
     match check(alloc, certificate, &table) {
-        Ok(proved) => Ok(Output::settled(verified_text(alloc, &proved)?)),
+        Ok(proved) => Ok(Written::settled(verified_text(alloc, &proved)?)),
         Err(refused) => Err(Refusal::from(refused.1)),
     }
 }

@@ -4,13 +4,13 @@ use Rattle.opening_bench.proofs.LookingLemmas.{look_accepts, look_answers, no_er
 use Rattle.opening_bench.proofs.commands.report.report.Goals as goal
 
 pub returns-in-Ok-clause-says : goal.returns-in-Ok-clause-says
-returns-in-Ok-clause-says g c = true_report_says c.in-Ok.looked.text.items c.in-Ok.ensures.values
+returns-in-Ok-clause-says g c = true_report_says c.in-Ok.written.text.items c.in-Ok.ensures.values
 
 pub returns-in-Ok-clause-leaves : goal.returns-in-Ok-clause-leaves
 returns-in-Ok-clause-leaves g c = reads_stays g.D.Disk g.met.D.Disk.now_counts _ _ _ c.in-Ok.ensures.reads
 
 pub returns-in-Ok-clause-looked : goal.returns-in-Ok-clause-looked
-returns-in-Ok-clause-looked g c honest cause stands = absurd (no_error c.in-Ok.looked cause (c.in-Ok.ensures.causes honest cause stands))
+returns-in-Ok-clause-looked g c honest cause stands = absurd (no_error c.in-Ok.written cause (c.in-Ok.ensures.causes honest cause stands))
 
 pub returns-in-Err-clause-asked : goal.returns-in-Err-clause-asked
 returns-in-Err-clause-asked g c asked =
