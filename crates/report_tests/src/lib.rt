@@ -4,6 +4,10 @@
 #![tactic(auto)]
 
 #[cfg(test)]
+mod answers;
+#[cfg(test)]
 mod hints;
+#[cfg(test)]
+mod path_disks;
 #[cfg(test)]
 mod reports;

@@ -1,0 +1,5 @@
+pub mod Answers
+pub mod Below
+pub mod PathDisk
+pub mod Sources
+pub mod Statuses
