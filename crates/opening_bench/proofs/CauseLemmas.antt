@@ -33,8 +33,10 @@ use Rattle.opening_report.specs.Conversions.{of_pdn, of_openings, of_text, of_ch
 use Rattle.opening_report.specs.Report.{forest_roots, summary_line}
 use Rattle.opening_report.specs.declared.refusals.Refusal.{Refusal}
 use Rattle.opening_report.specs.declared.refusals.Refusal.TheVariants as refusal
-use Rattle.opening_bench.specs.Bench.{IsCommandRefusal, IsCutShort, IsInput, ReadsSource, status_of}
-use Rattle.opening_bench.specs.Commands.{HasFault}
+use Rattle.program_edges.specs.Sources.{IsCutShort, IsInput}
+use Rattle.program_edges.specs.Statuses.{status_of}
+use Rattle.opening_bench.specs.Bench.{IsCommandRefusal, ReadsSource}
+use Rattle.opening_bench.specs.Commands.{HasFault, source_limit}
 use Rattle.opening_bench.specs.Disks.{HasDiskFault, IsRefusedRun, of_look, of_run}
 use Rattle.opening_bench.specs.Steps.{AnswersBytes, RefusesBytes}
 use Rattle.opening_bench.specs.declared.commands.generate.TheConstants.{GENERATE_DEPTH, GENERATE_PIECES}
@@ -145,7 +147,7 @@ fault_reads (MakeTable pieces) bytes r h = absurd h
 fault_reads TableCheck bytes r h = refl
 fault_reads (Generate seed count) bytes r h = absurd h
 
-cut_blames : (B : Type 0) (command : Command) (source rest : Option (List ℕ)) (before after : ℕ) (r : Refusal) → IsCutShort command source rest before after r
+cut_blames : (B : Type 0) (command : Command) (source rest : Option (List ℕ)) (before after : ℕ) (r : Refusal) → IsCutShort (source_limit command) source rest before after r
     → Blames (Rose before after) B (status_of r)
 cut_blames B command source rest before after r (inl memory) = by_refusal (Rose before after) B r refusal.Memory memory (memory_blames (Rose before after) B)
 cut_blames B command source rest before after r (inr (inl read)) = by_refusal (Rose before after) B r refusal.Read read.0 (read_blames (Rose before after) B read.1.1)
@@ -179,7 +181,7 @@ module _ {D : Type 0} (g : Ghosts D) where
 
   -- bytes that are refused, of a source that was read to its end
   pub bytes_refuse : (command : Command) (source rest : Option (List ℕ)) (before after : ℕ) (bytes : List ℕ) (old new : D) (r : Refusal)
-      → IsInput command source bytes → (ReadsSource command → IsAtEnd rest) → after ≡ before
+      → IsInput (source_limit command) source bytes → (ReadsSource command → IsAtEnd rest) → after ≡ before
       → RefusesBytes g command bytes old new r
       → IsCommandRefusal g command source rest before after old new r
   bytes_refuse command source rest before after bytes old new r is_input end counted (inl (inl memory)) = inl (inl memory)

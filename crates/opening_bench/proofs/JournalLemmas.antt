@@ -1,5 +1,5 @@
 -- What a run on a journal, and a look at one, answer and refuse.
-use Rattle.std.proofs.Common.{◌≡◌, ℕ, ◌<◌, ◌^◌, Bool, true, List, length, refl, sym, ◌∙◌, ap, subst, arith, lit<}
+use Rattle.std.proofs.Common.{◌≡◌, ℕ, ◌<◌, ◌^◌, true, List, length, refl, sym, ◌∙◌, ap, subst, arith, lit<}
 use Rattle.std.proofs.lemmas.Bool.{false≢true}
 use Rattle.std.specs.Prelude.{IfErr, Result, Ok, Err}
 use Rattle.bench_disk.specs.declared.disk.Disk.{Ghosts}
@@ -18,7 +18,7 @@ use Rattle.opening_report.specs.declared.refusals.Refusal.{Refusal}
 use Rattle.opening_report.specs.declared.refusals.Refusal.TheVariants as refusal
 use Rattle.opening_report.proofs.ReportLemmas.{report-is_true}
 use Rattle.opening_bench.specs.Accepted.{HasRoom, IsUnrefused}
-use Rattle.opening_bench.specs.Bench.{status_of}
+use Rattle.program_edges.specs.Statuses.{status_of}
 use Rattle.opening_bench.specs.Disks.{IsRefusedRun, of_run}
 use Rattle.opening_bench.specs.Solving.{roots_of_openings}
 use Rattle.opening_bench.specs.Steps.{AcceptsBytes, AreRootsIn, SaysTrue, says_nothing_of_bytes}

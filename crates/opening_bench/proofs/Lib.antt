@@ -12,3 +12,4 @@ pub mod CauseLemmas
 pub mod OnePlyLemmas
 pub mod NewJournalLemmas
 pub mod RunLemmas
+pub mod WordsLemmas

@@ -17,7 +17,10 @@ use Rattle.journal_looks.specs.declared.refusals.LookRefusal.TheVariants as look
 use Rattle.opening_report.specs.declared.refusals.Refusal.{Refusal}
 use Rattle.opening_report.specs.declared.refusals.Refusal.TheVariants as refusal
 use Rattle.opening_bench.specs.Accepted.{HasAsked, HasLookCause, IsRefusedFor}
-use Rattle.opening_bench.specs.Bench.{IsCutShort, TakesLine, status_of}
+use Rattle.opening_report.specs.Refusals.{refusal_text}
+use Rattle.program_edges.specs.Answers.{TakesLine}
+use Rattle.program_edges.specs.Sources.{IsCutShort}
+use Rattle.program_edges.specs.Statuses.{status_of}
 use Rattle.opening_bench.specs.Commands.{Searches, source_limit}
 use Rattle.opening_bench.specs.Disks.{of_look}
 use Rattle.opening_bench.specs.Steps.{AcceptsAsked, AnswersLook, RefusesBytes, says_nothing_of_bytes}
@@ -62,11 +65,11 @@ memory_accepts (Err r) h = ap says_nothing_of_bytes h
 some_none : (n : ℕ) (o : Option ℕ) → o ≡ None → o ≡ Some n → ⊥
 some_none n o none some = cc
 
-cut_silent : (command : Command) (source rest : Option (List ℕ)) (before after : ℕ) (r : Refusal) → source_limit command ≡ None → IsCutShort command source rest before after r
+cut_silent : (command : Command) (source rest : Option (List ℕ)) (before after : ℕ) (r : Refusal) → source_limit command ≡ None → IsCutShort (source_limit command) source rest before after r
     → says_nothing_of_bytes r ≡ true
 cut_silent command source rest before after r none (inl memory) = ap says_nothing_of_bytes memory
 cut_silent command source rest before after r none (inr (inl read)) = absurd (false≢true (subst (λ (o : Option ℕ). IsSome o) none read.1.0))
-cut_silent command source rest before after r none (inr (inr long)) = absurd (some_none long.1.limit (source_limit command) none long.1.is_limit)
+cut_silent command source rest before after r none (inr (inr long)) = absurd (some_none long.1.most (source_limit command) none long.1.is_limit)
 
 module _ {D : Type 0} (g : Ghosts D) where
   asked_reads_none : (command : Command) (disk : D) → HasAsked g command disk → source_limit command ≡ None
@@ -76,7 +79,7 @@ module _ {D : Type 0} (g : Ghosts D) where
   asked_reads_none (Generate seed count) disk asked = refl
   asked_reads_none command disk asked = absurd asked
 
-  pub cut_accepts : (command : Command) (source rest : Option (List ℕ)) (before after : ℕ) (disk : D) (r : Refusal) → IsCutShort command source rest before after r
+  pub cut_accepts : (command : Command) (source rest : Option (List ℕ)) (before after : ℕ) (disk : D) (r : Refusal) → IsCutShort (source_limit command) source rest before after r
       → HasAsked g command disk → says_nothing_of_bytes r ≡ true
   cut_accepts command source rest before after disk r cut asked = cut_silent command source rest before after r (asked_reads_none command disk asked) cut
 
@@ -86,7 +89,7 @@ look_reads_none (Certify root) file cause stands = refl
 look_reads_none command file cause stands = absurd stands
 
 pub cut_answers : (command : Command) (file : List ℕ) (cause : LookRefusal) (source rest : Option (List ℕ)) (before after : ℕ) (r : Refusal) (P : Type 0)
-    → IsCutShort command source rest before after r → HasLookCause command file cause → OnFalse (says_nothing_of_bytes r) P
+    → IsCutShort (source_limit command) source rest before after r → HasLookCause command file cause → OnFalse (says_nothing_of_bytes r) P
 cut_answers command file cause source rest before after r P cut stands =
     subst (λ (b : Bool). OnFalse b P) (sym (cut_silent command source rest before after r (look_reads_none command file cause stands) cut)) tt
 
@@ -98,18 +101,18 @@ module _ (before after : Option (List ℕ)) (faults_before faults_after : ℕ) w
   silent_for refusal.Memory q status silent of = subst (IsRefusedFor q before after faults_before faults_after) (sym of) tt
   silent_for r q status silent of = absurd (false≢true silent)
 
-  exact_for : (q : Refusal) (status : Status) → status_of q ≡ status → TakesLine q before after faults_before faults_after → IsRefusedFor q before after faults_before faults_after status
+  exact_for : (q : Refusal) (status : Status) → status_of q ≡ status → TakesLine (refusal_text q) before after faults_before faults_after → IsRefusedFor q before after faults_before faults_after status
   exact_for q Disk of line = tt
   exact_for q Memory of line = tt
   exact_for q status of line = (of, line)
 
-  refused_by : (b : Bool) (r q : Refusal) (status : Status) → says_nothing_of_bytes r ≡ b → status ≡ status_of r → TakesLine r before after faults_before faults_after → OnFalse b (r ≡ q)
+  refused_by : (b : Bool) (r q : Refusal) (status : Status) → says_nothing_of_bytes r ≡ b → status ≡ status_of r → TakesLine (refusal_text r) before after faults_before faults_after → OnFalse b (r ≡ q)
       → IsRefusedFor q before after faults_before faults_after status
   refused_by true r q status silent of line h = silent_for r q status silent of
   refused_by false r q status silent of line h =
-      exact_for q status (ap status_of (sym h) ∙ sym of) (subst (λ (x : Refusal). TakesLine x before after faults_before faults_after) h line)
+      exact_for q status (ap status_of (sym h) ∙ sym of) (subst (λ (x : Refusal). TakesLine (refusal_text x) before after faults_before faults_after) h line)
 
-  pub refused_for : (X : Type 0) (r q : Refusal) (status : Status) → status ≡ status_of r → TakesLine r before after faults_before faults_after
+  pub refused_for : (X : Type 0) (r q : Refusal) (status : Status) → status ≡ status_of r → TakesLine (refusal_text r) before after faults_before faults_after
       → OnFalse (says_nothing_of_bytes r) (◌≡◌ {A = Result X Refusal} (Err r) (Err q)) → IsRefusedFor q before after faults_before faults_after status
   refused_for X r q status of line h =
       refused_by (says_nothing_of_bytes r) r q status refl of line

@@ -1,5 +1,5 @@
 -- On a new journal a budget of COUNT is ample for COUNT openings that are made from a seed.
-use Rattle.std.proofs.Common.{◌≡◌, ℕ, zero, suc, ◌+◌, ◌-◌, ◌<◌, ◌≤◌, cond, Bool, true, false, List, [], ◌∷◌, ◌++◌, map, length, take, refl, ap, ◌∙◌, sym, subst, inl, inr, arith, append_assoc, append-nil, ⊎_elim}
+use Rattle.std.proofs.Common.{◌≡◌, ℕ, zero, suc, ◌+◌, ◌-◌, ◌<◌, ◌≤◌, cond, true, false, List, [], ◌∷◌, ◌++◌, map, length, take, refl, ap, ◌∙◌, sym, subst, inl, inr, arith, append_assoc, append-nil, ⊎_elim}
 use Rattle.std.proofs.lemmas.Grind.{common_steps}
 use Rattle.std.specs.Prelude.{Contains, min, not, is_some}
 use Rattle.std.specs.List.{list_any, range_with_len, AllByRecursion as Each}

@@ -1,5 +1,5 @@
 -- What is answered, and what is not refused.
-use Rattle.std.proofs.Common.{◌≡◌, ℕ, ◌≤◌, ◌⊎◌, inl, inr, Bool, List, Option, None, Some, refl, sym, subst, length}
+use Rattle.std.proofs.Common.{◌≡◌, ℕ, ◌≤◌, ◌⊎◌, inl, inr, List, Option, None, Some, refl, sym, subst, length}
 use Rattle.std.specs.Prelude.{IfSome, IsSome}
 use Rattle.bench_disk.specs.declared.disk.Disk.{Ghosts}
 use Rattle.bench_edges.specs.declared.status.Status.{Status}
@@ -12,7 +12,8 @@ use Rattle.strategy_certificate.specs.Certificates.{IsGood}
 use Rattle.strategy_certificate.specs.declared.certificates.Certificate.{Certificate}
 use Rattle.opening_report.specs.declared.refusals.Refusal.{Refusal}
 use Rattle.opening_bench.specs.Accepted.{IsGoodFor, HasRoomFor, IsUnrefused, Accepts}
-use Rattle.opening_bench.specs.Bench.{IsInput, status_of}
+use Rattle.program_edges.specs.Sources.{IsInput}
+use Rattle.program_edges.specs.Statuses.{status_of}
 use Rattle.opening_bench.specs.Commands.{source_limit}
 use Rattle.opening_bench.specs.Steps.{AcceptsBytes}
 use Rattle.opening_bench.specs.declared.commands.verify.TheConstants.{CERTIFICATE_LIMIT}
@@ -31,7 +32,7 @@ read_or_none TableCheck = inl refl
 read_or_none (Generate seed count) = inr (λ told good. good)
 
 module _ {D : Type 0} (g : Ghosts D) where
-  accept_by : (command : Command) (source : Option (List ℕ)) (bytes : List ℕ) (old : D) (r : Refusal) → IsInput command source bytes → AcceptsBytes g command bytes old r
+  accept_by : (command : Command) (source : Option (List ℕ)) (bytes : List ℕ) (old : D) (r : Refusal) → IsInput (source_limit command) source bytes → AcceptsBytes g command bytes old r
       → (IsSome (source_limit command) ⊎ ((told : List ℕ) → IsGoodFor command told → ⊥)) → Accepts g command source old (status_of r)
   accept_by command None bytes old r input accepts kind = tt
   accept_by command (Some told) bytes old r input accepts (inl reads_it) = λ good fits room.
@@ -39,7 +40,7 @@ module _ {D : Type 0} (g : Ghosts D) where
       accepts (subst (IsGoodFor command) same good) (subst (λ b. HasRoomFor g command b old) same room)
   accept_by command (Some told) bytes old r input accepts (inr none) = λ good fits room. absurd (none told good)
 
-  pub bytes_accept : (command : Command) (source : Option (List ℕ)) (bytes : List ℕ) (old : D) (r : Refusal) → IsInput command source bytes → AcceptsBytes g command bytes old r
+  pub bytes_accept : (command : Command) (source : Option (List ℕ)) (bytes : List ℕ) (old : D) (r : Refusal) → IsInput (source_limit command) source bytes → AcceptsBytes g command bytes old r
       → Accepts g command source old (status_of r)
   bytes_accept command source bytes old r input accepts = accept_by command source bytes old r input accepts (read_or_none command)
 

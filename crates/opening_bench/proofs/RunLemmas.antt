@@ -1,9 +1,10 @@
 -- A run of a command: the answer to its source, and what is written of it.
-use Rattle.std.proofs.Common.{◌≡◌, ℕ, ◌<◌, ◌≤◌, inl, inr, Bool, true, List, [], Option, None, Some, refl, sym, ap, subst, length, arith}
-use Rattle.std.specs.Prelude.{IfErr, IfOk, IfSome, Result, Ok, Err}
+use Rattle.std.proofs.Common.{◌≡◌, ℕ, ◌+◌, ◌<◌, ◌≤◌, inl, inr, Bool, true, List, [], Option, None, Some, refl, sym, ap, subst, length, arith}
+use Rattle.std.specs.Prelude.{IfErr, IfOk, IfSome, IsSome, OnOk, Result, Ok, Err}
 use Rattle.std.specs.Io.KnownBytes.{IsAtEnd}
 use Rattle.bench_disk.specs.declared.disk.Disk.{Ghosts}
 use Rattle.shared_words.specs.Counts.{Rose}
+use Rattle.bench_edges.specs.KnownBytes.{ConsumesAtMost}
 use Rattle.bench_edges.specs.declared.status.Status.{Status}
 use Rattle.bench_edges.specs.declared.status.Status.TheVariants.{Done, Unsolved, Write}
 use Rattle.bench_edges.specs.declared.words.Command.{Command}
@@ -12,9 +13,14 @@ use Rattle.opening_report.specs.Report.{ValuesAreTrue}
 use Rattle.opening_report.specs.declared.refusals.Refusal.{Refusal}
 use Rattle.opening_report.specs.declared.refusals.Refusal.TheVariants as refusal
 use Rattle.opening_bench.specs.Accepted.{Accepts, HasAsked, IsUnrefused}
-use Rattle.opening_bench.specs.Bench.{ComesBeforeDisk, ComesToDisk, Finishes, IsCommandRefusal, IsCutShort, IsInput, ReadsSource, Refuses, Reports, TakesAtMost, TakesLine, TakesOutput, status_of}
+use Rattle.opening_report.specs.Refusals.{refusal_text}
+use Rattle.program_edges.specs.Answers.{TakesLine, TakesOutput}
+use Rattle.program_edges.specs.Sources.{IsCutShort, IsInput}
+use Rattle.program_edges.specs.Statuses.{status_of}
+use Rattle.opening_bench.specs.Bench.{ComesBeforeDisk, ComesToDisk, Finishes, IsCommandRefusal, ReadsSource, Refuses, Reports, TakesAtMost}
+use Rattle.opening_bench.specs.Commands.{source_limit}
 use Rattle.opening_bench.specs.Disks.{LeavesDisk, of_look}
-use Rattle.opening_bench.specs.Runs.{RunsCommand}
+use Rattle.opening_bench.specs.Runs.{HandsOut, RunsCommand}
 use Rattle.opening_bench.specs.Steps.{AcceptsBytes, AnswersBytes, AnswersLook, IsAnswer, IsLineOf, RefusesBytes, SaysTrue, says_nothing_of_bytes}
 use Rattle.opening_report.specs.declared.written.Written.{Written}
 use Rattle.opening_bench.proofs.CauseLemmas.{Blames, bytes_refuse, command_blames}
@@ -94,13 +100,13 @@ module _ {D : Type 0} {g : Ghosts D}
 
 module _ {D : Type 0} (g : Ghosts D) where
   -- a source that is not too long, and of which the reading is cut short, is not refused for what it says
-  cut_unrefused : (command : Command) (source rest : Option (List ℕ)) (before after : ℕ) (disk : D) (r : Refusal) → IsCutShort command source rest before after r → Accepts g command source disk (status_of r)
+  cut_unrefused : (command : Command) (source rest : Option (List ℕ)) (before after : ℕ) (disk : D) (r : Refusal) → IsCutShort (source_limit command) source rest before after r → Accepts g command source disk (status_of r)
   cut_unrefused command None rest before after disk r cut = tt
   cut_unrefused command (Some told) rest before after disk r (inl memory) = λ good fits room. silent_unrefused r (ap says_nothing_of_bytes memory)
   cut_unrefused command (Some told) rest before after disk r (inr (inl read)) = λ good fits room. subst (λ q. IsUnrefused (status_of q)) (sym read.0) ((λ e. absurd cc), (λ e. absurd cc))
   cut_unrefused command (Some told) rest before after disk r (inr (inr long)) = λ good fits room.
-      let most : length told ≤ long.1.limit = subst (λ (o : Option ℕ). IfSome o (λ limit. length told ≤ limit)) long.1.is_limit fits in
-      let more : long.1.limit < length told = long.1.long in
+      let most : length told ≤ long.1.most = subst (λ (o : Option ℕ). IfSome o (λ limit. length told ≤ limit)) long.1.is_limit fits in
+      let more : long.1.most < length told = long.1.long in
       absurd (omega (arith, most, more))
 
 module _ {D : Type 0} (g : Ghosts D) where
@@ -122,76 +128,106 @@ refused_end g command source rest before after old new r (inr (inl wrong)) comes
 refused_end g command source rest before after old new r (inr (inr disk)) comes = disk.end
 
 module _ {D : Type 0} {g : Ghosts D}
-    {command : Command} {source rest : Option (List ℕ)} {read_before read_after : ℕ} {before after : Option (List ℕ)} {written_before written_after : ℕ} {old new : D} {status : Status} where
+    {command : Command} {source rest : Option (List ℕ)} {read_before read_after : ℕ} {before after : Option (List ℕ)} {written_before written_after : ℕ} {old new : D}
+    {status : Status} {handed : Option Refusal} where
   refused_run : (r : Refusal) → LeavesDisk g command old new
       → IsCommandRefusal g command source rest read_before read_after old new r → Accepts g command source old (status_of r)
       → (HasAsked g command old → says_nothing_of_bytes r ≡ true) → AnswersLook {T = Written} g command old (Err r) → (ComesBeforeDisk r → new ≡ old) → TakesAtMost command source rest
-      → status ≡ status_of r → TakesLine r before after written_before written_after → IsLineOf r
+      → status ≡ status_of r → TakesLine (refusal_text r) before after written_before written_after → IsLineOf r → handed ≡ Some r
       → RunsCommand g command source rest read_before read_after before after written_before written_after old new status
-  refused_run r leaves cause accepted asked looked unused front is line said =
+      × HandsOut (IsCommandRefusal g command source rest read_before read_after old new) old new before after written_before written_after status handed
+  refused_run r leaves cause accepted asked looked unused front is line said handed =
       let refuses : Refuses status = subst Refuses (sym is) (refusal_refuses r) in
       let blames : Blames (Rose read_before read_after) (Rose (g.faults old) (g.faults new)) status = subst (Blames (Rose read_before read_after) (Rose (g.faults old) (g.faults new))) (sym is)
-      (command_blames g command source rest read_before read_after old new r cause) in
-      record {
-        values = line_values r before after written_before written_after said line;
-        openings = λ finished. absurd (not_both status (finished_reports status finished) refuses);
-        does = λ reports. absurd (not_both status reports refuses);
-        refused = λ refuses. record { refusal = r; cause = cause; status_is = sym is; line = line; unused = unused };
-        leaves = leaves;
-        words = blames.0;
-        accepted = subst (Accepts g command source old) (sym is) accepted;
-        asked = λ has. subst IsUnrefused (sym is) (silent_unrefused r (asked has));
-        looked = λ honest look stands. refused_for before after written_before written_after Written r (of_look look) status is line (looked honest look stands);
-        read = blames.1.0;
-        write = λ e. absurd (subst Refuses e refuses);
-        fault = blames.1.1;
-        all_read = λ comes. refused_end g command source rest read_before read_after old new r cause (subst ComesToDisk is comes);
-        front = front;
-      }
+      (command_blames g command source rest read_before read_after old new r cause) in (
+        record {
+          values = line_values r before after written_before written_after said line;
+          openings = λ finished. absurd (not_both status (finished_reports status finished) refuses);
+          does = λ reports. absurd (not_both status reports refuses);
+          refused = λ refuses. record { refusal = r; cause = cause; status_is = sym is; line = line; unused = unused };
+          leaves = leaves;
+          words = blames.0;
+          accepted = subst (Accepts g command source old) (sym is) accepted;
+          asked = λ has. subst IsUnrefused (sym is) (silent_unrefused r (asked has));
+          looked = λ honest look stands. refused_for before after written_before written_after Written r (of_look look) status is line (looked honest look stands);
+          read = blames.1.0;
+          write = λ e. absurd (subst Refuses e refuses);
+          fault = blames.1.1;
+          all_read = λ comes. refused_end g command source rest read_before read_after old new r cause (subst ComesToDisk is comes);
+          front = front;
+        },
+        record {
+          refused = λ refuses. (record { refusal = r; cause = cause; status_is = sym is; line = line; unused = unused }, handed);
+          reported = λ reports. absurd (not_both status reports refuses);
+        },
+      )
 
 module _ {D : Type 0} {g : Ghosts D}
-    {command : Command} {source rest : Option (List ℕ)} {read_before read_after : ℕ} {before after : Option (List ℕ)} {written_before written_after : ℕ} {disk : D} {status : Status} {r : Refusal} where
+    {command : Command} {limit : Option ℕ} {source rest : Option (List ℕ)} {read_before read_after : ℕ} {before after : Option (List ℕ)} {written_before written_after : ℕ} {disk : D}
+    {status : Status} {handed : Option Refusal} {r : Refusal} where
   -- .. since its source is cut short
-  pub cut_run : IsCutShort command source rest read_before read_after r → TakesAtMost command source rest
-      → status ≡ status_of r → TakesLine r before after written_before written_after → IsLineOf r
+  pub cut_run : limit ≡ source_limit command → IsCutShort limit source rest read_before read_after r → IfSome limit (λ most. ConsumesAtMost (most + 1) source rest)
+      → status ≡ status_of r → TakesLine (refusal_text r) before after written_before written_after → IsLineOf r → handed ≡ Some r
       → RunsCommand g command source rest read_before read_after before after written_before written_after disk disk status
-  cut_run cut front is line said =
+      × HandsOut (IsCommandRefusal g command source rest read_before read_after disk disk) disk disk before after written_before written_after status handed
+  cut_run same cut_by_limit taken is line said handed =
+      let cut : IsCutShort (source_limit command) source rest read_before read_after r = subst (λ (l : Option ℕ). IsCutShort l source rest read_before read_after r) same cut_by_limit in
+      let front : TakesAtMost command source rest = subst (λ (l : Option ℕ). IfSome l (λ most. ConsumesAtMost (most + 1) source rest)) same taken in
       refused_run r (left_alone g command disk) (inl cut) (cut_unrefused g command source rest read_before read_after disk r cut)
       (λ has. cut_accepts g command source rest read_before read_after disk r cut has) (λ honest look stands. cut_answers command (g.reads disk) look source rest read_before read_after r _ cut stands)
-      (λ unused. refl) front is line said
+      (λ unused. refl) front is line said handed
 
 -- ---- a run of which the source was read to its end, as `middle` was left of it, and to which the bytes were handed back
 
+-- the bytes of the source by the command
+input_seen : (command : Command) (limit : Option ℕ) (source : Option (List ℕ)) (bytes seen : List ℕ) → limit ≡ source_limit command → seen ≡ bytes → IsInput limit source bytes
+    → IsInput (source_limit command) source seen
+input_seen command limit source bytes seen same is input = subst (IsInput (source_limit command) source) (sym is) (subst (λ (l : Option ℕ). IsInput l source bytes) same input)
+
+-- its end, and how much was taken of it
+at_end : (command : Command) (limit : Option ℕ) (middle rest : Option (List ℕ)) → limit ≡ source_limit command → rest ≡ middle → (IsSome limit → IsAtEnd middle) → ReadsSource command → IsAtEnd rest
+at_end command limit middle rest same left end = subst (λ (o : Option (List ℕ)). ReadsSource command → IsAtEnd o) (sym left) (subst (λ (l : Option ℕ). IsSome l → IsAtEnd middle) same end)
+
+in_front : (command : Command) (limit : Option ℕ) (source middle rest : Option (List ℕ)) → limit ≡ source_limit command → rest ≡ middle
+    → IfSome limit (λ most. ConsumesAtMost (most + 1) source middle) → TakesAtMost command source rest
+in_front command limit source middle rest same left taken =
+    subst (TakesAtMost command source) (sym left) (subst (λ (l : Option ℕ). IfSome l (λ most. ConsumesAtMost (most + 1) source middle)) same taken)
+
 module _ {D : Type 0} {g : Ghosts D}
-    {command : Command} {source middle rest : Option (List ℕ)} {read_before read_after : ℕ} {before after : Option (List ℕ)} {written_before written_after : ℕ} {old new : D} {status : Status} {bytes seen : List ℕ} where
-  pub answered_run : {answer : Result Written Refusal} → seen ≡ bytes → IsInput command source bytes → (ReadsSource command → IsAtEnd middle) → TakesAtMost command source middle
+    {command : Command} {limit : Option ℕ} {source middle rest : Option (List ℕ)} {read_before read_after : ℕ} {before after : Option (List ℕ)} {written_before written_after : ℕ} {old new : D}
+    {status : Status} {handed : Option Refusal} {bytes seen : List ℕ} where
+  pub answered_run : {answer : Result Written Refusal} → limit ≡ source_limit command → seen ≡ bytes → IsInput limit source bytes → (IsSome limit → IsAtEnd middle)
+      → IfSome limit (λ most. ConsumesAtMost (most + 1) source middle)
       → rest ≡ middle → read_after ≡ read_before → IsAnswer g command seen old new answer
       → IfOk answer (λ output. TakesOutput status output.text.items output.is_settled before after)
-      → IfErr answer (λ r. status ≡ status_of r) → IfErr answer (λ r. TakesLine r before after written_before written_after) → IfErr answer IsLineOf
-      → (status ≡ Write → Rose written_before written_after)
+      → IfErr answer (λ r. status ≡ status_of r) → IfErr answer (λ r. TakesLine (refusal_text r) before after written_before written_after) → IfErr answer IsLineOf
+      → OnOk answer (status ≡ Write → Rose written_before written_after) → OnOk answer (handed ≡ None) → IfErr answer (λ r. handed ≡ Some r)
       → RunsCommand g command source rest read_before read_after before after written_before written_after old new status
-  answered_run {answer = Ok output} same input end front left counted a taken is line said write =
-      let there : IsInput command source seen = subst (IsInput command source) (sym same) input in
+      × HandsOut (IsCommandRefusal g command source rest read_before read_after old new) old new before after written_before written_after status handed
+  answered_run {answer = Ok output} same is_seen input end front left counted a taken is line said write none some =
+      let there : IsInput (source_limit command) source seen = input_seen command limit source bytes seen same is_seen input in
       let reports : Reports status = reported output.text.items output.is_settled before after status taken in
-      let unrefused : IsUnrefused status = ((λ e. subst Reports e reports), (λ e. subst Reports e reports)) in
-      record {
-        values = output_has ValuesAreTrue output.text.items output.is_settled before after a.says status taken;
-        openings = λ finished. output_holds command source seen output.text.items output.is_settled before after status finished there a.answers.answers taken;
-        does = λ reports. record { input = seen; is_input = there; text = output.text.items; settled = output.is_settled; answers = a.answers.answers; shows = a.answers.shows; taken = taken };
-        refused = λ refuses. absurd (not_both status reports refuses);
-        leaves = a.leaves;
-        words = λ e. subst Reports e reports;
-        accepted = accept_unrefused g command source old status unrefused;
-        asked = λ has. unrefused;
-        looked = λ honest look stands. absurd (no_error output (of_look look) (a.looked honest look stands));
-        read = λ e. absurd (subst Reports e reports);
-        write = write;
-        fault = λ e. absurd (subst Reports e reports);
-        all_read = λ comes reads_it. subst IsAtEnd (sym left) (end reads_it);
-        front = subst (TakesAtMost command source) (sym left) front;
-      }
-  answered_run {answer = Err r} same input end front left counted a taken is line said write =
-      let there : IsInput command source seen = subst (IsInput command source) (sym same) input in
+      let unrefused : IsUnrefused status = ((λ e. subst Reports e reports), (λ e. subst Reports e reports)) in (
+        record {
+          values = output_has ValuesAreTrue output.text.items output.is_settled before after a.says status taken;
+          openings = λ finished. output_holds command source seen output.text.items output.is_settled before after status finished there a.answers.answers taken;
+          does = λ reports. record { input = seen; is_input = there; text = output.text.items; settled = output.is_settled; answers = a.answers.answers; shows = a.answers.shows; taken = taken };
+          refused = λ refuses. absurd (not_both status reports refuses);
+          leaves = a.leaves;
+          words = λ e. subst Reports e reports;
+          accepted = accept_unrefused g command source old status unrefused;
+          asked = λ has. unrefused;
+          looked = λ honest look stands. absurd (no_error output (of_look look) (a.looked honest look stands));
+          read = λ e. absurd (subst Reports e reports);
+          write = write;
+          fault = λ e. absurd (subst Reports e reports);
+          all_read = λ comes. at_end command limit middle rest same left end;
+          front = in_front command limit source middle rest same left front;
+        },
+        record { refused = λ refuses. absurd (not_both status reports refuses); reported = λ reports. none },
+      )
+  answered_run {answer = Err r} same is_seen input end front left counted a taken is line said write none some =
+      let there : IsInput (source_limit command) source seen = input_seen command limit source bytes seen same is_seen input in
       refused_run r a.leaves
-      (bytes_refuse g command source rest read_before read_after seen old new r there (λ reads_it. subst IsAtEnd (sym left) (end reads_it)) counted a.refused)
-      (bytes_accept g command source seen old r there a.accepted) a.asked a.looked a.unused (subst (TakesAtMost command source) (sym left) front) is line said
+      (bytes_refuse g command source rest read_before read_after seen old new r there (at_end command limit middle rest same left end) counted a.refused)
+      (bytes_accept g command source seen old r there a.accepted) a.asked a.looked a.unused (in_front command limit source middle rest same left front) is line said some

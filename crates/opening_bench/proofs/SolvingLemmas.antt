@@ -35,8 +35,10 @@ use Rattle.opening_report.proofs.ReportLemmas.{report-is_true, roots_stand_once}
 use Rattle.opening_bench.specs.Accepted.{Accepts, HasAmpleBudget, HasRoom, IsUnrefused}
 use Rattle.opening_bench.specs.declared.commands.generate.TheConstants.{GENERATE_DEPTH, GENERATE_PIECES}
 use Rattle.opening_bench.specs.declared.commands.solve.TheConstants.{GAMES_LIMIT}
-use Rattle.opening_bench.specs.Bench.{Does, Finishes, IsInput, Reports, TakesOutput, WritesOnly, HoldsOpenings}
-use Rattle.opening_bench.specs.Commands.{Answers}
+use Rattle.program_edges.specs.Answers.{TakesOutput}
+use Rattle.program_edges.specs.Sources.{IsInput}
+use Rattle.opening_bench.specs.Bench.{Does, Finishes, Reports, WritesOnly, HoldsOpenings}
+use Rattle.opening_bench.specs.Commands.{Answers, source_limit}
 use Rattle.opening_bench.specs.Solving.{OpeningsOf, IsReportOn, roots_of_openings}
 use Rattle.opening_bench.specs.Steps.{SaysTrue}
 use Rattle.opening_bench.proofs.RootLemmas.{opening_root}
@@ -155,7 +157,7 @@ of_source : (options : Options) (source : Option (List ℕ)) (input text : List 
 of_source options None input text same p = tt
 of_source options (Some told) input text same p = λ all reads. once_each options input text p all (subst (λ t. OpeningsOf options.plies t all) (sym same) reads)
 
-holds : (command : Command) (source : Option (List ℕ)) (input text : List ℕ) (settled : Bool) → IsInput command source input → Answers command input text settled → HoldsOpenings command source text
+holds : (command : Command) (source : Option (List ℕ)) (input text : List ℕ) (settled : Bool) → IsInput (source_limit command) source input → Answers command input text settled → HoldsOpenings command source text
 holds (Solve options) source input text settled is_input answers = λ other said.
     let same : options ≡ other = cc in
     subst (λ (o : Options). IfSome source (λ told. (openings : List Opening) → OpeningsOf o.plies told openings → (opening : Opening) → Contains openings opening → StandsOnce text opening.position))
@@ -168,6 +170,6 @@ holds TableCheck source input text settled is_input answers = λ options said. a
 holds (Generate seed count) source input text settled is_input answers = λ options said. absurd cc
 
 pub output_holds : (command : Command) (source : Option (List ℕ)) (input text : List ℕ) (settled : Bool) (before after : Option (List ℕ)) (status : Status) → Finishes status
-    → IsInput command source input → Answers command input text settled → TakesOutput status text settled before after
+    → IsInput (source_limit command) source input → Answers command input text settled → TakesOutput status text settled before after
     → WritesOnly before after (HoldsOpenings command source)
 output_holds command source input text settled before after status finished is_input answers taken = (text, (output_whole text settled before after status finished taken, holds command source input text settled is_input answers))

@@ -1,10 +1,7 @@
 -- What is written, of an output and of a refusal.
-use Rattle.std.proofs.Common.{◌≡◌, ℕ, ◌<◌, inl, inr, Bool, List, [], ◌++◌, Option, sym, subst, arith, length, take, drop, length-drop}
-use Rattle.std.specs.Prelude.{Result, Ok, Err, OnOk, OnErr}
+use Rattle.std.proofs.Common.{◌≡◌, ℕ, inl, inr, Bool, List, [], ◌++◌, Option, sym}
 use Rattle.std.specs.Io.KnownBytes.{Appends}
-use Rattle.std.proofs.lemmas.List.{append-nil, take-append-drop}
-use Rattle.bench_edges.specs.Faults.{CountsFaults}
-use Rattle.bench_edges.specs.KnownBytes.{AppendsFront}
+use Rattle.std.proofs.lemmas.List.{append-nil}
 use Rattle.bench_edges.specs.declared.status.Status.{Status}
 use Rattle.bench_edges.specs.declared.status.Status.TheVariants.{Done, Unsolved, Words, Input, Disk, Journal, Memory, Read, Write}
 use Rattle.opening_report.specs.Lines.{IsLine}
@@ -12,30 +9,17 @@ use Rattle.opening_report.specs.Refusals.{refusal_text}
 use Rattle.opening_report.specs.Report.{ValuesAreTrue, SaysNoRoot}
 use Rattle.opening_report.specs.declared.refusals.Refusal.{Refusal}
 use Rattle.opening_report.proofs.ReportLemmas.{no_root-is_true, refusal_says_no_root}
-use Rattle.opening_bench.specs.Bench.{Finishes, TakesFront, TakesLine, TakesOutput, WritesOnly}
+use Rattle.program_edges.specs.Answers.{TakesLine, TakesOutput}
+use Rattle.opening_bench.specs.Bench.{Finishes, WritesOnly}
 
 -- ---- the line of a refusal
 
--- a front of a text, where it is shorter
-pub front_taken : (text : List ℕ) (before after : Option (List ℕ)) → AppendsFront before after text → TakesFront before after text
-front_taken text before after h =
-    let count : ℕ = h.0 in
-    let short : count < length text = h.1 in
-    let left : 0 < length (drop count text) = (let e = length-drop count text in omega (arith, e, short)) in
-    (take count text, (drop count text, (sym (take-append-drop count text), (left, h.2))))
-
-pub line_taken : {T E : Type 0} (r : Refusal) (bytes : List ℕ) (result : Result T E) (before after : Option (List ℕ)) (faults_before faults_after : ℕ) → bytes ≡ refusal_text r
-    → OnOk result (Appends before after bytes) → OnErr result (AppendsFront before after bytes) → CountsFaults faults_before faults_after result
-    → TakesLine r before after faults_before faults_after
-line_taken r bytes (Ok x) before after fb fa is whole front counts = inl (subst (Appends before after) is whole)
-line_taken r bytes (Err e) before after fb fa is whole front counts = inr (counts.cause.fault, subst (TakesFront before after) is (front_taken bytes before after front))
-
 -- what is taken of a refusal's line says no root
-pub line_says_none : (r : Refusal) (before after : Option (List ℕ)) (faults_before faults_after : ℕ) → IsLine (refusal_text r) → TakesLine r before after faults_before faults_after → WritesOnly before after SaysNoRoot
+pub line_says_none : (r : Refusal) (before after : Option (List ℕ)) (faults_before faults_after : ℕ) → IsLine (refusal_text r) → TakesLine (refusal_text r) before after faults_before faults_after → WritesOnly before after SaysNoRoot
 line_says_none r before after fb fa line (inl taken) = (refusal_text r, (taken, refusal_says_no_root r (refusal_text r) [] line (sym (append-nil (refusal_text r)))))
 line_says_none r before after fb fa line (inr part) = (part.1.0, (part.1.1.1.1.1, refusal_says_no_root r part.1.0 part.1.1.0 line part.1.1.1.0))
 
-pub line_values : (r : Refusal) (before after : Option (List ℕ)) (faults_before faults_after : ℕ) → IsLine (refusal_text r) → TakesLine r before after faults_before faults_after → WritesOnly before after ValuesAreTrue
+pub line_values : (r : Refusal) (before after : Option (List ℕ)) (faults_before faults_after : ℕ) → IsLine (refusal_text r) → TakesLine (refusal_text r) before after faults_before faults_after → WritesOnly before after ValuesAreTrue
 line_values r before after fb fa line taken = (let none = line_says_none r before after fb fa line taken in (none.0, (none.1.0, no_root-is_true none.0 none.1.1)))
 
 -- ---- an output

@@ -1,5 +1,5 @@
 -- What is not refused as bad input or as no journal, and what is refused for what the disk reads as.
-use Rattle.std.specs.Prelude.{◌≡◌, ◌≢◌, ℕ, ◌≤◌, Bool, List, length, Option, IfSome}
+use Rattle.std.specs.Prelude.{◌≡◌, ◌≢◌, ℕ, ◌≤◌, List, length, Option, IfSome}
 use Rattle.bench_disk.specs.declared.disk.Disk.{Ghosts}
 use Rattle.draughts_board.specs.Board.{Board}
 use Rattle.bench_edges.specs.declared.status.Status.{Status}
@@ -22,7 +22,9 @@ use Rattle.strategy_certificate.specs.Certificates.{IsGood}
 use Rattle.strategy_certificate.specs.declared.certificates.Certificate.{Certificate}
 use Rattle.tree_manager.specs.Receipts.{ReadsRecords}
 use Rattle.tree_manager.specs.Sessions.{with_roots}
-use Rattle.opening_bench.specs.Bench.{TakesLine, status_of}
+use Rattle.opening_report.specs.Refusals.{refusal_text}
+use Rattle.program_edges.specs.Answers.{TakesLine}
+use Rattle.program_edges.specs.Statuses.{status_of}
 use Rattle.opening_bench.specs.Commands.{source_limit}
 use Rattle.opening_bench.specs.Solving.{OpeningsOf, roots_of_openings}
 use Rattle.opening_bench.specs.declared.commands.generate.TheConstants.{GENERATE_PIECES}
@@ -104,4 +106,4 @@ abbrev pub IsRefusedFor : Refusal → Option (List ℕ) → Option (List ℕ) �
 IsRefusedFor r before after faults_before faults_after Disk = Unit {0}
 IsRefusedFor r before after faults_before faults_after Memory = Unit {0}
 IsRefusedFor r before after faults_before faults_after status =
-    (status_of r ≡ status) × TakesLine r before after faults_before faults_after
+    (status_of r ≡ status) × TakesLine (refusal_text r) before after faults_before faults_after

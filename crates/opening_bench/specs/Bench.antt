@@ -1,9 +1,8 @@
 -- How a run ends, for which cause, and what it leaves.
-use Rattle.std.specs.Prelude.{◌≡◌, ℕ, ◌+◌, ◌<◌, ◌≤◌, ◌⊎◌, Bool, true, false, List, ◌++◌, length, Option, Some, IfSome, IsSome, Contains}
+use Rattle.std.specs.Prelude.{◌≡◌, ℕ, ◌+◌, ◌⊎◌, Bool, List, Option, IfSome, IsSome, Contains}
 use Rattle.std.specs.Io.KnownBytes.{Appends, IsAtEnd}
 use Rattle.bench_disk.specs.declared.disk.Disk.{Ghosts}
-use Rattle.shared_words.specs.Counts.{Rose}
-use Rattle.bench_edges.specs.KnownBytes.{ConsumesAtMost, ConsumesJust}
+use Rattle.bench_edges.specs.KnownBytes.{ConsumesAtMost}
 use Rattle.bench_edges.specs.Words.{Says, IsRefusedAt}
 use Rattle.bench_edges.specs.declared.status.Status.{Status}
 use Rattle.bench_edges.specs.declared.status.Status.TheVariants.{Done, Unsolved, Words, Input, Disk, Journal, Memory, Read, Write}
@@ -15,6 +14,9 @@ use Rattle.opening_report.specs.declared.refusals.Refusal.{Refusal}
 use Rattle.opening_report.specs.declared.refusals.Refusal.TheVariants as refusal
 use Rattle.opening_report.specs.Report.{StandsOnce}
 use Rattle.opening_report.specs.Refusals.{refusal_text}
+use Rattle.program_edges.specs.Answers.{TakesLine, TakesOutput}
+use Rattle.program_edges.specs.Sources.{IsCutShort, IsInput}
+use Rattle.program_edges.specs.Statuses.{status_of}
 use Rattle.opening_bench.specs.Commands.{source_limit, Answers, HasFault}
 use Rattle.opening_bench.specs.Disks.{ShowsDisk, HasDiskFault}
 use Rattle.opening_bench.specs.Solving.{OpeningsOf}
@@ -50,17 +52,6 @@ ComesToDisk Disk = Unit {0}
 ComesToDisk Journal = Unit {0}
 ComesToDisk status = Reports status
 
--- the status of a refused run
-abbrev pub status_of : Refusal → Status
-status_of (refusal.Words at) = Words
-status_of refusal.Disk = Disk
-status_of refusal.NotAJournal = Journal
-status_of (refusal.OtherTable found asked) = Journal
-status_of (refusal.Damaged at) = Journal
-status_of refusal.Memory = Memory
-status_of refusal.Read = Read
-status_of other = Input
-
 -- a refusal that comes before the disk is used: of the words, or of the source
 abbrev pub ComesBeforeDisk : Refusal → Type 0
 ComesBeforeDisk refusal.TooManyRoots = ⊥
@@ -75,26 +66,6 @@ ComesBeforeDisk other = Unit {0}
 
 -- ---- what a sink takes
 
--- The sink took a front of the text, and not all of it.
-abbrev pub TakesFront : Option (List ℕ) → Option (List ℕ) → List ℕ → Type 0
-TakesFront before after text =
-    (front : List ℕ) × ((back : List ℕ) × ((text ≡ front ++ back) × ((0 < length back)
-    × Appends before after front)))
-
--- With status 0 the text leaves nothing unsettled, with status 1 it does; either way the sink took
--- it whole. With status 8 it took a front of it.
-abbrev pub TakesOutput : Status → List ℕ → Bool → Option (List ℕ) → Option (List ℕ) → Type 0
-TakesOutput Done text settled before after = (settled ≡ true) × Appends before after text
-TakesOutput Unsolved text settled before after = (settled ≡ false) × Appends before after text
-TakesOutput Write text settled before after = TakesFront before after text
-TakesOutput status text settled before after = ⊥
-
--- The sink took exactly the refusal's line; or a front of it, where the sink's faults rose.
-abbrev pub TakesLine : Refusal → Option (List ℕ) → Option (List ℕ) → ℕ → ℕ → Type 0
-TakesLine r before after faults_before faults_after =
-    Appends before after (refusal_text r)
-    ⊎ (Rose faults_before faults_after × TakesFront before after (refusal_text r))
-
 -- what the sink took in this run: what it has besides what it had
 abbrev pub WritesOnly : Option (List ℕ) → Option (List ℕ) → (List ℕ → Type 0) → Type 0
 WritesOnly before after P = (written : List ℕ) × (Appends before after written × P written)
@@ -105,12 +76,6 @@ WritesOnly before after P = (written : List ℕ) × (Appends before after writte
 abbrev pub ReadsSource : Command → Type 0
 ReadsSource command = IsSome (source_limit command)
 
--- The bytes are those of the source that the command reads, where it tells them, and they are no
--- more than may be.
-pub record IsInput (command : Command) (source : Option (List ℕ)) (bytes : List ℕ) : Type 0 where
-  pub same : ReadsSource command → IfSome source (λ told. bytes ≡ told)
-  pub fits : IfSome (source_limit command) (λ limit. length bytes ≤ limit)
-
 -- Each position of the openings of the source of `solve` stands in exactly one `root` line.
 abbrev pub HoldsOpenings : Command → Option (List ℕ) → List ℕ → Type 0
 HoldsOpenings command source written =
@@ -120,31 +85,15 @@ HoldsOpenings command source written =
 
 -- ---- why a run is refused
 
--- The source has more bytes than may be: so many were read, and one more. No fault was counted.
-pub record IsTooLong (command : Command) (source rest : Option (List ℕ)) (before after : ℕ)
-    : Type 0 where
-  pub limit : ℕ
-  pub is_limit : source_limit command ≡ Some limit
-  pub long : IfSome source (λ told. limit < length told)
-  pub past : ConsumesJust (limit + 1) source rest
-  pub counted : after ≡ before
-
 -- A fault of the source stands, which is no longer than may be and was read to its end. No fault of
 -- reading was counted.
 pub record IsWrong (command : Command) (source rest : Option (List ℕ)) (before after : ℕ)
     (r : Refusal) : Type 0 where
   pub input : List ℕ
-  pub is_input : IsInput command source input
+  pub is_input : IsInput (source_limit command) source input
   pub fault : HasFault command input r
   pub end : IsAtEnd rest
   pub counted : after ≡ before
-
--- The run was cut short: memory ran out; or the source that is read failed, or is too long.
-abbrev pub IsCutShort : Command → Option (List ℕ) → Option (List ℕ) → ℕ → ℕ → Refusal → Type 0
-IsCutShort command source rest before after r =
-    (r ≡ refusal.Memory)
-    ⊎ (((r ≡ refusal.Read) × (ReadsSource command × Rose before after))
-    ⊎ ((r ≡ refusal.TooLong) × IsTooLong command source rest before after))
 
 -- Of its source the command took no more than may be, and one byte.
 abbrev pub TakesAtMost : Command → Option (List ℕ) → Option (List ℕ) → Type 0
@@ -159,7 +108,7 @@ pub record IsRefused {D : Type 0} (IsCause : Refusal → Type 0) (old new : D)
   pub refusal : Refusal
   pub cause : IsCause refusal
   pub status_is : status_of refusal ≡ status
-  pub line : TakesLine refusal before after written_before written_after
+  pub line : TakesLine (refusal_text refusal) before after written_before written_after
   pub unused : ComesBeforeDisk refusal → new ≡ old
 
 -- ---- of the disk at entry, and of the disk that is handed back
@@ -170,7 +119,7 @@ module _ {D : Type 0} (g : Ghosts D) where
   pub record Does (command : Command) (source before after : Option (List ℕ)) (old new : D)
       (status : Status) : Type 0 where
     pub input : List ℕ
-    pub is_input : IsInput command source input
+    pub is_input : IsInput (source_limit command) source input
     pub text : List ℕ
     pub settled : Bool
     pub answers : Answers command input text settled
@@ -183,7 +132,7 @@ module _ {D : Type 0} (g : Ghosts D) where
   pub record IsRefusedByDisk (command : Command) (source rest : Option (List ℕ))
       (before after : ℕ) (old new : D) (r : Refusal) : Type 0 where
     pub input : List ℕ
-    pub is_input : IsInput command source input
+    pub is_input : IsInput (source_limit command) source input
     pub fault : HasDiskFault g command input old new r
     pub end : ReadsSource command → IsAtEnd rest
     pub counted : after ≡ before
@@ -192,7 +141,7 @@ module _ {D : Type 0} (g : Ghosts D) where
   abbrev pub IsCommandRefusal : Command → Option (List ℕ) → Option (List ℕ) → ℕ → ℕ → D → D
       → Refusal → Type 0
   IsCommandRefusal command source rest before after old new r =
-      IsCutShort command source rest before after r
+      IsCutShort (source_limit command) source rest before after r
       ⊎ (IsWrong command source rest before after r
       ⊎ IsRefusedByDisk command source rest before after old new r)
 

@@ -8,12 +8,13 @@ use Rattle.bench_edges.specs.declared.words.Command.{Command}
 use Rattle.journal_looks.specs.declared.refusals.LookRefusal.{LookRefusal}
 use Rattle.pdn_openings.specs.declared.opening.Opening.{Opening}
 use Rattle.opening_report.specs.Lines.{IsLine}
+use Rattle.program_edges.specs.Statuses.{status_of}
 use Rattle.opening_report.specs.Refusals.{refusal_text}
 use Rattle.opening_report.specs.Report.{ValuesAreTrue}
 use Rattle.opening_report.specs.declared.refusals.Refusal.{Refusal}
 use Rattle.opening_report.specs.declared.refusals.Refusal.TheVariants as refusal
 use Rattle.opening_bench.specs.Accepted.{IsGoodFor, HasAsked, HasLookCause, HasRoomFor, IsUnrefused}
-use Rattle.opening_bench.specs.Bench.{ComesBeforeDisk, status_of}
+use Rattle.opening_bench.specs.Bench.{ComesBeforeDisk}
 use Rattle.opening_bench.specs.Commands.{Answers, HasFault}
 use Rattle.opening_bench.specs.Disks.{LeavesDisk, ShowsDisk, HasDiskFault, of_look}
 use Rattle.opening_bench.specs.Solving.{OpeningsOf, roots_of_openings}

@@ -1,9 +1,9 @@
 //! The top call: from the words and the source's bytes to the sink's bytes, a status, and the disk.
-ghost use Rattle.std.specs.Prelude.{◌≡◌, true, false, ◌≢◌, ◌↔◌, ◌≤◌, ℕ, List, [], None, IfSome, length};
+ghost use Rattle.std.specs.Prelude.{◌≡◌, ◌≢◌, ◌↔◌, ◌≤◌, ℕ, List, [], None, IfSome, length};
 ghost use Rattle.std.specs.Io.KnownBytes.{IsAtEnd};
 ghost use Rattle.shared_words.specs.Counts.{Rose};
 ghost use Rattle.bench_disk.specs.Disk.{IsHonest};
-ghost use Rattle.bench_edges.specs.Words.{IsWithinLimits, Says, texts};
+ghost use Rattle.bench_edges.specs.Words.{Says, texts};
 ghost use Rattle.bench_edges.specs.declared.words.Command.{Command};
 ghost use Rattle.bench_edges.specs.declared.words.Options.{Options};
 ghost use Rattle.bench_records.specs.declared.records.BenchRecord.{BenchRecord};
@@ -19,92 +19,21 @@ ghost use Rattle.strategy_certificate.specs.declared.certificates.Certificate.{C
 ghost use Rattle.tree_manager.specs.Receipts.{ReadsRecords};
 ghost use Rattle.opening_report.specs.Report.{ValuesAreTrue};
 ghost use Rattle.opening_bench.specs.Accepted.{HasAmpleBudget, HasLookCause, HasRoom, IsRefusedFor, IsUnrefused};
-ghost use Rattle.opening_bench.specs.Bench.{ComesToDisk, Does, Finishes, HoldsOpenings, IsRefusalByWords, IsRefused, ReadsSource, Refuses, Reports, TakesAtMost, TakesLine, WritesOnly, status_of};
-ghost use Rattle.opening_bench.specs.Commands.{Searches, source_limit};
+ghost use Rattle.opening_bench.specs.Bench.{ComesToDisk, Does, Finishes, HoldsOpenings, IsRefusalByWords, IsRefused, ReadsSource, Refuses, Reports, TakesAtMost, WritesOnly};
+ghost use Rattle.opening_bench.specs.Commands.{source_limit};
 ghost use Rattle.opening_bench.specs.Disks.{LeavesDisk, of_look};
-ghost use Rattle.opening_bench.specs.Runs.{RunsCommand};
 ghost use Rattle.opening_bench.specs.Solving.{OpeningsOf, roots_of_openings};
-ghost use Rattle.opening_bench.specs.Steps.{IsLineOf};
 
 use crate::commands::generate::{GENERATE_DEPTH, GENERATE_PIECES};
 use crate::commands::solve::GAMES_LIMIT;
 use crate::commands::verify::CERTIFICATE_LIMIT;
-use crate::quiet::bench_quiet;
-use crate::searching::run_search;
+use crate::running::run;
 use bench_disk::Disk;
-use bench_edges::{Command, Sink, Source, Status, read_words, write_all};
-use opening_report::{Refusal, refusal_line};
+use bench_edges::{Command, Sink, Source, Status};
 use std::alloc::Global;
 use std::sync::Wait;
 use std::thread::Threads;
 use worker_gate::Gate;
-
-/// The status of a refused run.
-fn status_of(refusal: &Refusal) -> Status
-    ensures { result ≡ status_of refusal.now }
-{
-    match refusal {
-        Refusal::Words(_) => Status::Words,
-        Refusal::Disk => Status::Disk,
-        Refusal::NotAJournal | Refusal::OtherTable { .. } | Refusal::Damaged(_) => Status::Journal,
-        Refusal::Memory => Status::Memory,
-        Refusal::Read => Status::Read,
-        _ => Status::Input,
-    }
-}
-
-/// Writes the line of the refusal, and answers its status. Where the sink fails at the line, the
-/// status stays.
-pub(crate) fn refuse<K: Sink>(refusal: Refusal, sink: &mut K) -> Status
-    ensures status { result ≡ status_of refusal }
-    ensures line { TakesLine refusal (K.taken sink.old) (K.taken sink.new)
-        (K.faults sink.old) (K.faults sink.new) }
-    ensures said { IsLineOf refusal }
-{
-    let line = refusal_line(&refusal);
-    let _ = write_all(sink, line.as_bytes());
-    status_of(&refusal)
-}
-
-/// Whether workers search for the command's values.
-fn searches(command: Command) -> bool
-    ensures yes { result ≡ true → Searches command }
-    ensures no { result ≡ false → Searches command → ⊥ }
-{
-    match command {
-        Command::Solve(_) | Command::Generate { .. } => true,
-        Command::Report
-        | Command::Certify(_)
-        | Command::Verify
-        | Command::MakeTable(_)
-        | Command::TableCheck => false,
-    }
-}
-
-/// Does a command, and hands the disk back.
-fn run_command<R: Threads + Wait + Sync, S: Source, K: Sink, D: Disk + Send, G: Gate + Sync>(
-    rt: &R,
-    alloc: Global,
-    command: Command,
-    source: &mut S,
-    sink: &mut K,
-    disk: D,
-    gate: &G,
-) -> (Status, D)
-    requires { IsWithinLimits command }
-    ensures runs { RunsCommand D.Disk
-        command (S.left source.old) (S.left source.new)
-        (S.faults source.old) (S.faults source.new)
-        (K.taken sink.old) (K.taken sink.new) (K.faults sink.old) (K.faults sink.new)
-        disk result.1 result.0 }
-    ensures unread { source_limit command ≡ None → source.new ≡ source.old }
-{
-    if searches(command) {
-        run_search(rt, alloc, command, source, sink, disk, gate)
-    } else {
-        bench_quiet(alloc, command, source, sink, disk)
-    }
-}
 
 /// Does what the words say, on the journal of the disk, and hands the disk back. A refused run
 /// writes one line that says why.
@@ -227,8 +156,6 @@ pub fn bench<R: Threads + Wait + Sync, S: Source, K: Sink, D: Disk + Send, G: Ga
         → source_limit command ≡ None → source.new ≡ source.old }
     ensures unread_by_words { result.0 ≡ Status.Words → source.new ≡ source.old }
 {
-    match read_words(words) {
-        Ok(command) => run_command(rt, alloc, command, source, sink, disk, gate),
-        Err(refused) => (refuse(Refusal::from(refused), sink), disk),
-    }
+    let (ended, disk) = run(rt, alloc, words, source, sink, disk, gate);
+    (ended.status, disk)
 }

@@ -1,18 +1,19 @@
 //! The commands that search: workers share the session on the journal.
-ghost use Rattle.std.specs.Prelude.{◌≡◌, None};
+ghost use Rattle.std.specs.Prelude.{◌≡◌, None, Some};
 ghost use Rattle.bench_edges.specs.Words.{IsWithinLimits};
+ghost use Rattle.opening_bench.specs.Bench.{IsCommandRefusal};
 ghost use Rattle.opening_bench.specs.Commands.{Searches, source_limit};
-ghost use Rattle.opening_bench.specs.Runs.{RunsCommand};
+ghost use Rattle.opening_bench.specs.Runs.{HandsOut, RunsCommand};
 ghost use Rattle.opening_bench.specs.Steps.{IsAnswer};
 
-use crate::bench::refuse;
+use crate::by_command::source_limit;
 use crate::commands::generate::generate;
 use crate::commands::solve::solve;
-use crate::output::write_answer;
-use crate::reading::{hand_back, read_source};
+use crate::ended::Ended;
 use bench_disk::Disk;
-use bench_edges::{Command, Sink, Source, Status};
+use bench_edges::{Command, Sink, Source};
 use opening_report::{Refusal, Written};
+use program_edges::{hand_back, read_source, refuse, write_answer};
 use std::alloc::Global;
 use std::sync::Wait;
 use std::thread::Threads;
@@ -35,15 +36,11 @@ fn search_bytes<R: Threads + Wait + Sync, D: Disk + Send, G: Gate + Sync>(
     match command {
         Command::Solve(options) => solve(rt, alloc, &options, bytes, disk, gate),
         Command::Generate { seed, count } => generate(rt, alloc, seed, count, disk, gate),
-        Command::Report
-        | Command::Certify(_)
-        | Command::Verify
-        | Command::MakeTable(_)
-        | Command::TableCheck => unreachable!(),
+        _ => unreachable!(),
     }
 }
 
-/// Does a command that searches, and hands the disk back.
+/// Does a command that searches, and hands out how the run ended, and the disk.
 pub(crate) fn run_search<
     R: Threads + Wait + Sync,
     S: Source,
@@ -58,22 +55,42 @@ pub(crate) fn run_search<
     sink: &mut K,
     disk: D,
     gate: &G,
-) -> (Status, D)
+) -> (Ended, D)
     requires searches { Searches command }
     requires limits { IsWithinLimits command }
     ensures runs { RunsCommand D.Disk
         command (S.left source.old) (S.left source.new)
         (S.faults source.old) (S.faults source.new)
         (K.taken sink.old) (K.taken sink.new) (K.faults sink.old) (K.faults sink.new)
-        disk result.1 result.0 }
+        disk result.1 result.0.status }
+    ensures ended { HandsOut (IsCommandRefusal D.Disk
+        command (S.left source.old) (S.left source.new)
+        (S.faults source.old) (S.faults source.new) disk result.1)
+        disk result.1 (K.taken sink.old) (K.taken sink.new)
+        (K.faults sink.old) (K.faults sink.new) result.0.status result.0.refusal }
+    ensures command { result.0.command ≡ Some command }
     ensures unread { source_limit command ≡ None → source.new ≡ source.old }
 {
-    match read_source(alloc, command, source) {
+    let limit = source_limit(command);
+    match read_source(alloc, limit, source) {
         Ok(bytes) => {
             let (disk, answer) = search_bytes(rt, alloc, command, &bytes, disk, gate);
-            hand_back(command, bytes, source);
-            (write_answer(answer, sink), disk)
+            hand_back(limit, bytes, source);
+            let (status, refusal) = write_answer(answer, sink);
+            let ended = Ended {
+                status,
+                command: Some(command),
+                refusal,
+            };
+            (ended, disk)
         }
-        Err(refusal) => (refuse(refusal, sink), disk),
+        Err(refusal) => {
+            let ended = Ended {
+                status: refuse(&refusal, sink),
+                command: Some(command),
+                refusal: Some(refusal),
+            };
+            (ended, disk)
+        }
     }
 }

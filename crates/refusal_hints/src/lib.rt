@@ -17,12 +17,10 @@ mod fens;
 mod games;
 mod hints;
 mod journals;
-mod lines;
 mod move_lists;
 mod pdn;
 mod tables;
 mod words;
 
 pub use hints::hint;
-pub use lines::refusal_of_line;
 pub use move_lists::legal_moves_text;

@@ -1,8 +1,8 @@
 //! Texts on refusals, written by hand.
-use draughts_board::{Position, Side, Square};
+use draughts_board::{Position, Square};
 use fen_text::FenRefusal;
 use opening_report::Refusal;
-use refusal_hints::{hint, legal_moves_text, refusal_of_line};
+use refusal_hints::{hint, legal_moves_text};
 use std::alloc::{AllocError, Global};
 use std::process::Abort;
 use std::test::Fail;
@@ -296,7 +296,7 @@ fn certificates_and_tables(rt: HostRuntime) -> Result<(), Fail> {
     Ok(())
 }
 
-const JOURNALS: [Case; 2] = [
+const JOURNALS: [Case; 3] = [
     (
         Refusal::OtherTable { found: 3, asked: 2 },
         b"",
@@ -307,204 +307,14 @@ const JOURNALS: [Case; 2] = [
         b"",
         "Root 5 has no value yet. Go on with `solve`, with a larger `--budget` or `--depth`.\n",
     ),
+    (
+        Refusal::Memory,
+        b"",
+        "Memory ran out. What was written to the journal before is kept.\n",
+    ),
 ];
 
 #[test]
 fn journals_and_limits(rt: HostRuntime) -> Result<(), Fail> {
-    expect(&rt, rt.alloc(), &JOURNALS)?;
-    let refusal = said(b"refused memory\n").ok_or("a refusal")?;
-    let want = "Memory ran out. What was written to the journal before is kept.\n";
-    assert!(rt; is_told(rt.alloc(), &refusal, b"", want)?);
-    Ok(())
-}
-
-/// Lines, and the refusals that they say.
-const LINES: [(&str, Option<Refusal>); 44] = [
-    ("refused words at 3\n", Some(Refusal::Words(3))),
-    ("refused input too-long\n", Some(Refusal::TooLong)),
-    (
-        "refused input pdn bad-byte 70\n",
-        Some(Refusal::PdnBadByte(70)),
-    ),
-    (
-        "refused input pdn open-tag 0\n",
-        Some(Refusal::PdnOpenTag(0)),
-    ),
-    (
-        "refused input pdn open-comment 9\n",
-        Some(Refusal::PdnOpenComment(9)),
-    ),
-    (
-        "refused input pdn open-variation 9\n",
-        Some(Refusal::PdnOpenVariation(9)),
-    ),
-    (
-        "refused input pdn bad-move 12\n",
-        Some(Refusal::PdnBadMove(12)),
-    ),
-    (
-        "refused input pdn too-many-games\n",
-        Some(Refusal::PdnTooManyGames),
-    ),
-    (
-        "refused input game 2 other-game\n",
-        Some(Refusal::OtherGame(2)),
-    ),
-    (
-        "refused input game 2 fen bad-letter 4\n",
-        Some(Refusal::Fen(2, FenRefusal::BadLetter(4))),
-    ),
-    (
-        "refused input game 2 fen bad-square 4\n",
-        Some(Refusal::Fen(2, FenRefusal::BadSquare(4))),
-    ),
-    (
-        "refused input game 2 fen too-many black\n",
-        Some(Refusal::Fen(2, FenRefusal::TooMany(Side::Black))),
-    ),
-    (
-        "refused input game 2 fen too-many white\n",
-        Some(Refusal::Fen(2, FenRefusal::TooMany(Side::White))),
-    ),
-    (
-        "refused input game 2 fen truncated\n",
-        Some(Refusal::Fen(2, FenRefusal::Truncated)),
-    ),
-    (
-        "refused input game 1 ply 3 byte 18 illegal\n",
-        Some(Refusal::Illegal {
-            game: 1,
-            ply: 3,
-            at: 18,
-        }),
-    ),
-    (
-        "refused input game 1 ply 3 byte 18 ambiguous\n",
-        Some(Refusal::Ambiguous {
-            game: 1,
-            ply: 3,
-            at: 18,
-        }),
-    ),
-    (
-        "refused input certificate bad-line 2\n",
-        Some(Refusal::TextBadLine(2)),
-    ),
-    (
-        "refused input certificate bad-fen 2\n",
-        Some(Refusal::TextBadFen(2)),
-    ),
-    (
-        "refused input certificate doubled 2\n",
-        Some(Refusal::TextDoubled(2)),
-    ),
-    (
-        "refused input certificate after-end 2\n",
-        Some(Refusal::TextAfterEnd(2)),
-    ),
-    (
-        "refused input certificate truncated\n",
-        Some(Refusal::TextTruncated),
-    ),
-    (
-        "refused input check claim-not-met\n",
-        Some(Refusal::ClaimNotMet),
-    ),
-    (
-        "refused input check part 1 entry 2 bad-rank\n",
-        Some(Refusal::BadRank { part: 1, entry: 2 }),
-    ),
-    (
-        "refused input check part 1 entry 2 bad-move\n",
-        Some(Refusal::BadMove { part: 1, entry: 2 }),
-    ),
-    (
-        "refused input check part 1 entry 2 missing\n",
-        Some(Refusal::Missing { part: 1, entry: 2 }),
-    ),
-    (
-        "refused input check part 1 entry 2 stuck-holder\n",
-        Some(Refusal::StuckHolder { part: 1, entry: 2 }),
-    ),
-    (
-        "refused input check part 1 no-root\n",
-        Some(Refusal::CheckNoRoot(1)),
-    ),
-    (
-        "refused input table bad-head\n",
-        Some(Refusal::TableBadHead),
-    ),
-    (
-        "refused input table wrong-length found 8 due 64528\n",
-        Some(Refusal::TableWrongLength {
-            found: 8,
-            due: 64528,
-        }),
-    ),
-    (
-        "refused input table bad-entry 7 kept 9\n",
-        Some(Refusal::TableBadEntry { index: 7, kept: 9 }),
-    ),
-    (
-        "refused input too-many-roots\n",
-        Some(Refusal::TooManyRoots),
-    ),
-    ("refused input no-root 9\n", Some(Refusal::NoRoot(9))),
-    (
-        "refused input unsettled-root 1\n",
-        Some(Refusal::UnsettledRoot(1)),
-    ),
-    ("refused disk\n", Some(Refusal::Disk)),
-    (
-        "refused journal not-a-journal\n",
-        Some(Refusal::NotAJournal),
-    ),
-    (
-        "refused journal other-table found 3 asked 2\n",
-        Some(Refusal::OtherTable { found: 3, asked: 2 }),
-    ),
-    (
-        "refused journal damaged byte 40\n",
-        Some(Refusal::Damaged(40)),
-    ),
-    ("refused memory\n", Some(Refusal::Memory)),
-    ("refused read\n", Some(Refusal::Read)),
-    ("", None),
-    ("root 1 B:W:B1 white-wins\n", None),
-    ("refused disk", None),
-    ("refused words at 03\n", None),
-    ("refused disk\nrefused disk\n", None),
-];
-
-/// The refusal that a line says, if it says one.
-fn said(line: &[u8]) -> Option<Refusal> {
-    refusal_of_line(line)
-}
-
-/// The first line that says another refusal than its row, or none.
-fn first_other_line() -> Option<&'static str> {
-    for (line, want) in &LINES {
-        if said(line.as_bytes()) != *want {
-            return Some(*line);
-        }
-    }
-    None
-}
-
-/// What is said of square 5: that it is named twice, and that a man stands on its farthest row.
-fn said_of_a_square() -> [Option<Refusal>; 2] {
-    [
-        said(b"refused input game 2 fen twice 5\n"),
-        said(b"refused input game 2 fen man-on-last-row 5\n"),
-    ]
-}
-
-#[test]
-fn lines_say_refusals(rt: HostRuntime) -> Result<(), Fail> {
-    assert_eq!(rt; first_other_line(), None);
-    let square = Square::new(5).ok_or("no square")?;
-    let twice = Refusal::Fen(2, FenRefusal::Twice(square));
-    let last = Refusal::Fen(2, FenRefusal::ManOnLastRow(square));
-    assert!(rt; said_of_a_square() == [Some(twice), Some(last)]);
-    Ok(())
+    expect(&rt, rt.alloc(), &JOURNALS)
 }

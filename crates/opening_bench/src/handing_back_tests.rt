@@ -1,8 +1,8 @@
 //! What a run hands back to its source.
 use crate::bench::bench;
-use crate::keeping::KeepingSource;
 use bench_disk::MemoryDisk;
 use bench_edges::{MemorySink, MemorySource};
+use program_edges::KeepingSource;
 use std::alloc::Global;
 use std::sync::Wait;
 use std::test::Fail;

@@ -1,8 +1,0 @@
-use Rattle.std.proofs.Common.{◌∙◌}
-use Rattle.opening_bench.proofs.WritingLemmas.{line_taken}
-use Rattle.opening_bench.proofs.bench.refuse.Goals as goal
-
-pub returns-clause-line : goal.returns-clause-line
-returns-clause-line g c =
-    line_taken c.args.refusal c.as_bytes.result.now c.write_all.result (g.K.Sink.taken c.args.sink.now) (g.K.Sink.taken c.write_all.new.sink) (g.K.Sink.faults c.args.sink.now) (g.K.Sink.faults c.write_all.new.sink)
-    (c.as_bytes.ensures.value ∙ c.deref.ensures.0 ∙ c.refusal_line-line.ensures.text) c.write_all.ensures.whole c.write_all.ensures.front c.write_all.ensures.faults
