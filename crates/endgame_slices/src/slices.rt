@@ -6,6 +6,7 @@ use draughts_board::{Position, Side};
 use indexmap::IndexMap;
 use std::alloc::{AllocError, Global};
 use strategy_certificate::{Answer, Oracle};
+use win_lines::KnownWins;
 
 /// Where the kings of a position of a slice stand, and whose turn it is.
 #[derive(Clone, Copy)]
@@ -190,5 +191,16 @@ impl Slices {
     pub fn is_win<O: Oracle>(&self, side: Side, p: &Position, oracle: &O) -> bool {
         let value = self.value(p, oracle);
         value != OPEN && is_won(value) == (p.to_move() == side)
+    }
+}
+
+impl KnownWins for Slices {
+    fn plies<O: Oracle>(&self, side: Side, p: &Position, oracle: &O) -> Option<u32> {
+        let mine = p.to_move() == side;
+        match self.answer(p, oracle) {
+            Answer::Win(plies) if mine => Some(plies),
+            Answer::Loss(plies) if !mine => Some(plies),
+            _ => None,
+        }
     }
 }

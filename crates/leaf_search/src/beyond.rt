@@ -1,4 +1,4 @@
-//! What settles a position beyond the depth of a search: all positions below it, where they are few enough.
+//! What settles a position beyond the depth of a search: proof numbers, and all positions below it where they are few enough.
 ghost use Rattle.std.specs.Prelude.{◌≡◌, IfOk, IfSome};
 ghost use Rattle.certificate_checker.specs.Answers.{IsAnswer};
 ghost use Rattle.strategy_certificate.specs.Claims.{HasShortRanks};
@@ -9,9 +9,10 @@ use crate::checked::accept;
 use crate::fortress::prove_knowing;
 use certificate_checker::ProofList;
 use draughts_board::{Position, Side};
-use endgame_slices::{Slices, solve_below, win_part};
+use endgame_slices::{Slices, solve_below};
 use std::alloc::{AllocError, Global};
 use strategy_certificate::{Answer, Claim, Oracle, Part, WinPart};
+use win_lines::{find_win_part, win_part};
 
 /// The answer that the side wins by this strategy, where it has at most `most` entries.
 fn prove_won<O: Oracle>(
@@ -62,8 +63,31 @@ fn prove_drawn<O: Oracle>(
     Ok(Some(ProofList::from_vec(proofs)))
 }
 
+/// The answer that a side wins, the one to move or the other, where proof numbers find it.
+fn settle_by_numbers<O: Oracle>(
+    alloc: Global,
+    p: &Position,
+    goal: Side,
+    depth: u8,
+    allowed: &Allowance,
+    oracle: &O,
+) -> Result<Option<ProofList>, AllocError>
+    ensures { IfOk result (λ found. IfSome found
+        (IsAnswer (O.piece_limit oracle.now) goal depth p.now)) }
+{
+    let mover = p.to_move();
+    let most = allowed.entries;
+    for winner in [mover, mover.other()] {
+        let found = find_win_part(alloc, p, winner, allowed.move_lists, most, oracle)?;
+        if let Some(part) = found {
+            return prove_won(alloc, p, goal, depth, part, most, oracle);
+        }
+    }
+    Ok(None)
+}
+
 /// The answer that all positions below this one give, where the allowance is enough.
-fn settle<O: Oracle>(
+fn settle_by_slices<O: Oracle>(
     alloc: Global,
     p: &Position,
     goal: Side,
@@ -90,7 +114,7 @@ fn settle<O: Oracle>(
 }
 
 /// An answer that was found beyond the depth, as far as its allowance reaches. None where none is found, or there is too
-/// little memory, which tells nothing of the position.
+/// little memory for any way of finding one, which tells nothing of the position.
 pub(crate) fn settle_beyond<O: Oracle>(
     alloc: Global,
     p: &Position,
@@ -101,11 +125,14 @@ pub(crate) fn settle_beyond<O: Oracle>(
     ensures { IfSome result (IsAnswer (O.piece_limit oracle.now) goal depth p.now) }
 {
     let allowed = allowed_for(p, depth, oracle.pieces());
-    if allowed.slice_positions == 0 {
+    if allowed.move_lists == 0 {
         return None;
     }
-    let Ok(found) = settle(alloc, p, goal, depth, &allowed, oracle) else {
-        return None;
-    };
-    found
+    if let Ok(Some(found)) = settle_by_numbers(alloc, p, goal, depth, &allowed, oracle) {
+        return Some(found);
+    }
+    if let Ok(Some(found)) = settle_by_slices(alloc, p, goal, depth, &allowed, oracle) {
+        return Some(found);
+    }
+    None
 }

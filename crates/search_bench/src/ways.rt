@@ -1,4 +1,5 @@
 //! How fast each way of searching beyond the depth is.
+use crate::counted::Counted;
 use crate::endgames::SETS;
 use anyhow::Result;
 use draughts_board::{Position, Side};
@@ -6,10 +7,18 @@ use endgame_slices::solve_below;
 use endgame_table::Table;
 use leaf_search::prove_fortress;
 use std::alloc::Global;
-use std::time::CpuClock;
+use std::time::{CpuClock, Duration};
+use strategy_certificate::Oracle;
+use win_lines::find_win_part;
 
 /// No more positions are worked out below an endgame.
 const MOST_SLICE_POSITIONS: u64 = 3_000_000;
+
+/// So many lists of moves are made for each win by proof numbers.
+const MOST_MOVE_LISTS: usize = 100_000;
+
+/// No strategy that is found by proof numbers has more entries.
+const MOST_ENTRIES: usize = 100_000;
 
 /// So many positions are looked through for each closed set.
 const MOST_SET_POSITIONS: usize = 8_000;
@@ -28,34 +37,87 @@ fn worked_out(alloc: Global, set: &[Position], table: &Table) -> Result<u64> {
     Ok(positions)
 }
 
-/// How many of these endgames Black holds by a closed set.
-fn held(alloc: Global, set: &[Position], table: &Table) -> Result<u32> {
+/// How many of these endgames some side wins, by proof numbers.
+fn won<O: Oracle>(alloc: Global, set: &[Position], oracle: &O) -> Result<u32> {
     let mut count = 0_u32;
     for p in set.iter().take(TIMED) {
-        if prove_fortress(alloc, p, Side::Black, MOST_SET_POSITIONS, table)?.is_some() {
+        for side in [Side::Black, Side::White] {
+            if find_win_part(alloc, p, side, MOST_MOVE_LISTS, MOST_ENTRIES, oracle)?.is_some() {
+                count = count.saturating_add(1);
+            }
+        }
+    }
+    Ok(count)
+}
+
+/// How many of these endgames Black holds by a closed set.
+fn held<O: Oracle>(alloc: Global, set: &[Position], oracle: &O) -> Result<u32> {
+    let mut count = 0_u32;
+    for p in set.iter().take(TIMED) {
+        if prove_fortress(alloc, p, Side::Black, MOST_SET_POSITIONS, oracle)?.is_some() {
             count = count.saturating_add(1);
         }
     }
     Ok(count)
 }
 
-/// Prints how many positions a second are worked out slice by slice, and how long closed sets are looked for.
+/// So many of something a second, in this time.
+fn rate(count: u64, spent: Duration) -> u128 {
+    u128::from(count).saturating_mul(1_000_000_000) / spent.as_nanos().max(1)
+}
+
+/// Prints how many positions a second are worked out slice by slice.
+fn time_slices(
+    rt: &(impl Print + CpuClock + Alloc<A = Global>),
+    set: &[Position],
+    table: &Table,
+) -> Result<()> {
+    let start = rt.thread_cpu_time()?;
+    let positions = worked_out(rt.alloc(), set, table)?;
+    let rate = rate(positions, rt.thread_cpu_time()?.saturating_sub(start));
+    println!(rt; "slices: {positions} positions, {rate} positions/s")?;
+    Ok(())
+}
+
+/// Prints how many nodes a second are looked at where wins are looked for by proof numbers.
+fn time_numbers(
+    rt: &(impl Print + CpuClock + Alloc<A = Global>),
+    set: &[Position],
+    table: &Table,
+) -> Result<()> {
+    let counted = Counted::new(table);
+    let start = rt.thread_cpu_time()?;
+    let won = won(rt.alloc(), set, &counted)?;
+    let spent = rt.thread_cpu_time()?.saturating_sub(start);
+    let nodes = counted.asked();
+    let rate = rate(nodes, spent);
+    println!(rt; "proof numbers: {won} of {TIMED} won, {nodes} nodes, {rate} nodes/s")?;
+    Ok(())
+}
+
+/// Prints how many nodes a second are looked at where closed sets are grown.
+fn time_sets(
+    rt: &(impl Print + CpuClock + Alloc<A = Global>),
+    set: &[Position],
+    table: &Table,
+) -> Result<()> {
+    let counted = Counted::new(table);
+    let start = rt.thread_cpu_time()?;
+    let held = held(rt.alloc(), set, &counted)?;
+    let spent = rt.thread_cpu_time()?.saturating_sub(start);
+    let nodes = counted.asked();
+    let rate = rate(nodes, spent);
+    println!(rt; "closed sets: {held} of {TIMED} held, {nodes} nodes, {rate} nodes/s")?;
+    Ok(())
+}
+
+/// Prints how fast each way is, with the first endgames of the first set.
 pub(crate) fn time_ways(
     rt: &(impl Print + CpuClock + Alloc<A = Global>),
     table: &Table,
 ) -> Result<()> {
     let set = SETS[0].draw(rt.alloc())?;
-    let start = rt.thread_cpu_time()?;
-    let positions = worked_out(rt.alloc(), set.as_slice(), table)?;
-    let middle = rt.thread_cpu_time()?;
-    let held = held(rt.alloc(), set.as_slice(), table)?;
-    let end = rt.thread_cpu_time()?;
-    let nanoseconds = middle.saturating_sub(start).as_nanos().max(1);
-    let rate = u128::from(positions).saturating_mul(1_000_000_000) / nanoseconds;
-    println!(rt; "slices: {positions} positions, {rate} positions/s")?;
-    let spent = end.saturating_sub(middle).as_millis();
-    println!(rt;
-        "closed sets of at most {MOST_SET_POSITIONS} positions: {held} of {TIMED} held, {spent} ms"
-    )?;
-    Ok(())
+    time_slices(rt, set.as_slice(), table)?;
+    time_numbers(rt, set.as_slice(), table)?;
+    time_sets(rt, set.as_slice(), table)
 }

@@ -1,14 +1,14 @@
-//! Strategies by which a side wins, made of slices.
+//! Strategies by which a side wins, made of wins that are known.
 ghost use Rattle.std.specs.Prelude.{◌≡◌, ◌≤◌, IfOk, IfSome};
 ghost use Rattle.strategy_certificate.specs.Claims.{HasShortRanks};
 ghost use Rattle.strategy_certificate.specs.declared.entries.TheConstants.{MOST_FOUND_RANK};
 ghost use Rattle.strategy_certificate.specs.declared.certificates.Part.TheVariants as parts;
 
-use crate::slices::Slices;
+use crate::known::KnownWins;
 use draughts_board::{Move, Position, Side};
 use indexmap::IndexSet;
 use std::alloc::{AllocError, Global};
-use strategy_certificate::{Answer, Oracle, WinEntry, WinPart};
+use strategy_certificate::{Oracle, WinEntry, WinPart};
 use swift_moves::{move_to, successors};
 
 /// The entry of a position so many plies before the end, with this move.
@@ -24,8 +24,9 @@ fn entry_of(plies: u32, chosen: Option<Move>) -> WinEntry
 
 /// What a strategy that is being made needs: positions that the table does not answer for.
 #[derive(Drop)]
-struct Needs<'s, 'o, O> {
-    slices: &'s Slices,
+struct Needs<'w, 'o, W, O> {
+    side: Side,
+    wins: &'w W,
     oracle: &'o O,
     /// All of them so far.
     known: IndexSet<Position>,
@@ -33,7 +34,12 @@ struct Needs<'s, 'o, O> {
     waiting: Vec<Position>,
 }
 
-impl<O: Oracle> Needs<'_, '_, O> {
+impl<W: KnownWins, O: Oracle> Needs<'_, '_, W, O> {
+    /// In how many plies the side is known to win the position.
+    fn plies(&self, p: &Position) -> Option<u32> {
+        self.wins.plies(self.side, p, self.oracle)
+    }
+
     /// The position needs no further entry: it is among those needed, or the table answers for it.
     fn is_there(&self, p: &Position) -> bool {
         self.oracle.answer(p).is_some() || self.known.contains(p)
@@ -60,19 +66,18 @@ impl<O: Oracle> Needs<'_, '_, O> {
         Ok(fresh)
     }
 
-    /// Where the side to move goes, which wins in so many plies: of the positions lost one ply sooner the first that is
-    /// there, or else the first with the fewest fresh replies.
+    /// Where the side goes, which is to move and wins in so many plies: of the positions that it wins sooner the first that
+    /// is there, or else the first with the fewest fresh replies.
     fn choose(
         &self,
         alloc: Global,
         p: &Position,
         plies: u32,
     ) -> Result<Option<Position>, AllocError> {
-        let sooner = Answer::Loss(plies.saturating_sub(1));
         let mut least = usize::MAX;
         let mut best = None;
         for q in &successors(alloc, p)? {
-            if self.slices.answer(q, self.oracle) != sooner {
+            if self.plies(q).is_none_or(|left| left >= plies) {
                 continue;
             }
             if self.is_there(q) {
@@ -87,34 +92,32 @@ impl<O: Oracle> Needs<'_, '_, O> {
         Ok(best)
     }
 
-    /// The entry of a position, after which what it needs is there. None where neither side was found to win.
+    /// The entry of a position, after which what it needs is there. None where the side is not known to win.
     fn entry(&mut self, alloc: Global, p: &Position) -> Result<Option<WinEntry>, AllocError>
         ensures { IfOk result (λ found. IfSome found (λ entry. entry.rank ≤ MOST_FOUND_RANK)) }
     {
-        match self.slices.answer(p, self.oracle) {
-            Answer::Draw => Ok(None),
-            Answer::Win(plies) => {
-                let Some(next) = self.choose(alloc, p, plies)? else {
-                    return Ok(None);
-                };
-                self.demand(&next)?;
-                Ok(Some(entry_of(plies, move_to(alloc, p, &next)?)))
+        let Some(plies) = self.plies(p) else {
+            return Ok(None);
+        };
+        if p.to_move() != self.side {
+            for q in &successors(alloc, p)? {
+                self.demand(q)?;
             }
-            Answer::Loss(plies) => {
-                for q in &successors(alloc, p)? {
-                    self.demand(q)?;
-                }
-                Ok(Some(entry_of(plies, None)))
-            }
+            return Ok(Some(entry_of(plies, None)));
         }
+        let Some(next) = self.choose(alloc, p, plies)? else {
+            return Ok(None);
+        };
+        self.demand(&next)?;
+        Ok(Some(entry_of(plies, move_to(alloc, p, &next)?)))
     }
 }
 
 /// A strategy by which the side wins the position, with what it reaches alone. None where it would have more than `most`
-/// entries, or the slices say nothing of the position.
-pub fn win_part<O: Oracle>(
+/// entries, or some position that it reaches is not known to be won.
+pub fn win_part<W: KnownWins, O: Oracle>(
     alloc: Global,
-    slices: &Slices,
+    wins: &W,
     p: &Position,
     side: Side,
     most: usize,
@@ -124,7 +127,8 @@ pub fn win_part<O: Oracle>(
     ensures ranks { IfOk result (λ found. IfSome found (λ part. HasShortRanks (parts.Win part))) }
 {
     let mut needs = Needs {
-        slices,
+        side,
+        wins,
         oracle,
         known: IndexSet::new(alloc),
         waiting: Vec::new(alloc),

@@ -6,7 +6,7 @@ use Rattle.strategy_certificate.specs.declared.entries.TheConstants.{MOST_FOUND_
 use Rattle.strategy_certificate.specs.declared.entries.WinEntry.{WinEntry}
 use Rattle.strategy_certificate.specs.Parts.{WinList}
 use Rattle.strategy_certificate.proofs.RowLemmas.{All-added}
-use Rattle.endgame_slices.proofs.win_parts.win_part.Goals as goal
+use Rattle.win_lines.proofs.win_parts.win_part.Goals as goal
 
 pub loop-preserved : goal.loop-preserved
 loop-preserved g c =
