@@ -110,7 +110,7 @@ pub(crate) struct Slice {
     pub(crate) values: Vec<u8>,
 }
 
-/// All positions below one with more pieces than the table, worked out slice by slice.
+/// Positions with more pieces than the table, worked out slice by slice. With a slice there are those that its moves lead to.
 #[derive(Drop)]
 pub struct Slices {
     choices: Choices,
@@ -118,12 +118,17 @@ pub struct Slices {
 }
 
 impl Slices {
-    /// No slices yet.
-    pub(crate) fn new(alloc: Global, choices: Choices) -> Slices {
+    /// No slices yet. No memory is taken.
+    pub fn new(alloc: Global) -> Slices {
         Slices {
-            choices,
+            choices: Choices::new(),
             slices: IndexMap::new(alloc),
         }
+    }
+
+    /// Forgets all slices.
+    pub(crate) fn clear(&mut self) {
+        self.slices.clear();
     }
 
     /// How many choices there are of some squares among others.
@@ -148,6 +153,17 @@ impl Slices {
         let mut positions = 0_u64;
         for slice in self.slices.values() {
             positions = positions.saturating_add(slice.values.len() as u64);
+        }
+        positions
+    }
+
+    /// How many positions there are with those of the slices with these keys.
+    pub(crate) fn position_count_with(&self, keys: &[SliceKey]) -> u64 {
+        let mut positions = self.position_count();
+        for key in keys {
+            if self.number_of(key).is_none() {
+                positions = positions.saturating_add(key.size(&self.choices));
+            }
         }
         positions
     }

@@ -161,22 +161,31 @@ fn solve<O: Oracle>(
     })
 }
 
-/// All positions below this one, worked out; none where they are more than `most`, of which nothing is begun.
+/// Works out all positions below this one that are not there yet. False where all below it are more than `most`, of which
+/// nothing is begun.
+///
+/// There are never more than `most` positions afterwards: what was there is forgotten first where they would be. What is
+/// there is the same whatever was asked before, and good for searches with the same table alone.
 pub fn solve_below<O: Oracle>(
     alloc: Global,
     p: &Position,
     most: u64,
     oracle: &O,
-) -> Result<Option<Slices>, AllocError> {
+    slices: &mut Slices,
+) -> Result<bool, AllocError> {
     let choices = Choices::new();
     let table_pieces = u32::from(oracle.pieces());
     let Some(keys) = keys_below(alloc, p, table_pieces, most, &choices)? else {
-        return Ok(None);
+        return Ok(false);
     };
-    let mut slices = Slices::new(alloc, choices);
-    for key in &keys {
-        let slice = solve(alloc, key, &slices, oracle)?;
-        slices.add(*key, slice)?;
+    if slices.position_count_with(&keys) > most {
+        slices.clear();
     }
-    Ok(Some(slices))
+    for key in &keys {
+        if slices.number_of(key).is_none() {
+            let slice = solve(alloc, key, slices, oracle)?;
+            slices.add(*key, slice)?;
+        }
+    }
+    Ok(true)
 }

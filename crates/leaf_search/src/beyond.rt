@@ -7,6 +7,7 @@ ghost use Rattle.strategy_certificate.specs.declared.certificates.Part.TheVarian
 use crate::allowances::{Allowance, allowed_for};
 use crate::checked::accept;
 use crate::fortress::prove_knowing;
+use crate::memo::Memo;
 use certificate_checker::ProofList;
 use draughts_board::{Position, Side};
 use endgame_slices::{Slices, solve_below};
@@ -93,21 +94,22 @@ fn settle_by_slices<O: Oracle>(
     goal: Side,
     depth: u8,
     allowed: &Allowance,
+    slices: &mut Slices,
     oracle: &O,
 ) -> Result<Option<ProofList>, AllocError>
     ensures { IfOk result (λ found. IfSome found
         (IsAnswer (O.piece_limit oracle.now) goal depth p.now)) }
 {
     let most = allowed.entries;
-    let Some(slices) = solve_below(alloc, p, allowed.slice_positions, oracle)? else {
+    if !solve_below(alloc, p, allowed.slice_positions, oracle, slices)? {
         return Ok(None);
-    };
+    }
     let winner = match slices.answer(p, oracle) {
         Answer::Win(_) => p.to_move(),
         Answer::Loss(_) => p.to_move().other(),
-        Answer::Draw => return prove_drawn(alloc, p, goal, depth, &slices, most, oracle),
+        Answer::Draw => return prove_drawn(alloc, p, goal, depth, slices, most, oracle),
     };
-    let Some(part) = win_part(alloc, &slices, p, winner, most, oracle)? else {
+    let Some(part) = win_part(alloc, slices, p, winner, most, oracle)? else {
         return Ok(None);
     };
     prove_won(alloc, p, goal, depth, part, most, oracle)
@@ -115,14 +117,18 @@ fn settle_by_slices<O: Oracle>(
 
 /// An answer that was found beyond the depth, as far as its allowance reaches. None where none is found, or there is too
 /// little memory for any way of finding one, which tells nothing of the position.
+///
+/// The memory of searches gives its slices, and gets them back with those that were worked out.
 pub(crate) fn settle_beyond<O: Oracle>(
     alloc: Global,
     p: &Position,
     goal: Side,
     depth: u8,
     oracle: &O,
+    memo: &mut Memo,
 ) -> Option<ProofList>
-    ensures { IfSome result (IsAnswer (O.piece_limit oracle.now) goal depth p.now) }
+    ensures tables { memo.new ≡ memo.old }
+    ensures answer { IfSome result (IsAnswer (O.piece_limit oracle.now) goal depth p.now) }
 {
     let allowed = allowed_for(p, depth, oracle.pieces());
     if allowed.move_lists == 0 {
@@ -131,8 +137,11 @@ pub(crate) fn settle_beyond<O: Oracle>(
     if let Ok(Some(found)) = settle_by_numbers(alloc, p, goal, depth, &allowed, oracle) {
         return Some(found);
     }
-    if let Ok(Some(found)) = settle_by_slices(alloc, p, goal, depth, &allowed, oracle) {
-        return Some(found);
+    let mut slices = memo.take_slices(alloc);
+    let found = settle_by_slices(alloc, p, goal, depth, &allowed, &mut slices, oracle);
+    memo.keep_slices(slices);
+    match found {
+        Ok(found) => found,
+        Err(_) => None,
     }
-    None
 }

@@ -138,7 +138,7 @@ pub fn search<O: Oracle>(
         proofs.push(lost)?;
         return Ok(Outcome::Solved(ProofList::from_vec(proofs)));
     }
-    if let Some(found) = settle_beyond(alloc, p, goal, depth, oracle) {
+    if let Some(found) = settle_beyond(alloc, p, goal, depth, oracle, memo) {
         return Ok(Outcome::Solved(found));
     }
     let Some(held) = prove_hold(alloc, p, goal.other(), depth, oracle)? else {

@@ -1,10 +1,11 @@
 //! The search of a leaf: what looking some plies ahead shows of a position, each fact with a
 //! strategy that proves it.
 //!
-//! Wins are ranked strategies, found by depth-first search with a memory of failures. Holds are
-//! closed sets of positions: those that a depth-first search shows, and at greater depths larger
-//! ones that are grown from their front. At greater depths all positions below the leaf are worked
-//! out too, if they are few enough. Whatever is found goes through the checker.
+//! Wins are ranked strategies, found by depth-first search with a memory of failures, and at greater
+//! depths by proof numbers. Holds are closed sets of positions: those that a depth-first search
+//! shows, and at greater depths larger ones that are grown from their front. At greater depths all
+//! positions below the leaf are worked out too, if they are few enough. Whatever is found goes
+//! through the checker.
 //!
 //! Proved: `search` gives one to four certificates about the position that the checker accepted,
 //! with ranks of at most 2^40, one of which settles the goal. Each of the four facts that plain

@@ -1,19 +1,24 @@
-//! A bounded memory of positions in which looking ahead shows no win.
+//! A bounded memory of positions in which looking ahead shows no win, and of positions that were worked out slice by slice.
 use draughts_board::{Position, Side};
+use endgame_slices::Slices;
 use lru::LruCache;
 use std::alloc::{AllocError, Global};
 use std::marker::Model;
 use std::num::NonZeroUsize;
 
-/// How many plies ahead no win of a side shows, by side and position, for endgame tables of one number of pieces.
+/// How many plies ahead no win of a side shows, by side and position, for endgame tables of one number of pieces; and what
+/// searches have worked out slice by slice.
 ///
-/// It keeps the least recently used positions no longer than there is room. What it holds is always exact, also after
-/// want of memory; what it has forgotten is looked for again. A contract sees the number of pieces.
+/// It keeps the least recently used positions no longer than there is room, and no more slices than the last search that
+/// used some was allowed. What it says of plies ahead is always exact, also after want of memory; what it has forgotten is
+/// looked for again. A contract sees the number of pieces.
 #[derive(Drop)]
 pub struct Memo {
     pieces: u8,
     /// The greatest depth at which no win of the side was found.
     without_win: LruCache<(Side, Position), u8>,
+    /// What was worked out slice by slice, unless a search has it.
+    slices: Option<Slices>,
 }
 
 impl Model for Memo {
@@ -46,6 +51,7 @@ impl Memo {
         Ok(Memo {
             pieces,
             without_win: LruCache::new(alloc, capacity)?,
+            slices: None,
         })
     }
 
@@ -84,5 +90,22 @@ impl Memo {
             return;
         }
         let _ = self.without_win.put((side, *p), depth);
+    }
+
+    /// Gives what was worked out slice by slice, and is without it.
+    pub(crate) fn take_slices(&mut self, alloc: Global) -> Slices
+        ensures { self.new ≡ self.old }
+    {
+        match self.slices.take() {
+            Some(slices) => slices,
+            None => Slices::new(alloc),
+        }
+    }
+
+    /// Keeps what was worked out slice by slice for the next search.
+    pub(crate) fn keep_slices(&mut self, slices: Slices)
+        ensures { self.new ≡ self.old }
+    {
+        self.slices = Some(slices);
     }
 }

@@ -4,6 +4,8 @@
 #![tactic(auto)]
 
 #[cfg(test)]
+mod endgames;
+#[cfg(test)]
 mod joining;
 #[cfg(test)]
 mod parts;

@@ -56,12 +56,16 @@ fn tell_each(
     Ok(())
 }
 
-/// Prints what searches at depths 8 and 12 settle of each set.
+/// Prints what searches at depths 8 and 12 settle of each set, or of the one with this seed alone.
 pub(crate) fn tell_sets(
     rt: &(impl Print + CpuClock + Alloc<A = Global>),
     table: &Table,
+    seed: Option<u64>,
 ) -> Result<()> {
     for endgames in &SETS {
+        if seed.is_some_and(|seed| seed != endgames.seed) {
+            continue;
+        }
         let set = endgames.draw(rt.alloc())?;
         for depth in [8, 12] {
             tell_each(rt, set.as_slice(), depth, table)?;

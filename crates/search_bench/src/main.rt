@@ -13,12 +13,12 @@
 //! with at most three pieces a side.
 //!
 //! With the word `time` it prints nodes a second, the time that a position of the first list takes,
-//! and what share of the nodes a memory of one position takes; and how many positions a second are
-//! worked out slice by slice, and looked through for closed sets. With the word `deep` it prints
-//! what is settled of the lists of random games at depths 8 and 12. With the word `endgames` it
-//! searches the random endgames of four sets at these depths, and prints the value that is found of
-//! each and the processor time that it takes. With the word `drawn` it prints the endgames of all
-//! sets.
+//! and what share of the nodes a memory of one position takes; and for each way of going beyond the
+//! depth how many positions or nodes a second it looks at. With the word `deep` it prints what is
+//! settled of the lists of random games at depths 8 and 12. With the word `endgames` it searches
+//! the random endgames of four sets at these depths, or of the set with the seed that stands behind
+//! it, and prints the value that is found of each and the processor time that it takes. With the
+//! word `drawn` it prints the endgames of all sets.
 #![tactic(auto)]
 
 ghost use Rattle.std.specs.Prelude.{◌≤◌};
@@ -183,7 +183,12 @@ fn time_all(
 fn main(rt: HostRuntime) -> Result<()> {
     let tables = [fill(rt.alloc(), 2)?, fill(rt.alloc(), 3)?];
     let fixed = read_rows(&rt, "fixed.txt")?;
-    let word = env::args(&rt)?.nth(1);
+    let mut words = env::args(&rt)?;
+    let word = words.nth(1);
+    let seed = match words.next() {
+        Some(word) => Some(word.as_str().parse::<u64>()?),
+        None => None,
+    };
     let word = match &word {
         Some(word) => word.as_str(),
         None => "",
@@ -191,7 +196,7 @@ fn main(rt: HostRuntime) -> Result<()> {
     match word {
         "time" => time_all(&rt, fixed.as_slice(), &tables),
         "deep" => tell_deep(&rt, &tables[1]),
-        "endgames" => tell_sets(&rt, &tables[1]),
+        "endgames" => tell_sets(&rt, &tables[1], seed),
         "drawn" => tell_drawn(&rt),
         _ => tell_all(&rt, fixed.as_slice(), &tables),
     }

@@ -3,7 +3,7 @@ use crate::counted::Counted;
 use crate::endgames::SETS;
 use anyhow::Result;
 use draughts_board::{Position, Side};
-use endgame_slices::solve_below;
+use endgame_slices::{Slices, solve_below};
 use endgame_table::Table;
 use leaf_search::prove_fortress;
 use std::alloc::Global;
@@ -30,9 +30,9 @@ const TIMED: usize = 5;
 fn worked_out(alloc: Global, set: &[Position], table: &Table) -> Result<u64> {
     let mut positions = 0_u64;
     for p in set.iter().take(TIMED) {
-        if let Some(slices) = solve_below(alloc, p, MOST_SLICE_POSITIONS, table)? {
-            positions = positions.saturating_add(slices.position_count());
-        }
+        let mut slices = Slices::new(alloc);
+        solve_below(alloc, p, MOST_SLICE_POSITIONS, table, &mut slices)?;
+        positions = positions.saturating_add(slices.position_count());
     }
     Ok(positions)
 }
