@@ -4,8 +4,6 @@
 #![tactic(auto)]
 
 #[cfg(test)]
-mod endgames;
-#[cfg(test)]
 mod joining;
 #[cfg(test)]
 mod parts;

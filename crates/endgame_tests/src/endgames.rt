@@ -1,9 +1,8 @@
 //! Endgames of two pieces a side. What they are, and in how many plies, was worked out by a program of another kind, which
 //! goes back from all lost positions and is not kept here.
-use crate::tables::filled;
 use draughts_board::Side;
 use endgame_slices::{Slices, solve_below};
-use endgame_table::Table;
+use endgame_table::{Table, fill};
 use fen_text::read_fen;
 use std::alloc::Global;
 use std::test::Fail;
@@ -42,7 +41,7 @@ fn first_wrong_answer(alloc: Global, table: &Table) -> Result<Option<&'static st
 
 #[test]
 fn slices_give_the_plies_to_the_end(rt: HostRuntime) -> Result<(), Fail> {
-    let table = filled(rt.alloc(), true)?;
+    let table = fill(rt.alloc(), 3)?;
     assert_eq!(rt; first_wrong_answer(rt.alloc(), &table)?, None);
     Ok(())
 }
@@ -70,7 +69,7 @@ fn first_missed_win(alloc: Global, table: &Table) -> Result<Option<&'static str>
 
 #[test]
 fn proof_numbers_find_wins_that_are_near(rt: HostRuntime) -> Result<(), Fail> {
-    let table = filled(rt.alloc(), true)?;
+    let table = fill(rt.alloc(), 3)?;
     assert_eq!(rt; first_missed_win(rt.alloc(), &table)?, None);
     Ok(())
 }
