@@ -115,10 +115,37 @@ fn settle_by_slices<O: Oracle>(
     prove_won(alloc, p, goal, depth, part, most, oracle)
 }
 
+/// An answer within this allowance. Want of memory ends one way of finding it, and not the search.
+///
+/// The memory of searches gives its slices, and gets them back with those that were worked out.
+fn settle_within<O: Oracle>(
+    alloc: Global,
+    p: &Position,
+    goal: Side,
+    depth: u8,
+    allowed: &Allowance,
+    oracle: &O,
+    memo: &mut Memo,
+) -> Option<ProofList>
+    ensures tables { memo.new ≡ memo.old }
+    ensures answer { IfSome result (IsAnswer (O.piece_limit oracle.now) goal depth p.now) }
+{
+    if let Ok(Some(found)) = settle_by_numbers(alloc, p, goal, depth, allowed, oracle) {
+        return Some(found);
+    }
+    let mut slices = memo.take_slices(alloc);
+    let found = settle_by_slices(alloc, p, goal, depth, allowed, &mut slices, oracle);
+    memo.keep_slices(slices);
+    match found {
+        Ok(found) => found,
+        Err(_) => None,
+    }
+}
+
 /// An answer that was found beyond the depth, as far as its allowance reaches. None where none is found, or there is too
 /// little memory for any way of finding one, which tells nothing of the position.
 ///
-/// The memory of searches gives its slices, and gets them back with those that were worked out.
+/// It has no large locals, which would cost small depths as much as their searches.
 pub(crate) fn settle_beyond<O: Oracle>(
     alloc: Global,
     p: &Position,
@@ -134,14 +161,5 @@ pub(crate) fn settle_beyond<O: Oracle>(
     if allowed.move_lists == 0 {
         return None;
     }
-    if let Ok(Some(found)) = settle_by_numbers(alloc, p, goal, depth, &allowed, oracle) {
-        return Some(found);
-    }
-    let mut slices = memo.take_slices(alloc);
-    let found = settle_by_slices(alloc, p, goal, depth, &allowed, &mut slices, oracle);
-    memo.keep_slices(slices);
-    match found {
-        Ok(found) => found,
-        Err(_) => None,
-    }
+    settle_within(alloc, p, goal, depth, &allowed, oracle, memo)
 }
