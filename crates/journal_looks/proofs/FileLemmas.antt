@@ -104,7 +104,7 @@ pub explained_once : (file : List ℕ) (refusal cause : JournalRefusal) → Expl
 explained_once file refusal cause why stands =
     on_false (says_nothing_of_file refusal) (IsUnread file refusal) (refusal ≡ cause) (λ here. unread_once file refusal cause here stands) why
 
-nothing_by : (b : Bool) (P : Type 0) → OnFalse b P → (P → ⊥) → b ≡ true
+pub nothing_by : (b : Bool) (P : Type 0) → OnFalse b P → (P → ⊥) → b ≡ true
 nothing_by true P why none = refl
 nothing_by false P why none = absurd (none why)
 

@@ -17,7 +17,6 @@ use crate::reading::read_bench;
 use crate::refusals::LookRefusal;
 use bench_core::Bench;
 use bench_disk::Disk;
-use disk_journal::JournalRefusal;
 use endgame_table::Table;
 use opening_report::{Written, is_settled, report_text, root_certificate};
 use std::alloc::{AllocError, Global};
@@ -61,14 +60,8 @@ pub fn report<D: Disk>(alloc: Global, disk: &mut D) -> Result<Written, LookRefus
     ensures reads { OnlyReads D.Disk disk.old disk.new
         (result ≡ Err (LookRefusal.Journal journal.DiskFault)) }
 {
-    let read = match read_bench(alloc, disk) {
-        Ok(read) => read,
-        Err(refusal) => return Err(LookRefusal::Journal(refusal)),
-    };
-    match looked_of(alloc, &read.0, &read.1) {
-        Ok(written) => Ok(written),
-        Err(error) => Err(LookRefusal::Journal(JournalRefusal::Memory(error))),
-    }
+    let (bench, table) = read_bench(alloc, disk)?;
+    Ok(looked_of(alloc, &bench, &table)?)
 }
 
 /// A checked certificate that claims the value of a root of the bench, counted from 1.
@@ -98,10 +91,7 @@ fn certified_root(
     let Some(_value) = tree.settled(root) else {
         return Err(LookRefusal::UnsettledRoot(root));
     };
-    match root_certificate(alloc, bench, root, table) {
-        Ok(certificate) => Ok(certificate),
-        Err(error) => Err(LookRefusal::Journal(JournalRefusal::Memory(error))),
-    }
+    Ok(root_certificate(alloc, bench, root, table)?)
 }
 
 /// A checked certificate that claims the value of a root of the journal on a disk, counted from 1.
@@ -129,9 +119,6 @@ pub fn certify<D: Disk>(alloc: Global, disk: &mut D, root: u32) -> Result<Certif
     ensures reads { OnlyReads D.Disk disk.old disk.new
         (result ≡ Err (LookRefusal.Journal journal.DiskFault)) }
 {
-    let read = match read_bench(alloc, disk) {
-        Ok(read) => read,
-        Err(refusal) => return Err(LookRefusal::Journal(refusal)),
-    };
-    certified_root(alloc, &read.0, &read.1, root)
+    let (bench, table) = read_bench(alloc, disk)?;
+    certified_root(alloc, &bench, &table, root)
 }

@@ -32,10 +32,7 @@ fn bench_of(
         (λ read. SpellsRecords pieces [] read.0.records (payload_texts payloads.now)) }
     ensures refused { IfErr result (RefusesPayloads pieces payloads.now) }
 {
-    let table = match fill(alloc, pieces) {
-        Ok(table) => table,
-        Err(error) => return Err(JournalRefusal::Memory(error)),
-    };
+    let table = fill(alloc, pieces)?;
     let settings = Settings {
         pieces,
         depth: 0,
@@ -59,9 +56,6 @@ pub(crate) fn read_bench<D: Disk>(
     ensures refused { IsHonest D.TELLS → IfErr result (ExplainsUnread (D.reads disk.old)) }
     ensures reads { OnlyReads D.Disk disk.old disk.new (result ≡ Err JournalRefusal.DiskFault) }
 {
-    let read = match read_journal(alloc, disk) {
-        Ok(read) => read,
-        Err(refusal) => return Err(refusal),
-    };
-    bench_of(alloc, read.0, &read.1)
+    let (pieces, payloads) = read_journal(alloc, disk)?;
+    bench_of(alloc, pieces, &payloads)
 }

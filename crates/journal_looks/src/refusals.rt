@@ -1,7 +1,12 @@
 //! Why a journal is not reported, or a root not certified.
 ghost use Rattle.std.specs.Prelude.{◌≡◌};
+ghost use Rattle.disk_journal.specs.declared.refusal.JournalRefusal.TheVariants as journal;
+ghost use Rattle.journal_looks.specs.Conversions.{of_look};
+ghost use Rattle.journal_looks.specs.declared.refusals.LookRefusal.TheVariants as refusals;
 
 use disk_journal::JournalRefusal;
+use opening_report::Refusal;
+use std::alloc::AllocError;
 use thiserror::Error;
 
 /// Why a journal is not reported, or a root not certified.
@@ -18,4 +23,35 @@ pub enum LookRefusal {
     /// The root with this number, counted from 1, has no value yet.
     #[error("root {0} has no value yet")]
     UnsettledRoot(u32),
+}
+
+impl From<JournalRefusal> for LookRefusal {
+    ghost from_gives = { λ fault refusal. refusal ≡ refusals.Journal fault };
+
+    /// The disk is not read as records.
+    fn from(fault: JournalRefusal) -> LookRefusal {
+        LookRefusal::Journal(fault)
+    }
+}
+
+impl From<AllocError> for LookRefusal {
+    ghost from_gives = { λ error refusal. refusal ≡ refusals.Journal (journal.Memory error) };
+
+    /// Memory ran out.
+    fn from(error: AllocError) -> LookRefusal {
+        LookRefusal::Journal(JournalRefusal::Memory(error))
+    }
+}
+
+impl From<LookRefusal> for Refusal {
+    ghost from_gives = { λ fault refusal. refusal ≡ of_look fault };
+
+    /// The look at the journal is refused.
+    fn from(fault: LookRefusal) -> Refusal {
+        match fault {
+            LookRefusal::Journal(fault) => Refusal::from(fault),
+            LookRefusal::NoRoot(number) => Refusal::NoRoot(number),
+            LookRefusal::UnsettledRoot(number) => Refusal::UnsettledRoot(number),
+        }
+    }
 }

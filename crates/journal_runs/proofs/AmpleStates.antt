@@ -1,6 +1,6 @@
 -- While every unsettled root is within reach, each work record that is applied settles one.
 use Rattle.std.proofs.Common.{◌≡◌, ◌≤◌, ◌+◌, ℕ, Bool, true, false, cond, List, [], ◌∷◌, ◌++◌, Option, Some, None, is_some, refl, ap, sym, ◌∙◌, subst, inl, inr, ⊎_elim, arith}
-use Rattle.std.specs.Prelude.{◌⊎◌, not, nat_le, Contains, Result, Err}
+use Rattle.std.specs.Prelude.{not, nat_le, Contains, Result, Err}
 use Rattle.std.specs.List.{AllByRecursion as Each}
 use Rattle.std.proofs.lemmas.Bool.{true≢false, false≢true, eqb-true, eq-eqb, not-true}
 use Rattle.draughts_board.specs.Board.{Board}

@@ -2,7 +2,7 @@
 use Rattle.std.proofs.Common.{◌≡◌, ℕ, List, [], ◌∷◌, ◌++◌, refl, ap, sym, ◌∙◌, subst, append_assoc, map}
 use Rattle.std.proofs.lemmas.List.{append-nil}
 use Rattle.std.proofs.lemmas.Bool.{true≢false}
-use Rattle.std.specs.Prelude.{Bool, true, false, cond, ◌||◌, Some}
+use Rattle.std.specs.Prelude.{Bool, true, false, Some}
 use Rattle.std.specs.List.{list_any, AllByRecursion as Each}
 use Rattle.draughts_board.specs.Board.{Board}
 use Rattle.bench_records.specs.declared.records.BenchRecord.{BenchRecord}

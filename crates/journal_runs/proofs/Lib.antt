@@ -5,5 +5,4 @@ pub mod AmpleLines
 pub mod TurnLemmas
 pub mod AloneLemmas
 pub mod WorkLemmas
-pub mod UnreadLemmas
 pub mod RunLemmas

@@ -1,8 +1,10 @@
 -- What a session's contract gives of the disk that is handed back.
 use Rattle.std.proofs.Common.{◌≡◌, ◌≤◌, ◌<◌, ◌⊎◌, ◌+◌, ℕ, zero, suc, List, [], ◌∷◌, ◌++◌, refl, ap, sym, ◌∙◌, subst, ⊎_elim, inl, inr, arith, append_assoc, map, length, length-append}
 use Rattle.std.proofs.lemmas.List.{append-nil}
-use Rattle.std.specs.Prelude.{Bool, true, false, cond, Option, Some, None, count_by, Result, Ok, Err, IfOk, IfErr, OnOk, IfSome}
-use Rattle.std.specs.List.{list_any, AllByRecursion as Each}
+use Rattle.std.specs.Prelude.{Bool, true, false, cond, Option, Some, count_by, Result, Ok, Err, IfOk, IfErr, OnOk, IfSome}
+use Rattle.std.specs.Bool.{OnFalse}
+use Rattle.std.specs.declared.alloc.AllocError.{AllocError}
+use Rattle.std.specs.List.{AllByRecursion as Each}
 use Rattle.bench_disk.specs.declared.disk.Disk.{Ghosts}
 use Rattle.bench_disk.specs.Disk.{IsHonest, NothingPending}
 use Rattle.bench_disk.specs.Runs.{Leaves}
@@ -12,6 +14,7 @@ use Rattle.proof_tree.specs.Forest.{Forest, no_node}
 use Rattle.proof_tree.specs.Sound.{root_positions}
 use Rattle.disk_journal.specs.Format.{IsFresh, IsPrefixOf}
 use Rattle.disk_journal.specs.Log.{StaysOrFresh}
+use Rattle.disk_journal.specs.Refusals.{Explains, says_nothing_of_file}
 use Rattle.disk_journal.specs.declared.refusal.JournalRefusal.{JournalRefusal}
 use Rattle.disk_journal.specs.declared.refusal.JournalRefusal.TheVariants as journal
 use Rattle.disk_journal.proofs.AttachLemmas.{left_has}
@@ -25,21 +28,20 @@ use Rattle.bench_core.proofs.OneForest.{roots_are_those_begun}
 use Rattle.tree_manager.specs.declared.entries.Attachment.{Attachment}
 use Rattle.tree_manager.specs.declared.entries.Entry.{Entry}
 use Rattle.tree_manager.specs.declared.entries.Entry.TheVariants.{Put, Attached}
-use Rattle.tree_manager.specs.Entries.{acknowledges}
-use Rattle.tree_manager.specs.Lines.{applied_in, attachment_of, behind_attached, is_failed, recorded, unapplied_in, work_applied}
+use Rattle.tree_manager.specs.Lines.{applied_in, attachment_of, is_failed, recorded, unapplied_in, work_applied}
 use Rattle.tree_manager.specs.Histories.{IsCoreOf, IsNewCore, settings_of}
-use Rattle.tree_manager.specs.Receipts.{Acknowledgement, KeepsReceipts, ReadsBetween, ReadsRecords, acknowledgements, most_left}
-use Rattle.tree_manager.specs.Replaying.{ExplainsAttach}
+use Rattle.tree_manager.specs.Receipts.{KeepsReceipts, ReadsBetween, ReadsRecords, acknowledgements, most_left}
+use Rattle.tree_manager.specs.Replaying.{ExplainsAttach, ExplainsReplay}
 use Rattle.tree_manager.specs.Sessions.{IsAttachedTo, SessionState, session_budget, with_roots}
 use Rattle.tree_manager.proofs.CoreLemmas.{new_core_stands}
+use Rattle.tree_manager.proofs.ExactLemmas.{files_read_as_one_list, refused_files_read_as_none}
 use Rattle.tree_manager.proofs.HistoryLaws.{replayed_whole}
 use Rattle.journal_runs.specs.declared.refusals.RunRefusal.{RunRefusal}
 use Rattle.journal_runs.specs.declared.refusals.RunRefusal.TheVariants as refusal
 use Rattle.journal_runs.specs.Ample.{IsAmple}
-use Rattle.journal_runs.specs.Ends.{GoesOnFrom, HasWorked, IsIdle, IsRefusalOf, IsWorkRefusal}
-use Rattle.journal_runs.specs.Journals.{IsCaused, KeepsJournal, MayLeave, Recovers, Resumes, SettlesOrSpends}
+use Rattle.journal_runs.specs.Ends.{GoesOnFrom, HasWorked, IsIdle, IsWorkRefusal}
+use Rattle.journal_runs.specs.Journals.{IsCaused, IsUnreadFor, KeepsJournal, MayLeave, Recovers, Resumes, SettlesOrSpends}
 use Rattle.journal_runs.proofs.AttachedLines.{line_from, all_applied, any_from, at_attached, at_last, attached_from, behind_from, recorded_from, unapplied_from}
-use Rattle.journal_runs.proofs.UnreadLemmas.{flawed_unread, reads_once}
 
 -- ---- prefixes and counts
 
@@ -97,7 +99,7 @@ module _ {D : Type 0} (g : Ghosts D) where
     keeps_from read opened no_fewer broken = record {
       recovers = λ before' read'. (
         most_left line,
-        subst (λ (rs : List BenchRecord). Recovers g pieces rs (most_left line) old new) (reads_once pieces (g.reads old) before before' read read')
+        subst (λ (rs : List BenchRecord). Recovers g pieces rs (most_left line) old new) (files_read_as_one_list pieces (g.reads old) before before' read read')
             (recovers_from opened),
       );
       unread = λ none. absurd (none before read);
@@ -258,24 +260,30 @@ module _ {D : Type 0} (g : Ghosts D) where
         (begins.read honest) opened_is budget_is pieces_are (ap (λ (a : Attachment). a.depth) begins.is) begins.core first_roots (line_is last.line went) worked here
 
     pub caused_begun : (positions : List Board) (r : RunRefusal) → IsHonest g.TELLS → IsWorkRefusal first positions r → IsCaused s.pieces positions (g.reads old) r
-    caused_begun positions refusal.Disk honest h = tt
-    caused_begun positions (refusal.Journal flaw) honest h = absurd h
+    caused_begun positions (refusal.Journal cause) honest h = subst (λ (b : Bool). OnFalse b (IsUnreadFor s.pieces (g.reads old) cause)) (sym h) tt
     caused_begun positions refusal.TooManyRoots honest h =
         (begins.replayed, (begins.read honest, subst (λ (ps : List Board). 65536 < length (with_roots ps positions)) first_roots h))
-    caused_begun positions refusal.Memory honest h = tt
 
-pub caused_refused : (pieces : ℕ) (positions : List Board) (file : List ℕ) (e : JournalRefusal) (r : RunRefusal) → IsRefusalOf e r → ExplainsAttach file pieces e → IsCaused pieces positions file r
-caused_refused pieces positions file e refusal.Disk h c = tt
-caused_refused pieces positions file e (refusal.Journal flaw) h c =
-    let why = subst (ExplainsAttach file pieces) h c in (why, λ before read. flawed_unread pieces file flaw before why read)
-caused_refused pieces positions file e refusal.TooManyRoots h c = absurd h
-caused_refused pieces positions file e refusal.Memory h c = tt
+-- ---- a file that is no journal
 
-pub is_fault : (e : JournalRefusal) (r : RunRefusal) → IsRefusalOf e r → r ≡ refusal.Disk → e ≡ journal.DiskFault
-is_fault e refusal.Disk h is = h
-is_fault e (refusal.Journal f) h is = absurd (cc is)
-is_fault e refusal.TooManyRoots h is = absurd (cc is)
-is_fault e refusal.Memory h is = absurd (cc is)
+refused_unread : (b : Bool) (pieces : ℕ) (file : List ℕ) (cause : JournalRefusal) → says_nothing_of_file cause ≡ b → ExplainsAttach file pieces cause
+    → OnFalse b (Explains file pieces cause ⊎ ExplainsReplay file pieces cause) → OnFalse b (IsUnreadFor pieces file cause)
+refused_unread true pieces file cause silent why stands = tt
+refused_unread false pieces file cause told why stands =
+    record { stands = stands; unread = λ before read. refused_files_read_as_none pieces file cause before why told read }
+
+pub caused_refused : (pieces : ℕ) (positions : List Board) (file : List ℕ) (cause : JournalRefusal) (r : RunRefusal) → r ≡ refusal.Journal cause → ExplainsAttach file pieces cause → IsCaused pieces positions file r
+caused_refused pieces positions file cause r is why =
+    subst (IsCaused pieces positions file) (sym is) (refused_unread (says_nothing_of_file cause) pieces file cause refl why why)
+
+pub caused_memory : (pieces : ℕ) (positions : List Board) (file : List ℕ) (error : AllocError) (r : RunRefusal) → r ≡ refusal.Journal (journal.Memory error) → IsCaused pieces positions file r
+caused_memory pieces positions file error r is = subst (IsCaused pieces positions file) (sym is) tt
+
+pub memory_is_no_fault : (error : AllocError) (r : RunRefusal) → r ≡ refusal.Journal (journal.Memory error) → r ≡ refusal.Journal journal.DiskFault → ⊥
+memory_is_no_fault error r is fault = cc
+
+pub is_fault : (cause : JournalRefusal) (r : RunRefusal) → r ≡ refusal.Journal cause → r ≡ refusal.Journal journal.DiskFault → cause ≡ journal.DiskFault
+is_fault cause r of is = cc
 
 -- ---- answers
 

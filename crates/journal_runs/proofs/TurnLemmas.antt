@@ -1,6 +1,6 @@
 -- A lease, its result and a commit, one behind the other.
 use Rattle.std.proofs.Common.{◌≡◌, ◌+◌, ℕ, List, [], ◌∷◌, ◌++◌, refl, ap, sym, ◌∙◌, subst, arith, ⊎_elim}
-use Rattle.std.specs.Prelude.{Bool, true, false, cond, not, if◌then◌else◌, nat_le, ◌&&◌, count_by, is_some, IsSome, All, Option, Some, None, Result, Ok, Err}
+use Rattle.std.specs.Prelude.{Bool, true, false, cond, if◌then◌else◌, nat_le, ◌&&◌, count_by, is_some, IsSome, All, Option, Some, None, Result, Err}
 use Rattle.std.specs.List.{list_any, list_all}
 use Rattle.std.proofs.lemmas.Bool.{true≢false}
 use Rattle.std.proofs.lemmas.List.Elements.{All-head, All-tail}

@@ -1,6 +1,6 @@
 -- What begun roots and the work behind them come to.
 use Rattle.std.proofs.Common.{length, ◌≡◌, ◌≤◌, ◌⊎◌, inl, inr, ⊎_elim, ℕ, List, [], ◌∷◌, ◌++◌, refl, ap, sym, ◌∙◌, subst, map, append_assoc, append-nil}
-use Rattle.std.specs.Prelude.{All, Contains, Bool, true, false, cond, ◌||◌, if◌then◌else◌}
+use Rattle.std.specs.Prelude.{All, Contains, Bool, true, false, cond}
 use Rattle.std.specs.List.{list_any}
 use Rattle.std.proofs.lemmas.Bool.{true≢false, or_cases}
 use Rattle.std.proofs.lemmas.List.Elements.{All-head, All-tail, Contains-append_left, Contains-push, Contains-push_cases}
@@ -10,10 +10,9 @@ use Rattle.proof_tree.specs.Forest.{Forest, no_node, Node, nodes}
 use Rattle.proof_tree.specs.Sound.{root_positions}
 use Rattle.bench_records.specs.declared.records.BenchRecord.{BenchRecord}
 use Rattle.bench_records.specs.declared.records.BenchRecord.TheVariants.{Begin, Solve, Expand}
-use Rattle.bench_core.specs.Records.{begun, is_work}
+use Rattle.bench_core.specs.Records.{begun}
 use Rattle.bench_core.specs.Growing.{GrowsWith, GrowsWithAll, IsForestOf}
 use Rattle.bench_core.specs.States.{are_settled}
-use Rattle.bench_core.specs.Cores.{Core, IsCommitted}
 use Rattle.bench_core.proofs.Lists.{Contains-here, Contains-there, Contains-cases, Contains-map}
 use Rattle.bench_core.proofs.OneForest.{roots_are_those_begun}
 use Rattle.bench_core.proofs.SoundApplied.{roots_grown}
@@ -26,11 +25,11 @@ use Rattle.tree_manager.specs.declared.entries.Entry.TheVariants.{Put, Attached,
 use Rattle.tree_manager.specs.declared.refusals.BeginRefusal.{BeginRefusal}
 use Rattle.tree_manager.specs.declared.refusals.BeginRefusal.TheVariants as begin
 use Rattle.tree_manager.specs.Entries.{record_put, breaks}
-use Rattle.tree_manager.specs.Lines.{recorded, applied_in, unapplied_in, is_failed}
+use Rattle.tree_manager.specs.Lines.{recorded, applied_in, is_failed}
 use Rattle.tree_manager.specs.Histories.{IsCoreOf, IsHistory}
 use Rattle.tree_manager.specs.Sessions.{SessionState, with_roots, BeginsRoots, HasBegun, RefusesBegin, MayAddInTurn}
 use Rattle.tree_manager.proofs.LineLemmas.{any_push_yes}
-use Rattle.tree_manager.proofs.CoreLemmas.{run_grown, contains_nothing}
+use Rattle.tree_manager.proofs.CoreLemmas.{contains_nothing}
 use Rattle.worker_gate.specs.declared.worker.Ended.TheVariants.{Done, Spent}
 use Rattle.journal_runs.specs.Ends.{IsIdle, IsEndedBy, GoesOnFrom, HasRun, HasWorked}
 use Rattle.journal_runs.specs.Journals.{CountsRoots, ReportsTruth}

@@ -1,8 +1,7 @@
 -- How the work on a session ends, and what it has come to by then.
-use Rattle.std.specs.Prelude.{◌≡◌, ◌≤◌, ◌<◌, ◌⊎◌, ℕ, Bool, true, false, List, [], ◌∷◌, ◌++◌, length}
+use Rattle.std.specs.Prelude.{◌≡◌, ◌≤◌, ◌<◌, ℕ, Bool, true, false, List, [], ◌++◌, length}
 use Rattle.draughts_board.specs.Board.{Board}
 use Rattle.disk_journal.specs.Refusals.{says_nothing_of_file}
-use Rattle.disk_journal.specs.declared.refusal.JournalRefusal.{JournalRefusal}
 use Rattle.disk_journal.specs.declared.refusal.JournalRefusal.TheVariants as journal
 use Rattle.proof_tree.specs.Forest.{Forest}
 use Rattle.proof_tree.specs.Sound.{root_positions}
@@ -16,8 +15,6 @@ use Rattle.tree_manager.specs.Sessions.{SessionState, HasBegun, session_budget, 
 use Rattle.tree_manager.specs.Turns.{GrowsByTurns}
 use Rattle.worker_gate.specs.declared.worker.Ended.{Ended}
 use Rattle.worker_gate.specs.declared.worker.Ended.TheVariants.{Done, Spent, Failed, Memory}
-use Rattle.journal_runs.specs.declared.refusals.JournalFlaw.{JournalFlaw}
-use Rattle.journal_runs.specs.declared.refusals.JournalFlaw.TheVariants as flaw
 use Rattle.journal_runs.specs.declared.refusals.RunRefusal.{RunRefusal}
 use Rattle.journal_runs.specs.declared.refusals.RunRefusal.TheVariants as refusal
 use Rattle.journal_runs.specs.Ample.{IsAmple}
@@ -76,24 +73,12 @@ pub record HasRun {D : Type 0} (old : SessionState D) (positions : List Board) (
 
 -- ---- refusals
 
--- why a session's work is refused
+-- memory ran out
+abbrev pub out_of_memory : RunRefusal
+out_of_memory = refusal.Journal (journal.Memory (record {}))
+
+-- Why a session's work is refused: the disk failed or memory ran out, or there would be too many roots.
 abbrev pub IsWorkRefusal : {D : Type 0} → SessionState D → List Board → RunRefusal → Type 0
-IsWorkRefusal s positions refusal.Disk = Unit {0}
-IsWorkRefusal s positions (refusal.Journal e) = ⊥
+IsWorkRefusal s positions (refusal.Journal cause) = says_nothing_of_file cause ≡ true
 IsWorkRefusal s positions refusal.TooManyRoots =
     MOST_ROOTS < length (with_roots (root_positions s.core.state.forest) positions)
-IsWorkRefusal s positions refusal.Memory = Unit {0}
-
--- the journal's refusal for what stands on its disk
-abbrev pub refusal_of_flaw : JournalFlaw → JournalRefusal
-refusal_of_flaw flaw.NotAJournal = journal.NotAJournal
-refusal_of_flaw (flaw.OtherTable found asked) = journal.OtherTable found asked
-refusal_of_flaw (flaw.Damaged at) = journal.Damaged at
-
--- the refusal of a run whose journal is not attached
-abbrev pub IsRefusalOf : JournalRefusal → RunRefusal → Type 0
-IsRefusalOf e refusal.Disk = e ≡ journal.DiskFault
-IsRefusalOf e (refusal.Journal flaw) = e ≡ refusal_of_flaw flaw
-IsRefusalOf e refusal.TooManyRoots = ⊥
-IsRefusalOf e refusal.Memory =
-    (says_nothing_of_file e ≡ true) × (e ≡ journal.DiskFault → ⊥)

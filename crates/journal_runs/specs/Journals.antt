@@ -1,9 +1,12 @@
 -- What a run leaves of the journal on its disk, and what it writes of it. Tables are of so many
 -- pieces.
 use Rattle.std.specs.Prelude.{◌≡◌, ◌≤◌, ◌<◌, ◌⊎◌, ◌+◌, ℕ, Bool, true, false, List, ◌++◌, count_by, length, Contains}
+use Rattle.std.specs.Bool.{OnFalse}
 use Rattle.bench_disk.specs.declared.disk.Disk.{Ghosts}
-use Rattle.bench_disk.specs.Disk.{NothingPending, Stays}
+use Rattle.bench_disk.specs.Disk.{IsHonest, NothingPending, Stays}
 use Rattle.shared_words.specs.Counts.{Rose}
+use Rattle.disk_journal.specs.Refusals.{Explains, says_nothing_of_file}
+use Rattle.disk_journal.specs.declared.refusal.JournalRefusal.{JournalRefusal}
 use Rattle.draughts_board.specs.Board.{Board}
 use Rattle.proof_tree.specs.Forest.{Forest}
 use Rattle.proof_tree.specs.Sound.{root_positions}
@@ -15,14 +18,13 @@ use Rattle.opening_report.specs.declared.roots.Root.{Root}
 use Rattle.opening_report.specs.Lines.{IsLine}
 use Rattle.opening_report.specs.Report.{report_of, summary_line, forest_roots, AreTrueRoots, AreApart}
 use Rattle.tree_manager.specs.Receipts.{ReadsRecords, ReadsBetween}
-use Rattle.tree_manager.specs.Replaying.{ExplainsAttach}
+use Rattle.tree_manager.specs.Replaying.{ExplainsReplay}
 use Rattle.tree_manager.specs.Sessions.{session_budget, with_roots}
 use Rattle.journal_runs.specs.declared.refusals.RunRefusal.{RunRefusal}
 use Rattle.journal_runs.specs.declared.refusals.RunRefusal.TheVariants as refusal
 use Rattle.journal_runs.specs.declared.runs.Account.{Account}
 use Rattle.journal_runs.specs.declared.runs.Account.TheVariants.{Report, Summary}
 use Rattle.journal_runs.specs.Ample.{IsAmple}
-use Rattle.journal_runs.specs.Ends.{refusal_of_flaw}
 use Rattle.proof_tree.specs.declared.tree.TheConstants.{MOST_ROOTS}
 
 -- ---- what is left of the disk
@@ -46,6 +48,14 @@ module _ {D : Type 0} (g : Ghosts D) where
     pub unread : ((before : List BenchRecord) → ¬ ReadsRecords pieces (g.reads old) before)
         → Stays g.reads g.images old new
     pub settled : NothingPending (g.reads new) (g.images new) ⊎ Rose (g.faults old) (g.faults new)
+
+  -- A run that makes no call of the disk leaves it as it was, and one that begins with nothing
+  -- pending keeps the journal.
+  abbrev pub LeavesJournal : ℕ → D → D → Type 0
+  LeavesJournal pieces old new =
+      (new ≡ old)
+      ⊎ (IsHonest g.TELLS → NothingPending (g.reads old) (g.images old)
+      → KeepsJournal pieces old new)
 
   -- ---- a run that comes to its output
 
@@ -105,14 +115,17 @@ IsTrueAccount Summary positions text = CountsRoots positions text
 
 -- ---- why a run is refused
 
--- Of what the disk read as: it was no journal for the table, and is explained; or it was one, and
--- there would be too many roots. A fault of the disk shows in its faults, and want of memory is free.
+-- The file reads as no records for tables of so many pieces, and this is a cause: of the journal, or
+-- of a payload.
+pub record IsUnreadFor (pieces : ℕ) (file : List ℕ) (cause : JournalRefusal) : Type 0 where
+  pub stands : Explains file pieces cause ⊎ ExplainsReplay file pieces cause
+  pub unread : (before : List BenchRecord) → ¬ ReadsRecords pieces file before
+
+-- Of what the disk read as: it was no journal for the table, unless the refusal says nothing of the
+-- file; or it was one, and there would be too many roots.
 abbrev pub IsCaused : ℕ → List Board → List ℕ → RunRefusal → Type 0
-IsCaused pieces positions file refusal.Disk = Unit {0}
-IsCaused pieces positions file (refusal.Journal flaw) =
-    ExplainsAttach file pieces (refusal_of_flaw flaw)
-    × ((before : List BenchRecord) → ¬ ReadsRecords pieces file before)
+IsCaused pieces positions file (refusal.Journal cause) =
+    OnFalse (says_nothing_of_file cause) (IsUnreadFor pieces file cause)
 IsCaused pieces positions file refusal.TooManyRoots =
     (before : List BenchRecord) × (ReadsRecords pieces file before
     × (MOST_ROOTS < length (with_roots (begun before) positions)))
-IsCaused pieces positions file refusal.Memory = Unit {0}

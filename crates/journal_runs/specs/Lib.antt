@@ -1,3 +1,5 @@
 pub mod Ample
+pub mod Conversions
 pub mod Ends
 pub mod Journals
+pub mod Limits

@@ -2,9 +2,9 @@
 //! reports.
 //!
 //! What a run leaves of its disk, and what it writes, stands in `specs/Journals.antt`. `solve`
-//! works with as many workers as it is asked for, and then alone: how it ends is said of the
-//! session that comes back, and rests on no answer of a worker. Asked for the summary (`Account`),
-//! it writes the line that counts the roots in place of the report.
+//! fills the endgame table and works by a `Plan`, with the plan's workers and then alone: how it
+//! ends is said of the session that comes back, and rests on no answer of a worker. Asked for the
+//! summary (`Account`), it writes the line that counts the roots in place of the report.
 //!
 //! Proved, whatever the disk does: each value in the report is true, each opening stands in it
 //! once, and a fault of the disk is answered only where it was counted. Proved of an honest disk
@@ -28,6 +28,6 @@ mod runs;
 mod together;
 
 pub use alone::work_alone;
-pub use refusals::{JournalFlaw, RunRefusal};
-pub use runs::{Account, solve};
+pub use refusals::RunRefusal;
+pub use runs::{Account, Plan, solve};
 pub use together::work_together;

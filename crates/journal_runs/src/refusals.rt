@@ -1,51 +1,52 @@
 //! Why a run comes to no output.
-ghost use Rattle.journal_runs.specs.Ends.{IsRefusalOf};
+ghost use Rattle.std.specs.Prelude.{◌≡◌};
+ghost use Rattle.journal_runs.specs.Conversions.{of_run};
+ghost use Rattle.journal_runs.specs.declared.refusals.RunRefusal.TheVariants as refusals;
+ghost use Rattle.disk_journal.specs.declared.refusal.JournalRefusal.TheVariants as journal;
 
 use disk_journal::JournalRefusal;
+use opening_report::Refusal;
+use std::alloc::AllocError;
 use thiserror::Error;
 
-/// Why the bytes of a disk are no journal for the tables that are asked for.
-#[derive(Clone, Copy, PartialEq, Eq, Debug, Error)]
-pub enum JournalFlaw {
-    /// There are more than 9, and they begin with no head.
-    #[error("no journal")]
-    NotAJournal,
-    /// The head is that of a journal for tables of other pieces.
-    #[error("a journal for tables of {found} pieces, not of {asked}")]
-    OtherTable { found: u8, asked: u8 },
-    /// At this place, counted from 0, no sound frame stands where one is due, or a payload that is no lawful record.
-    #[error("the journal is damaged at byte {0}")]
-    Damaged(u64),
-}
-
 /// Why a run comes to no output.
-#[derive(Clone, Copy, PartialEq, Eq, Debug, Error)]
+#[derive(Clone, Copy, Debug, PartialEq, Eq, Error)]
 pub enum RunRefusal {
-    /// The disk refused a call.
-    #[error("the disk refused a call")]
-    Disk,
-    /// The disk is not read as a journal.
+    /// The disk failed, its bytes are no journal for the table or a damaged one, or memory ran out. The place of a damage
+    /// is that of a gate, or of the length field of a payload that is no lawful record.
     #[error("{0}")]
-    Journal(JournalFlaw),
+    Journal(JournalRefusal),
     /// There would be more than 65,536 roots.
     #[error("too many roots")]
     TooManyRoots,
-    /// Memory ran out.
-    #[error("out of memory")]
-    Memory,
 }
 
-/// The refusal of a run whose journal is not attached.
-pub(crate) fn refusal_of(error: JournalRefusal) -> RunRefusal
-    ensures { IsRefusalOf error result }
-{
-    match error {
-        JournalRefusal::DiskFault => RunRefusal::Disk,
-        JournalRefusal::NotAJournal => RunRefusal::Journal(JournalFlaw::NotAJournal),
-        JournalRefusal::OtherTable { found, asked } => {
-            RunRefusal::Journal(JournalFlaw::OtherTable { found, asked })
+impl From<JournalRefusal> for RunRefusal {
+    ghost from_gives = { λ fault refusal. refusal ≡ refusals.Journal fault };
+
+    /// The disk is not read as a journal, or no longer written as one.
+    fn from(fault: JournalRefusal) -> RunRefusal {
+        RunRefusal::Journal(fault)
+    }
+}
+
+impl From<AllocError> for RunRefusal {
+    ghost from_gives = { λ error refusal. refusal ≡ refusals.Journal (journal.Memory error) };
+
+    /// Memory ran out.
+    fn from(error: AllocError) -> RunRefusal {
+        RunRefusal::Journal(JournalRefusal::Memory(error))
+    }
+}
+
+impl From<RunRefusal> for Refusal {
+    ghost from_gives = { λ fault refusal. refusal ≡ of_run fault };
+
+    /// The run on the journal is refused.
+    fn from(fault: RunRefusal) -> Refusal {
+        match fault {
+            RunRefusal::Journal(fault) => Refusal::from(fault),
+            RunRefusal::TooManyRoots => Refusal::TooManyRoots,
         }
-        JournalRefusal::Damaged(at) => RunRefusal::Journal(JournalFlaw::Damaged(at)),
-        JournalRefusal::Memory(_) => RunRefusal::Memory,
     }
 }

@@ -15,6 +15,7 @@ use Rattle.certificate_checker.specs.declared.refusals.CheckRefusal.{CheckRefusa
 use Rattle.certificate_checker.specs.declared.refusals.CheckRefusal.TheVariants as check
 use Rattle.certificate_text.specs.declared.refusal.TextRefusal.{TextRefusal}
 use Rattle.certificate_text.specs.declared.refusal.TextRefusal.TheVariants as text
+use Rattle.disk_journal.specs.declared.refusal.JournalRefusal.{JournalRefusal}
 use Rattle.disk_journal.specs.declared.refusal.JournalRefusal.TheVariants as journal
 use Rattle.pdn_openings.specs.declared.refusal.OpeningRefusal.{OpeningRefusal}
 use Rattle.pdn_openings.specs.declared.refusal.OpeningRefusal.TheVariants as opening
@@ -22,14 +23,15 @@ use Rattle.pdn_text.specs.declared.refusal.PdnRefusal.{PdnRefusal}
 use Rattle.pdn_text.specs.declared.refusal.PdnRefusal.TheVariants as pdn
 use Rattle.table_checker.specs.declared.refusal.TableRefusal.{TableRefusal}
 use Rattle.table_checker.specs.declared.refusal.TableRefusal.TheVariants as table
+use Rattle.journal_looks.specs.Conversions.{of_look}
 use Rattle.journal_looks.specs.Looks.{ExplainsNoCertificate}
 use Rattle.journal_looks.specs.declared.refusals.LookRefusal.{LookRefusal}
 use Rattle.journal_looks.specs.declared.refusals.LookRefusal.TheVariants as look
+use Rattle.journal_runs.specs.Conversions.{of_run}
 use Rattle.journal_runs.specs.Journals.{CountsRoots, Resumes}
-use Rattle.journal_runs.specs.declared.refusals.JournalFlaw.TheVariants as flaw
 use Rattle.journal_runs.specs.declared.refusals.RunRefusal.{RunRefusal}
 use Rattle.journal_runs.specs.declared.refusals.RunRefusal.TheVariants as run
-use Rattle.opening_report.specs.Conversions.{of_pdn, of_openings, of_text, of_check, of_table}
+use Rattle.opening_report.specs.Conversions.{of_pdn, of_openings, of_text, of_check, of_table, of_journal}
 use Rattle.opening_report.specs.Report.{forest_roots, summary_line}
 use Rattle.opening_report.specs.declared.refusals.Refusal.{Refusal}
 use Rattle.opening_report.specs.declared.refusals.Refusal.TheVariants as refusal
@@ -37,7 +39,7 @@ use Rattle.program_edges.specs.Sources.{IsCutShort, IsInput}
 use Rattle.program_edges.specs.Statuses.{status_of}
 use Rattle.opening_bench.specs.Bench.{IsCommandRefusal, ReadsSource}
 use Rattle.opening_bench.specs.Commands.{HasFault, source_limit}
-use Rattle.opening_bench.specs.Disks.{HasDiskFault, IsRefusedRun, of_look, of_run}
+use Rattle.opening_bench.specs.Disks.{HasDiskFault, IsRefusedRun}
 use Rattle.opening_bench.specs.Steps.{AnswersBytes, RefusesBytes}
 use Rattle.opening_bench.specs.declared.commands.generate.TheConstants.{GENERATE_DEPTH, GENERATE_PIECES}
 
@@ -120,20 +122,19 @@ module _ (A B : Type 0) where
 
   -- ---- a disk that refuses
 
-  run_blames : (fault : RunRefusal) → (fault ≡ run.Disk → B) → Blames A B (status_of (of_run fault))
-  run_blames run.Disk disk = disk_blames (disk refl)
-  run_blames (run.Journal flaw.NotAJournal) disk = journal_blames
-  run_blames (run.Journal (flaw.OtherTable found asked)) disk = journal_blames
-  run_blames (run.Journal (flaw.Damaged at)) disk = journal_blames
+  fault_blamed : (fault : JournalRefusal) → (fault ≡ journal.DiskFault → B) → Blames A B (status_of (of_journal fault))
+  fault_blamed journal.DiskFault disk = disk_blames (disk refl)
+  fault_blamed journal.NotAJournal disk = journal_blames
+  fault_blamed (journal.OtherTable found asked) disk = journal_blames
+  fault_blamed (journal.Damaged at) disk = journal_blames
+  fault_blamed (journal.Memory error) disk = memory_blames
+
+  run_blames : (fault : RunRefusal) → (fault ≡ run.Journal journal.DiskFault → B) → Blames A B (status_of (of_run fault))
+  run_blames (run.Journal fault) disk = fault_blamed fault (λ is. disk (ap run.Journal is))
   run_blames run.TooManyRoots disk = input_blames
-  run_blames run.Memory disk = memory_blames
 
   look_blames : (fault : LookRefusal) → (fault ≡ look.Journal journal.DiskFault → B) → Blames A B (status_of (of_look fault))
-  look_blames (look.Journal journal.DiskFault) disk = disk_blames (disk refl)
-  look_blames (look.Journal journal.NotAJournal) disk = journal_blames
-  look_blames (look.Journal (journal.OtherTable found asked)) disk = journal_blames
-  look_blames (look.Journal (journal.Damaged at)) disk = journal_blames
-  look_blames (look.Journal (journal.Memory error)) disk = memory_blames
+  look_blames (look.Journal fault) disk = fault_blamed fault (λ is. disk (ap look.Journal is))
   look_blames (look.NoRoot n) disk = input_blames
   look_blames (look.UnsettledRoot n) disk = input_blames
 

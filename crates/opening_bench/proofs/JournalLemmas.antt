@@ -10,16 +10,22 @@ use Rattle.bench_core.specs.Records.{begun}
 use Rattle.bench_records.specs.declared.records.BenchRecord.{BenchRecord}
 use Rattle.tree_manager.specs.Sessions.{with_roots}
 use Rattle.tree_manager.proofs.ExactLemmas.{files_read_as_one_list}
+use Rattle.disk_journal.specs.Refusals.{says_nothing_of_file}
+use Rattle.disk_journal.specs.declared.refusal.JournalRefusal.{JournalRefusal}
+use Rattle.disk_journal.specs.declared.refusal.JournalRefusal.TheVariants as journal
 use Rattle.journal_looks.specs.Looks.{IsTrueReport}
-use Rattle.journal_runs.specs.Journals.{IsCaused}
+use Rattle.journal_looks.proofs.FileLemmas.{nothing_by}
+use Rattle.journal_runs.specs.Conversions.{of_run}
+use Rattle.journal_runs.specs.Journals.{IsCaused, IsUnreadFor}
 use Rattle.journal_runs.specs.declared.refusals.RunRefusal.{RunRefusal}
 use Rattle.journal_runs.specs.declared.refusals.RunRefusal.TheVariants as run
+use Rattle.opening_report.specs.Conversions.{of_journal}
 use Rattle.opening_report.specs.declared.refusals.Refusal.{Refusal}
 use Rattle.opening_report.specs.declared.refusals.Refusal.TheVariants as refusal
 use Rattle.opening_report.proofs.ReportLemmas.{report-is_true}
 use Rattle.opening_bench.specs.Accepted.{HasRoom, IsUnrefused}
 use Rattle.program_edges.specs.Statuses.{status_of}
-use Rattle.opening_bench.specs.Disks.{IsRefusedRun, of_run}
+use Rattle.opening_bench.specs.Disks.{IsRefusedRun}
 use Rattle.opening_bench.specs.Solving.{roots_of_openings}
 use Rattle.opening_bench.specs.Steps.{AcceptsBytes, AreRootsIn, SaysTrue, says_nothing_of_bytes}
 
@@ -29,6 +35,14 @@ true_report_says text p front back whole =
     let k : 65538 < 2 ^ 64 = lit< tt in
     let few = p.few in
     report-is_true p.roots front back (omega (arith, few, k)) p.values (sym p.text_is ∙ whole)
+
+-- a journal's refusal says as little as the program's own
+pub journal_silence : (cause : JournalRefusal) → says_nothing_of_bytes (of_journal cause) ≡ says_nothing_of_file cause
+journal_silence journal.DiskFault = refl
+journal_silence journal.NotAJournal = refl
+journal_silence (journal.OtherTable found asked) = refl
+journal_silence (journal.Damaged at) = refl
+journal_silence (journal.Memory error) = refl
 
 -- a refusal that says nothing of what the disk reads as
 pub silent_unrefused : (r : Refusal) → says_nothing_of_bytes r ≡ true → IsUnrefused (status_of r)
@@ -44,14 +58,13 @@ module _ {D : Type 0} (g : Ghosts D) where
   -- a journal that has room is not refused
   pub room_silent : (pieces : ℕ) (positions : List Board) (old new : D) (r : Refusal) (fault : RunRefusal) → r ≡ of_run fault → HasRoom g pieces positions old
       → IsCaused pieces positions (g.reads old) fault → says_nothing_of_bytes r ≡ true
-  room_silent pieces positions old new r run.Disk is room caused = ap says_nothing_of_bytes is
-  room_silent pieces positions old new r (run.Journal flaw) is room caused = absurd (caused.1 room.records room.read)
+  room_silent pieces positions old new r (run.Journal cause) is room caused =
+      ap says_nothing_of_bytes is ∙ (journal_silence cause ∙ nothing_by (says_nothing_of_file cause) (IsUnreadFor pieces (g.reads old) cause) caused (λ h. h.unread room.records room.read))
   room_silent pieces positions old new r run.TooManyRoots is room caused =
       let same = files_read_as_one_list pieces (g.reads old) caused.0 room.records caused.1.0 room.read in
       let many = subst (λ (rs : List BenchRecord). 65536 < length (with_roots (begun rs) positions)) same caused.1.1 in
       let few = room.room in
       absurd (omega (arith, many, few))
-  room_silent pieces positions old new r run.Memory is room caused = ap says_nothing_of_bytes is
 
   pub run_accepts : (options : Options) (text : List ℕ) (positions seen : List Board) (old new : D) (r : Refusal) → AreRootsIn options.plies text positions → seen ≡ positions
       → IsRefusedRun g options.pieces seen old new r
@@ -68,8 +81,3 @@ module _ {D : Type 0} (g : Ghosts D) where
       → IfErr r (AcceptsBytes g (Solve options) text old)
   run_all_accepts options text positions seen old new (Ok x) roots same h = tt
   run_all_accepts options text positions seen old new (Err r) roots same h = run_accepts options text positions seen old new r roots same h
-
--- want of memory before the disk is used
-pub no_memory : {D : Type 0} (g : Ghosts D) (pieces : ℕ) (positions : List Board) (disk : D)
-    → IsRefusedRun g pieces positions disk disk refusal.Memory
-no_memory g pieces positions disk = record { fault = run.Memory; is = refl; disk = λ e. absurd cc; caused = λ honest. tt }

@@ -10,7 +10,7 @@ use Rattle.bench_edges.specs.declared.status.Status.TheVariants.{Disk, Memory}
 use Rattle.bench_edges.specs.declared.words.Command.{Command}
 use Rattle.bench_edges.specs.declared.words.Command.TheVariants.{Solve, Report, Certify, MakeTable, Generate}
 use Rattle.capture_positions.specs.Walk.{openings_from}
-use Rattle.disk_journal.specs.declared.refusal.JournalRefusal.TheVariants as journal
+use Rattle.journal_looks.specs.Conversions.{of_look}
 use Rattle.journal_looks.specs.Looks.{says_nothing}
 use Rattle.journal_looks.specs.declared.refusals.LookRefusal.{LookRefusal}
 use Rattle.journal_looks.specs.declared.refusals.LookRefusal.TheVariants as look
@@ -22,19 +22,14 @@ use Rattle.program_edges.specs.Answers.{TakesLine}
 use Rattle.program_edges.specs.Sources.{IsCutShort}
 use Rattle.program_edges.specs.Statuses.{status_of}
 use Rattle.opening_bench.specs.Commands.{Searches, source_limit}
-use Rattle.opening_bench.specs.Disks.{of_look}
 use Rattle.opening_bench.specs.Steps.{AcceptsAsked, AnswersLook, RefusesBytes, says_nothing_of_bytes}
 use Rattle.opening_bench.specs.declared.commands.generate.TheConstants.{GENERATE_PIECES}
-use Rattle.opening_bench.proofs.JournalLemmas.{room_silent}
+use Rattle.opening_bench.proofs.JournalLemmas.{journal_silence, room_silent}
 
 -- ---- a look, and the program's own refusal
 
 same_silence : (fault : LookRefusal) → says_nothing_of_bytes (of_look fault) ≡ says_nothing fault
-same_silence (look.Journal journal.DiskFault) = refl
-same_silence (look.Journal journal.NotAJournal) = refl
-same_silence (look.Journal (journal.OtherTable found asked)) = refl
-same_silence (look.Journal (journal.Damaged at)) = refl
-same_silence (look.Journal (journal.Memory error)) = refl
+same_silence (look.Journal cause) = journal_silence cause
 same_silence (look.NoRoot n) = refl
 same_silence (look.UnsettledRoot n) = refl
 

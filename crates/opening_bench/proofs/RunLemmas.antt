@@ -9,6 +9,7 @@ use Rattle.bench_edges.specs.declared.status.Status.{Status}
 use Rattle.bench_edges.specs.declared.status.Status.TheVariants.{Done, Unsolved, Write}
 use Rattle.bench_edges.specs.declared.words.Command.{Command}
 use Rattle.bench_edges.specs.declared.words.Command.TheVariants.{Solve, Report, Certify, Generate}
+use Rattle.journal_looks.specs.Conversions.{of_look}
 use Rattle.opening_report.specs.Report.{ValuesAreTrue}
 use Rattle.opening_report.specs.declared.refusals.Refusal.{Refusal}
 use Rattle.opening_report.specs.declared.refusals.Refusal.TheVariants as refusal
@@ -19,7 +20,7 @@ use Rattle.program_edges.specs.Sources.{IsCutShort, IsInput}
 use Rattle.program_edges.specs.Statuses.{status_of}
 use Rattle.opening_bench.specs.Bench.{ComesBeforeDisk, ComesToDisk, Finishes, IsCommandRefusal, ReadsSource, Refuses, Reports, TakesAtMost}
 use Rattle.opening_bench.specs.Commands.{source_limit}
-use Rattle.opening_bench.specs.Disks.{LeavesDisk, of_look}
+use Rattle.opening_bench.specs.Disks.{LeavesDisk}
 use Rattle.opening_bench.specs.Runs.{HandsOut, RunsCommand}
 use Rattle.opening_bench.specs.Steps.{AcceptsBytes, AnswersBytes, AnswersLook, IsAnswer, IsLineOf, RefusesBytes, SaysTrue, says_nothing_of_bytes}
 use Rattle.opening_report.specs.declared.written.Written.{Written}

@@ -26,7 +26,7 @@ use Rattle.pdn_openings.proofs.Determined.{one_list}
 use Rattle.proof_tree.specs.Forest.{Forest}
 use Rattle.journal_runs.specs.Ample.{IsAmple}
 use Rattle.journal_runs.specs.Journals.{ReportsTruth, Resumes}
-use Rattle.journal_runs.proofs.UnreadLemmas.{reads_once}
+use Rattle.tree_manager.proofs.ExactLemmas.{files_read_as_one_list}
 use Rattle.opening_report.specs.Conversions.{of_pdn, of_openings}
 use Rattle.opening_report.specs.declared.refusals.Refusal.TheVariants as refusal
 use Rattle.opening_report.specs.declared.roots.Root.{Root}
@@ -123,7 +123,7 @@ module _ {D : Type 0} (g : Ghosts D) where
   ample_settles : (text_of : Forest → List ℕ) (pieces depth budget : ℕ) (positions : List Board) (old new : D) (text : List ℕ) (settled : Bool) → HasAmpleBudget g pieces depth budget positions old
       → Resumes g text_of pieces depth budget positions old new text settled → settled ≡ true
   ample_settles text_of pieces depth budget positions old new text settled ample resumed =
-      resumed.ample (subst (IsAmple pieces depth budget positions) (reads_once pieces (g.reads old) ample.records resumed.before ample.read resumed.read_then) ample.ample)
+      resumed.ample (subst (IsAmple pieces depth budget positions) (files_read_as_one_list pieces (g.reads old) ample.records resumed.before ample.read resumed.read_then) ample.ample)
 
   -- a run for which the budget is ample leaves no root unsettled
   pub ample_solves : (options : Options) (source before after : Option (List ℕ)) (old new : D) (status : Status)

@@ -1,8 +1,8 @@
 -- Three words by command say all that a command is to its disk: what it leaves of it, what its
 -- output shows of it, and why it is refused for it. A new command has a case in each.
-use Rattle.std.specs.Prelude.{◌≡◌, ◌⊎◌, ℕ, Bool, List}
+use Rattle.std.specs.Prelude.{◌≡◌, ℕ, Bool, List}
 use Rattle.bench_disk.specs.declared.disk.Disk.{Ghosts}
-use Rattle.bench_disk.specs.Disk.{IsHonest, NothingPending, Stays}
+use Rattle.bench_disk.specs.Disk.{IsHonest, Stays}
 use Rattle.shared_words.specs.Counts.{Rose}
 use Rattle.draughts_board.specs.Board.{Board}
 use Rattle.bench_edges.specs.declared.words.Command.{Command}
@@ -13,61 +13,32 @@ use Rattle.certificate_text.specs.Text.{ReadsAs}
 use Rattle.disk_journal.specs.declared.refusal.JournalRefusal.TheVariants as journal
 use Rattle.pdn_openings.specs.declared.opening.Opening.{Opening}
 use Rattle.strategy_certificate.specs.declared.certificates.Certificate.{Certificate}
-use Rattle.opening_report.specs.Conversions.{of_journal}
 use Rattle.opening_report.specs.Report.{forest_roots, report_of, summary_line}
 use Rattle.opening_report.specs.declared.refusals.Refusal.{Refusal}
-use Rattle.opening_report.specs.declared.refusals.Refusal.TheVariants as refusal
+use Rattle.journal_looks.specs.Conversions.{of_look}
 use Rattle.journal_looks.specs.Looks.{Shows, Certifies, ExplainsNoReport, ExplainsNoCertificate}
 use Rattle.journal_looks.specs.declared.refusals.LookRefusal.{LookRefusal}
 use Rattle.journal_looks.specs.declared.refusals.LookRefusal.TheVariants as look
-use Rattle.journal_runs.specs.Journals.{KeepsJournal, Resumes, IsCaused}
-use Rattle.journal_runs.specs.declared.refusals.JournalFlaw.{JournalFlaw}
-use Rattle.journal_runs.specs.declared.refusals.JournalFlaw.TheVariants as flaw
+use Rattle.journal_runs.specs.Conversions.{of_run}
+use Rattle.journal_runs.specs.Journals.{LeavesJournal, Resumes, IsCaused}
 use Rattle.journal_runs.specs.declared.refusals.RunRefusal.{RunRefusal}
 use Rattle.journal_runs.specs.declared.refusals.RunRefusal.TheVariants as run
 use Rattle.opening_bench.specs.Solving.{OpeningsOf, roots_of_openings}
 use Rattle.opening_bench.specs.declared.commands.generate.TheConstants.{GENERATE_DEPTH, GENERATE_PIECES}
 
--- ---- refusals of a crate below, as the program's own
-
--- of bytes that are no journal for the tables that are asked for
-abbrev pub of_flaw : JournalFlaw → Refusal
-of_flaw flaw.NotAJournal = refusal.NotAJournal
-of_flaw (flaw.OtherTable found asked) = refusal.OtherTable found asked
-of_flaw (flaw.Damaged at) = refusal.Damaged at
-
--- of a run on a journal
-abbrev pub of_run : RunRefusal → Refusal
-of_run run.Disk = refusal.Disk
-of_run (run.Journal flaw) = of_flaw flaw
-of_run run.TooManyRoots = refusal.TooManyRoots
-of_run run.Memory = refusal.Memory
-
--- of a look at a journal
-abbrev pub of_look : LookRefusal → Refusal
-of_look (look.Journal fault) = of_journal fault
-of_look (look.NoRoot n) = refusal.NoRoot n
-of_look (look.UnsettledRoot n) = refusal.UnsettledRoot n
-
 -- ---- of the disk at entry, and of the disk that is handed back
 
 module _ {D : Type 0} (g : Ghosts D) where
-  -- What is left of the disk, however the run ends. A run that begins with nothing pending keeps
-  -- the journal, a look at it leaves it, and the others make no call of the disk.
+  -- What is left of the disk, however the run ends. A run that searches keeps the journal, a look at
+  -- it leaves it, and the others make no call of the disk.
   abbrev pub LeavesDisk : Command → D → D → Type 0
-  LeavesDisk (Solve options) old new =
-      (new ≡ old)
-      ⊎ (IsHonest g.TELLS → NothingPending (g.reads old) (g.images old)
-      → KeepsJournal g options.pieces old new)
+  LeavesDisk (Solve options) old new = LeavesJournal g options.pieces old new
   LeavesDisk Report old new = IsHonest g.TELLS → Stays g.reads g.images old new
   LeavesDisk (Certify root) old new = IsHonest g.TELLS → Stays g.reads g.images old new
   LeavesDisk Verify old new = new ≡ old
   LeavesDisk (MakeTable pieces) old new = new ≡ old
   LeavesDisk TableCheck old new = new ≡ old
-  LeavesDisk (Generate seed count) old new =
-      (new ≡ old)
-      ⊎ (IsHonest g.TELLS → NothingPending (g.reads old) (g.images old)
-      → KeepsJournal g GENERATE_PIECES old new)
+  LeavesDisk (Generate seed count) old new = LeavesJournal g GENERATE_PIECES old new
 
   -- The run went on from what the disk read as, with the source's openings.
   pub record HasResumed (options : Options) (source : List ℕ) (old new : D) (text : List ℕ)
@@ -105,7 +76,7 @@ module _ {D : Type 0} (g : Ghosts D) where
       : Type 0 where
     pub fault : RunRefusal
     pub is : r ≡ of_run fault
-    pub disk : fault ≡ run.Disk → Rose (g.faults old) (g.faults new)
+    pub disk : fault ≡ run.Journal journal.DiskFault → Rose (g.faults old) (g.faults new)
     pub caused : IsHonest g.TELLS → IsCaused pieces positions (g.reads old) fault
 
   -- A look at the disk is refused: its faults rose, or what it reads as explains it so.

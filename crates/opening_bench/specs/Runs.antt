@@ -18,6 +18,7 @@ use Rattle.capture_positions.specs.Walk.{openings_from}
 use Rattle.certificate_text.specs.Text.{ReadsAs}
 use Rattle.endgame_table.specs.Bytes.{bytes_of}
 use Rattle.endgame_table.specs.Entries.{IsTable}
+use Rattle.journal_looks.specs.Conversions.{of_look}
 use Rattle.journal_looks.specs.Looks.{HasSettledRoot}
 use Rattle.journal_looks.specs.declared.refusals.LookRefusal.{LookRefusal}
 use Rattle.pdn_openings.specs.declared.opening.Opening.{Opening}
@@ -29,7 +30,7 @@ use Rattle.opening_report.specs.declared.refusals.Refusal.{Refusal}
 use Rattle.opening_bench.specs.Accepted.{Accepts, HasAmpleBudget, HasAsked, HasLookCause, HasRoom, IsRefusedFor, IsUnrefused}
 use Rattle.opening_bench.specs.Bench.{ComesToDisk, Does, Finishes, HoldsOpenings, IsCommandRefusal, IsRefusalByWords, IsRefused, ReadsSource, Refuses, Reports, TakesAtMost, WritesOnly}
 use Rattle.opening_bench.specs.Commands.{source_limit}
-use Rattle.opening_bench.specs.Disks.{LeavesDisk, of_look}
+use Rattle.opening_bench.specs.Disks.{LeavesDisk}
 use Rattle.opening_bench.specs.Solving.{OpeningsOf, roots_of_openings}
 use Rattle.opening_bench.specs.declared.commands.generate.TheConstants.{GENERATE_DEPTH, GENERATE_PIECES}
 use Rattle.opening_bench.specs.declared.commands.solve.TheConstants.{GAMES_LIMIT}

@@ -5,6 +5,7 @@ use Rattle.shared_words.specs.Answers.{Unless}
 use Rattle.bench_disk.specs.Disk.{IsHonest}
 use Rattle.draughts_board.specs.Board.{Board}
 use Rattle.bench_edges.specs.declared.words.Command.{Command}
+use Rattle.journal_looks.specs.Conversions.{of_look}
 use Rattle.journal_looks.specs.declared.refusals.LookRefusal.{LookRefusal}
 use Rattle.pdn_openings.specs.declared.opening.Opening.{Opening}
 use Rattle.opening_report.specs.Lines.{IsLine}
@@ -16,7 +17,7 @@ use Rattle.opening_report.specs.declared.refusals.Refusal.TheVariants as refusal
 use Rattle.opening_bench.specs.Accepted.{IsGoodFor, HasAsked, HasLookCause, HasRoomFor, IsUnrefused}
 use Rattle.opening_bench.specs.Bench.{ComesBeforeDisk}
 use Rattle.opening_bench.specs.Commands.{Answers, HasFault}
-use Rattle.opening_bench.specs.Disks.{LeavesDisk, ShowsDisk, HasDiskFault, of_look}
+use Rattle.opening_bench.specs.Disks.{LeavesDisk, ShowsDisk, HasDiskFault}
 use Rattle.opening_bench.specs.Solving.{OpeningsOf, roots_of_openings}
 use Rattle.opening_report.specs.declared.written.Written.{Written}
 

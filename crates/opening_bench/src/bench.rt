@@ -12,6 +12,7 @@ ghost use Rattle.certificate_text.specs.Text.{ReadsAs};
 ghost use Rattle.endgame_table.specs.Bytes.{bytes_of};
 ghost use Rattle.endgame_table.specs.Entries.{IsTable};
 ghost use Rattle.journal_looks.specs.Looks.{HasSettledRoot};
+ghost use Rattle.journal_looks.specs.Conversions.{of_look};
 ghost use Rattle.journal_looks.specs.declared.refusals.LookRefusal.{LookRefusal};
 ghost use Rattle.pdn_openings.specs.declared.opening.Opening.{Opening};
 ghost use Rattle.strategy_certificate.specs.Certificates.{IsGood};
@@ -21,7 +22,7 @@ ghost use Rattle.opening_report.specs.Report.{ValuesAreTrue};
 ghost use Rattle.opening_bench.specs.Accepted.{HasAmpleBudget, HasLookCause, HasRoom, IsRefusedFor, IsUnrefused};
 ghost use Rattle.opening_bench.specs.Bench.{ComesToDisk, Does, Finishes, HoldsOpenings, IsRefusalByWords, IsRefused, ReadsSource, Refuses, Reports, TakesAtMost, WritesOnly};
 ghost use Rattle.opening_bench.specs.Commands.{source_limit};
-ghost use Rattle.opening_bench.specs.Disks.{LeavesDisk, of_look};
+ghost use Rattle.opening_bench.specs.Disks.{LeavesDisk};
 ghost use Rattle.opening_bench.specs.Solving.{OpeningsOf, roots_of_openings};
 
 use crate::commands::generate::{GENERATE_DEPTH, GENERATE_PIECES};

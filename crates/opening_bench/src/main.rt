@@ -21,7 +21,6 @@ mod ended;
 mod handing_back_tests;
 #[cfg(test)]
 mod journal_tests;
-mod looking;
 mod progress;
 #[cfg(test)]
 mod progress_tests;

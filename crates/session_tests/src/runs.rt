@@ -2,15 +2,15 @@
 //!
 //! Each function here is proved too, and dearly while it holds a disk: so a run answers plain values beside its disk, and the
 //! tests compare those.
-ghost use Rattle.std.specs.Prelude.{◌≡◌, ◌≤◌};
+ghost use Rattle.std.specs.Prelude.{◌≤◌};
 ghost use Rattle.bench_core.specs.declared.settings.TheConstants.{MOST_WORK};
 
 use bench_core::Settings;
 use bench_disk::MemoryDisk;
+use disk_journal::JournalRefusal;
 use draughts_board::Position;
-use endgame_table::{Table, fill};
 use fen_text::read_fen;
-use journal_runs::{Account, JournalFlaw, RunRefusal, solve};
+use journal_runs::{Account, Plan, RunRefusal, solve};
 use opening_report::Written;
 use std::alloc::Global;
 use std::sync::Wait;
@@ -34,29 +34,21 @@ fn run_on<R: Threads + Wait + Sync>(
     disk: MemoryDisk,
     budget: u32,
     positions: &[Position],
-    table: &Table,
     text: &str,
 ) -> (MemoryDisk, Told)
-    requires pieces { table.now.pieces ≡ 2 }
-    requires budget { budget ≤ MOST_WORK }
+    requires { budget ≤ MOST_WORK }
 {
-    let settings = Settings {
-        pieces: 2,
-        depth: 1,
-        budget,
-        lease: 1,
+    let plan = Plan {
+        settings: Settings {
+            pieces: 2,
+            depth: 1,
+            budget,
+            lease: 1,
+        },
+        workers: 3,
+        account: Account::Report,
     };
-    let (disk, answer) = solve(
-        rt,
-        alloc,
-        disk,
-        settings,
-        3,
-        positions,
-        table,
-        &OpenGate,
-        Account::Report,
-    );
+    let (disk, answer) = solve(rt, alloc, disk, &plan, positions, &OpenGate);
     (disk, told(answer, text))
 }
 
@@ -69,9 +61,8 @@ fn run_once<R: Threads + Wait + Sync>(
     text: &str,
     left: &[u8],
 ) -> Result<(Told, bool), Fail> {
-    let table = fill(alloc, 2)?;
     let disk = MemoryDisk::of(alloc, bytes.to_vec(alloc)?)?;
-    let (disk, told) = run_on(rt, alloc, disk, 1, positions, &table, text);
+    let (disk, told) = run_on(rt, alloc, disk, 1, positions, text);
     Ok((told, disk.bytes() == left))
 }
 
@@ -103,23 +94,19 @@ fn run_on_and_on<R: Threads + Wait + Sync>(
     rt: &R,
     alloc: Global,
     both: &[Position; 2],
-    table: &Table,
-) -> [Told; 3]
-    requires { table.now.pieces ≡ 2 }
-{
+) -> [Told; 3] {
     let disk = MemoryDisk::new(alloc);
-    let (disk, first) = run_on(rt, alloc, disk, 1, &both[..1], table, TEXTS[0]);
-    let (disk, second) = run_on(rt, alloc, disk, 0, both, table, TEXTS[1]);
-    let (_, third) = run_on(rt, alloc, disk, 5, &[], table, TEXTS[2]);
+    let (disk, first) = run_on(rt, alloc, disk, 1, &both[..1], TEXTS[0]);
+    let (disk, second) = run_on(rt, alloc, disk, 0, both, TEXTS[1]);
+    let (_, third) = run_on(rt, alloc, disk, 5, &[], TEXTS[2]);
     [first, second, third]
 }
 
 #[test]
 fn goes_on_where_the_budget_was_spent(rt: HostRuntime) -> Result<(), Fail> {
     let both = [read_fen(b"W:W16,23:B12")?, read_fen(b"B:W21:B10,17")?];
-    let table = fill(rt.alloc(), 2)?;
     let due = [Ok((true, true)), Ok((true, false)), Ok((true, true))];
-    assert_eq!(rt; run_on_and_on(&rt, rt.alloc(), &both, &table), due);
+    assert_eq!(rt; run_on_and_on(&rt, rt.alloc(), &both), due);
     Ok(())
 }
 
@@ -127,7 +114,7 @@ fn goes_on_where_the_budget_was_spent(rt: HostRuntime) -> Result<(), Fail> {
 fn refuses_what_is_no_journal(rt: HostRuntime) -> Result<(), Fail> {
     let bytes = b"hello worl";
     let run = run_once(&rt, rt.alloc(), bytes, &[], "", bytes)?;
-    let refusal = RunRefusal::Journal(JournalFlaw::NotAJournal);
+    let refusal = RunRefusal::Journal(JournalRefusal::NotAJournal);
     assert_eq!(rt; run, (Err(refusal), true));
     Ok(())
 }

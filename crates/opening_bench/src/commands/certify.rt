@@ -8,7 +8,6 @@ ghost use Rattle.opening_bench.specs.Bench.{ComesBeforeDisk};
 ghost use Rattle.opening_bench.specs.Disks.{LeavesDisk};
 ghost use Rattle.opening_bench.specs.Steps.{AcceptsAsked, AnswersBytes, AnswersLook, RefusesBytes, SaysTrue};
 
-use crate::looking::refusal_of;
 use bench_disk::Disk;
 use certificate_text::print_certificate;
 use opening_report::{Refusal, Written};
@@ -44,6 +43,6 @@ pub(crate) fn certify<D: Disk>(alloc: Global, root: u32, disk: D) -> (D, Result<
     let mut disk = disk;
     match journal_looks::certify(alloc, &mut disk, root) {
         Ok(certificate) => (disk, certificate_text(alloc, &certificate)),
-        Err(refusal) => (disk, Err(refusal_of(refusal))),
+        Err(refusal) => (disk, Err(Refusal::from(refusal))),
     }
 }

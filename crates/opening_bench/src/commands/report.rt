@@ -5,7 +5,6 @@ ghost use Rattle.opening_bench.specs.Bench.{ComesBeforeDisk};
 ghost use Rattle.opening_bench.specs.Disks.{LeavesDisk};
 ghost use Rattle.opening_bench.specs.Steps.{AcceptsAsked, AnswersBytes, AnswersLook, RefusesBytes, SaysTrue};
 
-use crate::looking::refusal_of;
 use bench_disk::Disk;
 use opening_report::{Refusal, Written};
 use std::alloc::Global;
@@ -28,6 +27,6 @@ pub(crate) fn report<D: Disk>(alloc: Global, disk: D) -> (D, Result<Written, Ref
     let mut disk = disk;
     match journal_looks::report(alloc, &mut disk) {
         Ok(written) => (disk, Ok(written)),
-        Err(refusal) => (disk, Err(refusal_of(refusal))),
+        Err(refusal) => (disk, Err(Refusal::from(refusal))),
     }
 }

@@ -3,10 +3,10 @@ ghost use Rattle.std.specs.Prelude.{◌≡◌, IfOk, IfErr};
 ghost use Rattle.bench_disk.specs.Disk.{IsHonest};
 ghost use Rattle.bench_edges.specs.Words.{IsWithinLimits};
 ghost use Rattle.bench_edges.specs.declared.words.Command.TheVariants as commands;
-ghost use Rattle.journal_runs.specs.Journals.{ReportsTruth, Resumes};
-ghost use Rattle.opening_report.specs.Report.{forest_roots, report_of};
+ghost use Rattle.journal_runs.specs.Journals.{IsTrueAccount, LeavesJournal, Resumes, account_of};
+ghost use Rattle.journal_runs.specs.Limits.{AreWithinLimits};
 ghost use Rattle.opening_bench.specs.Bench.{ComesBeforeDisk};
-ghost use Rattle.opening_bench.specs.Disks.{IsRefusedRun, LeavesDisk, of_flaw, of_run};
+ghost use Rattle.opening_bench.specs.Disks.{IsRefusedRun, LeavesDisk};
 ghost use Rattle.opening_bench.specs.Solving.{roots_of_openings};
 ghost use Rattle.opening_bench.specs.Steps.{AcceptsBytes, AnswersBytes, AreRootsIn, IsAnswerFault, IsAnswerFaultOnly, RefusesBytes, SaysTrue};
 
@@ -14,9 +14,8 @@ use bench_core::Settings;
 use bench_disk::Disk;
 use bench_edges::Options;
 use draughts_board::Position;
-use endgame_table::fill;
 use indexmap::IndexSet;
-use journal_runs::{Account, JournalFlaw, RunRefusal};
+use journal_runs::{Account, Plan};
 use opening_report::{Refusal, Written};
 use pdn_openings::{Opening, openings};
 use pdn_text::read_games;
@@ -51,75 +50,32 @@ fn roots_in(alloc: Global, options: &Options, text: &[u8]) -> Result<IndexSet<Po
     Ok(distinct_positions(alloc, &found)?)
 }
 
-/// The refusal of bytes that are no journal for the tables that are asked for.
-fn refusal_of_flaw(flaw: JournalFlaw) -> Refusal
-    ensures { result ≡ of_flaw flaw }
-{
-    match flaw {
-        JournalFlaw::NotAJournal => Refusal::NotAJournal,
-        JournalFlaw::OtherTable { found, asked } => Refusal::OtherTable { found, asked },
-        JournalFlaw::Damaged(at) => Refusal::Damaged(at),
-    }
-}
-
-/// The refusal of a run on a journal.
-pub(crate) fn refusal_of(refusal: RunRefusal) -> Refusal
-    ensures { result ≡ of_run refusal }
-{
-    match refusal {
-        RunRefusal::Disk => Refusal::Disk,
-        RunRefusal::Journal(flaw) => refusal_of_flaw(flaw),
-        RunRefusal::TooManyRoots => Refusal::TooManyRoots,
-        RunRefusal::Memory => Refusal::Memory,
-    }
-}
-
-/// Runs on the journal of the disk with these positions.
-fn run_with<R: Threads + Wait + Sync, D: Disk + Send, G: Gate + Sync>(
+/// Runs on the journal of the disk by a plan, with these positions.
+pub(crate) fn run_by<R: Threads + Wait + Sync, D: Disk + Send, G: Gate + Sync>(
     rt: &R,
     alloc: Global,
-    options: &Options,
+    plan: &Plan,
     positions: &[Position],
     disk: D,
     gate: &G,
 ) -> (D, Result<Written, Refusal>)
-    requires { IsWithinLimits (commands.Solve options.now) }
-    ensures leaves { LeavesDisk D.Disk
-        (commands.Solve options.now) disk result.0 }
+    requires { AreWithinLimits plan.now.settings }
+    ensures leaves { LeavesJournal D.Disk plan.now.settings.pieces disk result.0 }
     ensures resumes { IsHonest D.TELLS → IfOk result.1 (λ output.
         Resumes D.Disk
-        (λ roots. report_of (forest_roots roots)) options.now.pieces options.now.depth
-        options.now.budget positions.now disk result.0 output.text.items output.is_settled) }
-    ensures values { IfOk result.1 (λ output. ReportsTruth positions.now output.text.items) }
+        (account_of plan.now.account) plan.now.settings.pieces plan.now.settings.depth
+        plan.now.settings.budget positions.now disk result.0 output.text.items
+        output.is_settled) }
+    ensures shows { IfOk result.1
+        (λ output. IsTrueAccount plan.now.account positions.now output.text.items) }
     ensures refused { IfErr result.1
-        (IsRefusedRun D.Disk
-        options.now.pieces positions.now disk result.0) }
-    ensures unused { IfErr result.1 (λ r. ComesBeforeDisk r → result.0 ≡ disk) }
+        (IsRefusedRun D.Disk plan.now.settings.pieces positions.now disk result.0) }
+    ensures used { IfErr result.1 (λ r. ComesBeforeDisk r → ⊥) }
 {
-    let table = match fill(alloc, options.pieces) {
-        Ok(table) => table,
-        Err(AllocError) => return (disk, Err(Refusal::Memory)),
-    };
-    let settings = Settings {
-        pieces: options.pieces,
-        depth: options.depth,
-        budget: options.budget,
-        lease: options.lease,
-    };
-    let (disk, answer) = journal_runs::solve(
-        rt,
-        alloc,
-        disk,
-        settings,
-        options.workers,
-        positions,
-        &table,
-        gate,
-        Account::Report,
-    );
+    let (disk, answer) = journal_runs::solve(rt, alloc, disk, plan, positions, gate);
     match answer {
         Ok(written) => (disk, Ok(written)),
-        Err(refusal) => (disk, Err(refusal_of(refusal))),
+        Err(refusal) => (disk, Err(Refusal::from(refusal))),
     }
 }
 
@@ -147,8 +103,18 @@ pub(crate) fn solve<R: Threads + Wait + Sync, D: Disk + Send, G: Gate + Sync>(
         (commands.Solve options.now) text.now disk) }
     ensures unused { IfErr result.1 (λ r. ComesBeforeDisk r → result.0 ≡ disk) }
 {
+    let plan = Plan {
+        settings: Settings {
+            pieces: options.pieces,
+            depth: options.depth,
+            budget: options.budget,
+            lease: options.lease,
+        },
+        workers: options.workers,
+        account: Account::Report,
+    };
     match roots_in(alloc, options, text) {
-        Ok(positions) => run_with(rt, alloc, options, positions.as_slice(), disk, gate),
+        Ok(positions) => run_by(rt, alloc, &plan, positions.as_slice(), disk, gate),
         Err(refusal) => (disk, Err(refusal)),
     }
 }

@@ -1,14 +1,34 @@
+use Rattle.std.proofs.Common.{refl}
+use Rattle.std.proofs.lemmas.Result.{err_from_is_err_and}
 use Rattle.journal_looks.proofs.FileLemmas.{explained_by_none}
 use Rattle.journal_looks.proofs.LookLemmas.{report_read, report_unread}
 use Rattle.journal_looks.proofs.looks.report.Goals as goal
 
-pub returns-in-Err-clause-causes : goal.returns-in-Err-clause-causes
-returns-in-Err-clause-causes g c honest = report_unread _ (g.D.Disk.reads c.args.disk.now) c.in-Err.refusal (c.in-Err.ensures.refused honest)
+pub returns-in_err-bench-clause-causes : goal.returns-in_err-bench-clause-causes
+returns-in_err-bench-clause-causes g c honest =
+    let p = err_from_is_err_and c.from_residual.result c.from_residual.ensures.1 in
+    rw (p.1, p.2) (report_unread _ (g.D.Disk.reads c.args.disk.now) c.in_err-bench.field-0.0 (c.in_err-bench.ensures.refused honest))
 
-pub returns-in-Err-clause-accepted : goal.returns-in-Err-clause-accepted
-returns-in-Err-clause-accepted g c honest k records read =
-    explained_by_none k (g.D.Disk.reads c.args.disk.now) records c.in-Err.refusal read (c.in-Err.ensures.refused honest)
+pub returns-in_err-bench-clause-accepted : goal.returns-in_err-bench-clause-accepted
+returns-in_err-bench-clause-accepted g c honest k records read =
+    let p = err_from_is_err_and c.from_residual.result c.from_residual.ensures.1 in
+    rw (p.1, p.2) (explained_by_none k (g.D.Disk.reads c.args.disk.now) records c.in_err-bench.field-0.0 read (c.in_err-bench.ensures.refused honest))
 
-pub returns-in-Ok-looked_of-clause-causes : goal.returns-in-Ok-looked_of-clause-causes
-returns-in-Ok-looked_of-clause-causes g c honest =
-    report_read _ c.in-Ok.read.1.pieces (g.D.Disk.reads c.args.disk.now) c.in-Ok.read.0.state.forest _ (c.in-Ok.ensures.forest honest)
+pub returns-clause-causes : goal.returns-clause-causes
+returns-clause-causes g c honest =
+    report_read _ c.in_ok-bench.table.pieces (g.D.Disk.reads c.args.disk.now) c.in_ok-bench.bench.state.forest _ (c.in_ok-bench.ensures.forest honest)
+
+pub returns-in_err-looked_of-clause-refused : goal.returns-in_err-looked_of-clause-refused
+returns-in_err-looked_of-clause-refused g c honest =
+    let p = err_from_is_err_and c.from_residual-in_err-looked_of.result c.from_residual-in_err-looked_of.ensures.1 in
+    rw (p.1, p.2) tt
+
+pub returns-in_err-looked_of-clause-causes : goal.returns-in_err-looked_of-clause-causes
+returns-in_err-looked_of-clause-causes g c honest cause stands =
+    let p = err_from_is_err_and c.from_residual-in_err-looked_of.result c.from_residual-in_err-looked_of.ensures.1 in
+    rw (p.1, p.2) tt
+
+pub returns-in_err-looked_of-clause-accepted : goal.returns-in_err-looked_of-clause-accepted
+returns-in_err-looked_of-clause-accepted g c honest k records read =
+    let p = err_from_is_err_and c.from_residual-in_err-looked_of.result c.from_residual-in_err-looked_of.ensures.1 in
+    rw (p.1, p.2) refl

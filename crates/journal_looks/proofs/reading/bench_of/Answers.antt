@@ -7,8 +7,8 @@ use Rattle.journal_looks.proofs.reading.bench_of.Goals as goal
 
 pub replay_payloads-requires-clause-table : goal.replay_payloads-requires-clause-table
 replay_payloads-requires-clause-table c =
-    let answer = answers c.in-Ok.table.pieces c.in-Ok.table.numbers in
-    (answer, subst (λ n. IsSoundTable draughts n answer) c.in-Ok.ensures.pieces c.in-Ok.ensures.table.sound)
+    let answer = answers c.in_ok-table.table.pieces c.in_ok-table.table.numbers in
+    (answer, subst (λ n. IsSoundTable draughts n answer) c.in_ok-table.ensures.pieces c.in_ok-table.ensures.table.sound)
 
 pub returns-clause-same : goal.returns-clause-same
-returns-clause-same c = c.in-Ok.ensures.pieces ∙ sym (replayed_pieces _ c.in_ok-bench.bench c.in_ok-bench.ensures.replayed)
+returns-clause-same c = c.in_ok-table.ensures.pieces ∙ sym (replayed_pieces _ c.in_ok-bench.bench c.in_ok-bench.ensures.replayed)

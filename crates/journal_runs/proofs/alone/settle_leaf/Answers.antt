@@ -1,4 +1,4 @@
-use Rattle.std.proofs.Common.{◌≡◌, ◌+◌, ◌∙◌, ap}
+use Rattle.std.proofs.Common.{◌+◌, ◌∙◌, ap}
 use Rattle.bench_core.specs.Cores.{Core}
 use Rattle.tree_manager.specs.declared.entries.Entry.TheVariants.{Acked}
 use Rattle.journal_runs.proofs.TurnLemmas.{failed_now, grows_failed, grows_one, grows_then, grows_two, is_staged, no_leaf, outcome_works, settings_stay, work_rises}

@@ -7,11 +7,11 @@ use Rattle.journal_runs.proofs.runs.report_on.Goals as goal
 pub report_text-requires : goal.report_text-requires
 report_text-requires g c = tables_there _ _ _ c.requires c.bench.ensures.stands ∙ sym (ap (λ (k : Core). k.state.settings.pieces) c.bench.ensures.core)
 
-pub returns-in-Ok-clause-text : goal.returns-in-Ok-clause-text
-returns-in-Ok-clause-text g c = c.in-Ok.ensures.text ∙ ap (λ (k : Core). report_of (forest_roots k.state.forest)) c.bench.ensures.core
+pub returns-clause-text : goal.returns-clause-text
+returns-clause-text g c = c.in_ok-text.ensures.text ∙ ap (λ (k : Core). report_of (forest_roots k.state.forest)) c.bench.ensures.core
 
-pub returns-in-Ok-clause-values : goal.returns-in-Ok-clause-values
-returns-in-Ok-clause-values g c = subst (λ (k : Core). AreTrueRoots (forest_roots k.state.forest)) c.bench.ensures.core c.in-Ok.ensures.values
+pub returns-clause-values : goal.returns-clause-values
+returns-clause-values g c = subst (λ (k : Core). AreTrueRoots (forest_roots k.state.forest)) c.bench.ensures.core c.in_ok-text.ensures.values
 
-pub returns-in-Ok-clause-few : goal.returns-in-Ok-clause-few
-returns-in-Ok-clause-few g c = subst (λ (k : Core). length (forest_roots k.state.forest) ≤ 65536) c.bench.ensures.core c.in-Ok.ensures.few
+pub returns-clause-few : goal.returns-clause-few
+returns-clause-few g c = subst (λ (k : Core). length (forest_roots k.state.forest) ≤ 65536) c.bench.ensures.core c.in_ok-text.ensures.few

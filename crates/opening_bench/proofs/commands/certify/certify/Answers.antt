@@ -17,14 +17,14 @@ pub returns-in-Ok-clause-looked : goal.returns-in-Ok-clause-looked
 returns-in-Ok-clause-looked g c honest cause stands = absurd (no_error c.in-Ok.certificate cause (c.in-Ok.ensures.causes honest cause stands))
 
 pub returns-in-Err-clause-asked : goal.returns-in-Err-clause-asked
-returns-in-Err-clause-asked g c asked = look_accepts c.in-Err.refusal c.refusal_of.result c.refusal_of.ensures (c.in-Err.ensures.accepted asked.0 asked.1)
+returns-in-Err-clause-asked g c asked = look_accepts c.in-Err.refusal c.from.result c.from.ensures (c.in-Err.ensures.accepted asked.0 asked.1)
 
 pub returns-in-Err-clause-leaves : goal.returns-in-Err-clause-leaves
 returns-in-Err-clause-leaves g c = reads_stays g.D.Disk g.met.D.Disk.now_counts _ _ _ c.in-Err.ensures.reads
 
 pub returns-in-Err-clause-looked : goal.returns-in-Err-clause-looked
-returns-in-Err-clause-looked g c honest cause stands = look_answers _ _ c.in-Err.refusal cause c.refusal_of.result c.refusal_of.ensures (c.in-Err.ensures.causes honest cause stands)
+returns-in-Err-clause-looked g c honest cause stands = look_answers _ _ c.in-Err.refusal cause c.from.result c.from.ensures (c.in-Err.ensures.causes honest cause stands)
 
 pub returns-in-Err-clause-refused : goal.returns-in-Err-clause-refused
 returns-in-Err-clause-refused g c =
-    uncertified g.D.Disk _ c.args.root c.args.disk c.certify.new.disk c.in-Err.refusal c.refusal_of.result c.refusal_of.ensures c.in-Err.ensures.reads.cause c.in-Err.ensures.refused
+    uncertified g.D.Disk _ c.args.root c.args.disk c.certify.new.disk c.in-Err.refusal c.from.result c.from.ensures c.in-Err.ensures.reads.cause c.in-Err.ensures.refused

@@ -14,10 +14,10 @@ returns-in-Ok-clause-looked g c honest cause stands = absurd (no_error c.in-Ok.w
 
 pub returns-in-Err-clause-asked : goal.returns-in-Err-clause-asked
 returns-in-Err-clause-asked g c asked =
-    look_accepts c.in-Err.refusal c.refusal_of.result c.refusal_of.ensures (c.in-Err.ensures.accepted asked.0 asked.1.0 asked.1.1.0 asked.1.1.1)
+    look_accepts c.in-Err.refusal c.from.result c.from.ensures (c.in-Err.ensures.accepted asked.0 asked.1.0 asked.1.1.0 asked.1.1.1)
 
 pub returns-in-Err-clause-leaves : goal.returns-in-Err-clause-leaves
 returns-in-Err-clause-leaves g c = reads_stays g.D.Disk g.met.D.Disk.now_counts _ _ _ c.in-Err.ensures.reads
 
 pub returns-in-Err-clause-looked : goal.returns-in-Err-clause-looked
-returns-in-Err-clause-looked g c honest cause stands = look_answers _ _ c.in-Err.refusal cause c.refusal_of.result c.refusal_of.ensures (c.in-Err.ensures.causes honest cause stands)
+returns-in-Err-clause-looked g c honest cause stands = look_answers _ _ c.in-Err.refusal cause c.from.result c.from.ensures (c.in-Err.ensures.causes honest cause stands)

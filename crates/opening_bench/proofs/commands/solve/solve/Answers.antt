@@ -4,13 +4,13 @@ use Rattle.opening_bench.proofs.SolvingLemmas.{run_says}
 use Rattle.opening_bench.proofs.commands.solve.solve.Goals as goal
 
 pub returns-in-Ok-clause-says : goal.returns-in-Ok-clause-says
-returns-in-Ok-clause-says g c = run_says _ c.run_with.result.1 (λ output. output.text.items) c.run_with.ensures.values
+returns-in-Ok-clause-says g c = run_says _ c.run_by.result.1 (λ output. output.text.items) c.run_by.ensures.shows
 
 pub returns-in-Ok-clause-accepted : goal.returns-in-Ok-clause-accepted
 returns-in-Ok-clause-accepted g c =
     let same : c.as_slice.result.now ≡ c.in-Ok.positions.keys = search rules in
-    run_all_accepts g.D.Disk c.args.options.now c.args.text.now c.in-Ok.positions.keys c.as_slice.result.now c.args.disk c.run_with.result.0 c.run_with.result.1
-    c.in-Ok.ensures.read same c.run_with.ensures.refused
+    run_all_accepts g.D.Disk c.args.options.now c.args.text.now c.in-Ok.positions.keys c.as_slice.result.now c.args.disk c.run_by.result.0 c.run_by.result.1
+    c.in-Ok.ensures.read same c.run_by.ensures.refused
 
 pub returns-in-Err-clause-refused : goal.returns-in-Err-clause-refused
 returns-in-Err-clause-refused g c = inl c.in-Err.ensures.refused
