@@ -23,7 +23,7 @@ use Rattle.proof_tree.specs.Picking.{Way, best_way, open_by, pick_by, pick_at, p
 use Rattle.proof_tree.specs.Sound.{occurrences}
 use Rattle.proof_tree.proofs.EachNode.{found_occurs, found_where, test_true}
 use Rattle.draughts_board.specs.Board.{same_side}
-use Rattle.journal_runs.specs.Ample.{ShowsValue, IsWithinReach, unsettled_roots}
+use Rattle.journal_runs.specs.Ample.{ShowsValue, unsettled_roots}
 
 -- ---- an unsettled root
 
@@ -129,14 +129,14 @@ shown_for k depth White p (inr (inr both)) = inr both.0
 
 -- ---- what settles a root
 
-abbrev decided : Bool → Bool → Numbers → Numbers
+abbrev pub decided : Bool → Bool → Numbers → Numbers
 decided win hold rest = cond win proved (cond hold refuted rest)
 
-by_black : (hold : Bool) (x w : Numbers) (win : Bool) → win ≡ true → is_some (value_by (decided win hold x) w) ≡ true
+pub by_black : (hold : Bool) (x w : Numbers) (win : Bool) → win ≡ true → is_some (value_by (decided win hold x) w) ≡ true
 by_black hold x w true e = refl
 by_black hold x w false e = absurd (false≢true e)
 
-by_white : (b : Numbers) (hold : Bool) (y : Numbers) (win : Bool) → win ≡ true → is_some (value_by b (decided win hold y)) ≡ true
+pub by_white : (b : Numbers) (hold : Bool) (y : Numbers) (win : Bool) → win ≡ true → is_some (value_by b (decided win hold y)) ≡ true
 by_white b hold y false e = absurd (false≢true e)
 by_white b hold y true e = either (is_zero b.proof)
   where
@@ -144,7 +144,7 @@ by_white b hold y true e = either (is_zero b.proof)
     either true = refl
     either false = refl
 
-by_holds : (bw ww wh bh : Bool) (x y : Numbers) → wh ≡ true → bh ≡ true → is_some (value_by (decided bw wh x) (decided ww bh y)) ≡ true
+pub by_holds : (bw ww wh bh : Bool) (x y : Numbers) → wh ≡ true → bh ≡ true → is_some (value_by (decided bw wh x) (decided ww bh y)) ≡ true
 by_holds true ww wh bh x y e f = refl
 by_holds false true wh bh x y e f = by_white (decided false wh x) bh y true refl
 by_holds false false true true x y e f = refl
@@ -200,25 +200,26 @@ module _ (n : ℕ) (facts : Known) where
   same_first : (own : Own) (children others : Forest) → eqb own.number n ≡ false → occurrences n children ≡ 0 → after (node own children others) ≡ node own children (after others)
   same_first own children others e none = λ i. node (learn_other own e i) (no_changes children none i) (after others)
 
-  module _ (k depth : ℕ) where
+  -- of what holds of each settled root
+  module _ (P : Node → Type 0) (of_settled : (x : Node) → IsSome (value_of x) → P x) where
     -- what a record leaves of the roots
     pub record IsSettledOne (t new : Forest) : Type 0 where
-      pub within : Each (IsWithinReach k depth) (nodes new)
+      pub within : Each P (nodes new)
       pub fewer : suc (left new) ≡ left t
       pub others : (m : ℕ) → (m ≡ n → ⊥) → IsUnsettledRoot m t → IsUnsettledRoot m new
 
     first_settles : (own : Own) (children others new : Forest) (own' : Own) (children' : Forest) → own.number ≡ n → value_of (record { own = own; children = children }) ≡ None
-        → is_some (value_of (record { own = own'; children = children' })) ≡ true → new ≡ others → Each (IsWithinReach k depth) (nodes others)
+        → is_some (value_of (record { own = own'; children = children' })) ≡ true → new ≡ others → Each P (nodes others)
         → IsSettledOne (node own children others) (node own' children' new)
     first_settles own children others new own' children' is none settled same each =
         subst (λ (f : Forest). IsSettledOne (node own children others) (node own' children' f)) (sym same)
         (record {
-          within = (inl settled, each);
+          within = (of_settled (record { own = own'; children = children' }) settled, each);
           fewer = ap suc (left_over others true own' children' settled) ∙ sym (left_over others false own children (ap is_some none));
           others = λ m differs. ⊎_elim (λ first. absurd (differs (sym first.0 ∙ is))) (λ rest. inr rest);
         })
 
-    then_others : (own : Own) (children others new : Forest) → IsWithinReach k depth (record { own = own; children = children }) → IsSettledOne others new → IsSettledOne (node own children others) (node own children new)
+    then_others : (own : Own) (children others new : Forest) → P (record { own = own; children = children }) → IsSettledOne others new → IsSettledOne (node own children others) (node own children new)
     then_others own children others new first h = record {
       within = (first, h.within);
       fewer = fewer_by (is_some (value_of (record { own = own; children = children }))) (left new) (left others) h.fewer;
@@ -230,7 +231,7 @@ module _ (n : ℕ) (facts : Known) where
         fewer_by false x y e = ap suc e
 
     pub settled_one : (t : Forest) (x : Node) → occurrences n t ≤ 1 → IsUnsettledRoot n t → node_at n t ≡ Some x
-        → is_some (value_of (record { own = learn n facts x.own; children = after x.children })) ≡ true → Each (IsWithinReach k depth) (nodes t) → IsSettledOne t (after t)
+        → is_some (value_of (record { own = learn n facts x.own; children = after x.children })) ≡ true → Each P (nodes t) → IsSettledOne t (after t)
     settled_one no_node x once h there settled each = absurd h
     settled_one (node own children others) x once (inl h) there settled each =
         let self : Node = record { own = own; children = children } in

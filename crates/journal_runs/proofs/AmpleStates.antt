@@ -123,8 +123,8 @@ module _ (s : CoreState) (h : IsWithin s) where
       subst (λ (own : Own). is_some (value_of (record { own = own; children = changed (learn n facts) x.children })) ≡ true) (sym own_is)
       (shown_settles k depth (record x.own { facts = joined x.own.facts facts }) (changed (learn n facts) x.children) shows found.holds.wins found.holds.holds) in
       let root = subst (λ m. IsUnsettledRoot m s.forest) (sym same) (Each-contains (NamesRoot s.forest) s.leases.rows row h.rows happens.row.there) in
-      let one : IsSettledOne n facts k depth s.forest (with_facts n facts s.forest) =
-      settled_one n facts k depth s.forest x (at_most_once n s.forest h.sound.1.numbered.numbered) root at settles h.within in
+      let one : IsSettledOne n facts (IsWithinReach k depth) (λ root settled. inl settled) s.forest (with_facts n facts s.forest) =
+      settled_one n facts (IsWithinReach k depth) (λ root settled. inl settled) s.forest x (at_most_once n s.forest h.sound.1.numbered.numbered) root at settles h.within in
       let forest : new.forest ≡ with_facts n facts s.forest = happens.grown.applied in
       let rows : Each (NamesRoot (with_facts n facts s.forest)) (without id s.leases.rows) =
       each_of_contains (NamesRoot (with_facts n facts s.forest)) (without id s.leases.rows) (λ other there.

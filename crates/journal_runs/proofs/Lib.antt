@@ -1,4 +1,6 @@
 pub mod AttachedLines
+pub mod FirstPassLemmas
+pub mod FreshLemmas
 pub mod AmpleRoots
 pub mod AmpleStates
 pub mod AmpleLines

@@ -27,6 +27,14 @@ IsWithinReach k depth root =
     IsSome (value_of root)
     ⊎ ((root.own.mark ≡ Unexpanded) × ShowsValue k depth root.own.position)
 
+-- the root has its value, or it is unexpanded
+abbrev pub IsSettledOrFresh : Node → Type 0
+IsSettledOrFresh root = IsSome (value_of root) ⊎ (root.own.mark ≡ Unexpanded)
+
+-- where looking so far ahead shows a value of the root, it has its value
+abbrev pub IsReached : ℕ → ℕ → Node → Type 0
+IsReached k depth root = ShowsValue k depth root.own.position → IsSome (value_of root)
+
 -- how many roots have no value
 abbrev pub unsettled_roots : Forest → ℕ
 unsettled_roots roots = count_by (λ root. not (is_some (value_of root))) (nodes roots)

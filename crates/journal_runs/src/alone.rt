@@ -16,7 +16,7 @@ use worker_gate::Ended;
 const REMEMBERED: usize = 65_536;
 
 /// The worker that the one thread is.
-const ONLY_WORKER: u32 = 1;
+pub(crate) const ONLY_WORKER: u32 = 1;
 
 /// Searches the leaf that is next, and commits what was found: one work record more is applied. Else it answers why not.
 fn settle_leaf<D: Disk, O: Oracle>(

@@ -23,6 +23,7 @@
 #![tactic(auto)]
 
 mod alone;
+mod first_pass;
 mod refusals;
 mod runs;
 mod together;

@@ -117,11 +117,20 @@ fn run_session<R: Threads + Wait + Sync, D: Disk + Send, O: Oracle + Sync, G: Ga
     ensures refused { IfErr result.1 (IsWorkRefusal session positions.now) }
 {
     let Plan {
+        settings,
         workers,
         account,
-        ..
     } = *plan;
-    let (session, worked) = work_on(rt, alloc, session, workers, positions, oracle, gate);
+    let (session, worked) = work_on(
+        rt,
+        alloc,
+        session,
+        workers,
+        settings.lease,
+        positions,
+        oracle,
+        gate,
+    );
     match worked {
         Ok(is_settled) => {
             let answer = match account {
@@ -179,6 +188,7 @@ fn work_on<R: Threads + Wait + Sync, D: Disk + Send, O: Oracle + Sync, G: Gate +
     alloc: Global,
     session: Session<D>,
     workers: u8,
+    lease: u32,
     positions: &[Position],
     oracle: &O,
     gate: &G,
@@ -200,7 +210,7 @@ fn work_on<R: Threads + Wait + Sync, D: Disk + Send, O: Oracle + Sync, G: Gate +
         Err(BeginRefusal::Disk) => return (session, Err(DISK_FAULT)),
         Err(BeginRefusal::Failed) => return (session, Err(DISK_FAULT)),
     }
-    let (session, ended) = work_together(rt, alloc, session, workers, oracle, gate);
+    let (session, ended) = work_together(rt, alloc, session, workers, lease, oracle, gate);
     match ended {
         Ended::Done => (session, Ok(true)),
         Ended::Spent => (session, Ok(false)),

@@ -6,6 +6,7 @@ ghost use Rattle.worker_gate.specs.Work.{CanSearch};
 ghost use Rattle.journal_runs.specs.Ends.{IsEndedBy};
 
 use crate::alone::work_alone;
+use crate::first_pass::first_pass;
 use bench_disk::Disk;
 use leaf_search::MOST_DEPTH;
 use std::alloc::{AllocError, Global};
@@ -35,7 +36,7 @@ fn go_on_alone<D: Disk, O: Oracle>(alloc: Global, session: &mut Session<D>, orac
 /// Workers share the session until none of them finds more to do; then it goes on with the session alone.
 ///
 /// How it ended rests on no answer of a worker: it is said of the session that comes back, and of that alone.
-pub fn work_together<R: Threads + Wait + Sync, D: Disk + Send, O: Oracle + Sync, G: Gate + Sync>(
+fn share_work<R: Threads + Wait + Sync, D: Disk + Send, O: Oracle + Sync, G: Gate + Sync>(
     rt: &R,
     alloc: Global,
     session: Session<D>,
@@ -56,4 +57,27 @@ pub fn work_together<R: Threads + Wait + Sync, D: Disk + Send, O: Oracle + Sync,
     let mut session = shared.finish(rt, pass);
     let ended = go_on_alone(alloc, &mut session, oracle);
     (session, ended)
+}
+
+/// Searches each fresh root once, as many as there may be leases at one time. Then workers share the session, and it goes on
+/// with the session alone.
+pub fn work_together<R: Threads + Wait + Sync, D: Disk + Send, O: Oracle + Sync, G: Gate + Sync>(
+    rt: &R,
+    alloc: Global,
+    session: Session<D>,
+    workers: u8,
+    lease: u32,
+    oracle: &O,
+    gate: &G,
+) -> (Session<D>, Ended)
+    requires tables { O.piece_limit oracle.now ≡ session_pieces session.line }
+    requires depth { session_depth session.line ≤ MOST_DEPTH }
+    ensures grows { GrowsByTurns session.line result.0.line }
+    ensures ended { IsEndedBy result.1 result.0 }
+{
+    let mut session = session;
+    match first_pass(rt, alloc, &mut session, workers, lease, oracle, gate) {
+        Ok(()) => share_work(rt, alloc, session, workers, oracle, gate),
+        Err(ended) => (session, ended),
+    }
 }

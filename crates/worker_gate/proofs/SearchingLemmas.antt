@@ -4,10 +4,13 @@ use Rattle.std.specs.Prelude.{false, All, Option, Some, Ok, Err}
 use Rattle.std.specs.Option.{option_map_or}
 use Rattle.std.proofs.lemmas.List.Elements.{All-weaker, All-push}
 use Rattle.bench_disk.specs.declared.disk.Disk.{Ghosts}
+use Rattle.draughts_board.specs.Board.{Board}
 use Rattle.draughts_board.specs.Draughts.{draughts}
 use Rattle.draughts_board.specs.Game.{is_at_sight}
 use Rattle.certificate_checker.specs.declared.outcomes.Outcome.{Outcome}
 use Rattle.certificate_checker.specs.declared.outcomes.Outcome.TheVariants.{Solved, Exhausted}
+use Rattle.strategy_certificate.specs.declared.certificates.Certificate.{Certificate}
+use Rattle.certificate_checker.specs.Answers.{IsFinding}
 use Rattle.leaf_search.specs.Search.{IsOutcome}
 use Rattle.lease_table.specs.declared.leases.Lease.{Lease}
 use Rattle.bench_core.specs.declared.refusals.LeaseRefusal.TheVariants as lease
@@ -29,6 +32,12 @@ use Rattle.worker_gate.specs.Work.{CanSearch, CanSearchLeaf, ShowsEnd}
 pub outcome_is : (k : ℕ) (given : Lease) (outcome : Outcome) → k ≡ given.pieces → IsOutcome k given.goal given.depth given.position outcome → IsOutcomeOf given outcome
 outcome_is k given (Solved found) same h = subst (λ n. IsOutcome n given.goal given.depth given.position (Solved found)) same h
 outcome_is k given (Exhausted e) same h = (h.position, (h.goal, (h.depth, h.pieces ∙ same)))
+
+-- what was found is of one position
+pub found_here : (given : Lease) (outcome : Outcome) (found : List Certificate) → outcome ≡ Solved found → IsOutcomeOf given outcome → (p : Board) × All (λ c. c.position ≡ p) found
+found_here given outcome found is h =
+    let answer = subst (IsOutcomeOf given) is h in
+    (given.position, All-weaker (IsFinding given.pieces given.position) (λ c. c.position ≡ given.position) (λ c finding. finding.position) found answer.each)
 
 pub leaf_can_be : (k : ℕ) (front : List Entry) (given : Lease) → CanSearch k front → AsksForSearch front given → CanSearchLeaf k given
 leaf_can_be k front given can asks =

@@ -1,7 +1,11 @@
 -- What work on a session needs, and what it comes to.
-use Rattle.std.specs.Prelude.{◌≡◌, ◌≤◌, ℕ, false, List, Err}
+use Rattle.std.specs.Prelude.{◌≡◌, ◌≤◌, ℕ, Bool, false, List, is_some, Err}
 use Rattle.draughts_board.specs.Draughts.{draughts}
 use Rattle.draughts_board.specs.Game.{is_at_sight}
+use Rattle.certificate_checker.specs.declared.outcomes.Outcome.{Outcome}
+use Rattle.certificate_checker.specs.declared.outcomes.Outcome.TheVariants.{Solved, Exhausted}
+use Rattle.certificate_checker.specs.Told.{facts_shown}
+use Rattle.proof_numbers.specs.Known.{known_value}
 use Rattle.lease_table.specs.declared.leases.Lease.{Lease}
 use Rattle.bench_core.specs.declared.refusals.LeaseRefusal.TheVariants as lease
 use Rattle.tree_manager.specs.declared.entries.Entry.{Entry}
@@ -21,6 +25,11 @@ pub record CanSearchLeaf (pieces : ℕ) (given : Lease) : Type 0 where
   pub tables : pieces ≡ given.pieces
   pub depth : given.depth ≤ 12
   pub undecided : is_at_sight draughts pieces given.position ≡ false
+
+-- the certificates that were found tell the value of their position
+abbrev pub is_value_told : Outcome → Bool
+is_value_told (Solved found) = is_some (known_value (facts_shown found))
+is_value_told (Exhausted e) = false
 
 -- What the front of a worker's pass shows of its end: in the state of the front a worker is answered
 -- that every root is settled, or that the budget is spent; or the front ends with a fault of the

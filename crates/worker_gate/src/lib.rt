@@ -19,8 +19,10 @@ mod gates;
 mod hand;
 mod pauses;
 mod threads;
+mod together;
 mod worker;
 
 pub use gates::{Gate, MeetGate, OpenGate};
 pub use threads::run_workers;
+pub use together::{LeafFound, search_together};
 pub use worker::{Ended, work};

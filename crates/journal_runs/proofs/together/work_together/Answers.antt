@@ -1,20 +1,17 @@
-use Rattle.std.proofs.Common.{sym, subst}
-use Rattle.tree_manager.specs.Turns.{GrowsByTurns}
 use Rattle.worker_gate.specs.Work.{CanSearch}
 use Rattle.journal_runs.proofs.AloneLemmas.{searches_grown}
 use Rattle.journal_runs.proofs.TurnLemmas.{grows_then}
 use Rattle.journal_runs.proofs.together.work_together.Goals as goal
 
-pub run_workers-requires-clause-settings : goal.run_workers-requires-clause-settings
-run_workers-requires-clause-settings g c κs within =
+pub share_work-requires-clause-tables : goal.share_work-requires-clause-tables
+share_work-requires-clause-tables g c κs within =
     let can : CanSearch (g.O.Oracle.piece_limit c.args.oracle.now) c.args.session.line = record { tables = c.requires.tables; depth = c.requires.depth } in
-    subst (λ front. CanSearch (g.O.Oracle.piece_limit c.args.oracle.now) front) (sym c.in-Ok.ensures.front) can
+    (searches_grown _ _ _ can c.first_pass.ensures.grows).tables
 
-pub go_on_alone-ended-requires : goal.go_on_alone-ended-requires
-go_on_alone-ended-requires g c =
+pub share_work-requires-clause-depth : goal.share_work-requires-clause-depth
+share_work-requires-clause-depth g c κs within =
     let can : CanSearch (g.O.Oracle.piece_limit c.args.oracle.now) c.args.session.line = record { tables = c.requires.tables; depth = c.requires.depth } in
-    searches_grown _ _ _ can (subst (λ front. GrowsByTurns front c.finish-session.result.line) c.in-Ok.ensures.front (grows_then _ _ _ c.run_workers.ensures.grows c.finish-session.ensures))
+    (searches_grown _ _ _ can c.first_pass.ensures.grows).depth
 
-pub returns-clause-grows : goal.returns-clause-grows
-returns-clause-grows g c =
-    grows_then _ _ _ (subst (λ front. GrowsByTurns front c.finish-session.result.line) c.in-Ok.ensures.front (grows_then _ _ _ c.run_workers.ensures.grows c.finish-session.ensures)) c.go_on_alone-ended.ensures.grows
+pub returns-in-Ok-clause-grows : goal.returns-in-Ok-clause-grows
+returns-in-Ok-clause-grows g c = grows_then _ _ _ c.first_pass.ensures.grows c.share_work.ensures.grows

@@ -1,0 +1,137 @@
+//! Leaves that threads search at the same time, without a session.
+ghost use Rattle.std.specs.Prelude.{◌≡◌, ◌≤◌, All};
+ghost use Rattle.bench_core.specs.Cores.{IsOutcomeOf};
+ghost use Rattle.worker_gate.specs.Work.{CanSearchLeaf, is_value_told};
+
+use crate::gates::Gate;
+use bench_core::LeaseResult;
+use certificate_checker::{Outcome, told_by_all};
+use leaf_search::{Memo, search};
+use lease_table::Lease;
+use std::alloc::{AllocError, Global};
+use std::collections::VecDeque;
+use std::thread;
+use std::thread::Threads;
+use strategy_certificate::Oracle;
+use tree_manager::RootCounts;
+
+/// How many positions a thread remembers in which looking ahead shows no win, where it looks no deeper than `SHALLOW`.
+const REMEMBERED_SHALLOW: usize = 4_096;
+
+/// .. and where it looks deeper.
+const REMEMBERED_DEEP: usize = 65_536;
+
+/// A search of so many plies takes less than making the larger memory.
+const SHALLOW: u8 = 4;
+
+/// What the search of a leaf found, made ready for staging.
+#[derive(Drop)]
+pub struct LeafFound {
+    pub result: LeaseResult,
+    /// It tells the value of the leaf's position.
+    pub tells_value: bool,
+    pub ghost value: { tells_value ≡ is_value_told result.outcome },
+}
+
+/// Searches these leaves in as many threads, and gives what it found in the order of the leases.
+///
+/// Each thread passes the gate before each of its searches, and shows it these counts where it wants to see them. Where no
+/// thread can be made, the leaves are searched one after another.
+pub fn search_together<R: Threads + Sync, O: Oracle + Sync, G: Gate + Sync>(
+    rt: &R,
+    alloc: Global,
+    leases: &[Lease],
+    workers: u8,
+    oracle: &O,
+    gate: &G,
+    counts: RootCounts,
+) -> Result<VecDeque<LeafFound>, AllocError>
+    requires { All (CanSearchLeaf (O.piece_limit oracle.now)) leases.now }
+{
+    let each = leases.len().div_ceil(usize::from(workers).max(1)).max(1);
+    let parts = thread::map_chunks(
+        rt,
+        alloc,
+        leases,
+        each,
+        &|_: usize, part: &[Lease]| -> Result<VecDeque<LeafFound>, AllocError>
+            requires { All (CanSearchLeaf (O.piece_limit oracle.now)) part.now }
+        { search_part(alloc, part, oracle, gate, counts) },
+    )?;
+    let mut found = VecDeque::new(alloc);
+    for part in parts {
+        found.append(&mut part?)?;
+    }
+    Ok(found)
+}
+
+/// Searches these leaves one after another.
+fn search_part<O: Oracle, G: Gate>(
+    alloc: Global,
+    leases: &[Lease],
+    oracle: &O,
+    gate: &G,
+    counts: RootCounts,
+) -> Result<VecDeque<LeafFound>, AllocError>
+    requires { All (CanSearchLeaf (O.piece_limit oracle.now)) leases.now }
+{
+    let mut memo = Memo::new(alloc, oracle.pieces(), remembered(leases))?;
+    let mut found = VecDeque::new(alloc);
+    for lease in leases {
+        gate.before_search(lease.worker);
+        if gate.wants_counts() {
+            gate.show_counts(counts);
+        }
+        found.reserve(1)?;
+        found.push_back_reserved(find(alloc, lease, oracle, &mut memo)?);
+    }
+    Ok(found)
+}
+
+/// How many positions are remembered in the search of these leaves, which is of one depth for all.
+fn remembered(leases: &[Lease]) -> usize
+    ensures { 1 ≤ result }
+{
+    match leases.first() {
+        Some(lease) if lease.depth > SHALLOW => REMEMBERED_DEEP,
+        _ => REMEMBERED_SHALLOW,
+    }
+}
+
+/// Searches a leaf, and sees whether what it found tells the value of its position.
+#[tactic(auto, using(crate::proofs::SearchingLemmas::outcome_is))]
+fn find<O: Oracle>(
+    alloc: Global,
+    lease: &Lease,
+    oracle: &O,
+    memo: &mut Memo,
+) -> Result<LeafFound, AllocError>
+    requires settings { CanSearchLeaf (O.piece_limit oracle.now) lease.now }
+    requires memo { memo.old ≡ O.piece_limit oracle.now }
+    ensures memo { memo.new ≡ memo.old }
+{
+    let outcome = search(
+        alloc,
+        &lease.position,
+        lease.goal,
+        lease.depth,
+        oracle,
+        memo,
+    )?;
+    let tells_value = tells_value(lease, &outcome);
+    Ok(LeafFound {
+        result: LeaseResult::new(alloc, lease, outcome)?,
+        tells_value,
+    })
+}
+
+/// The certificates of the outcome of a lease's search tell the value of its position.
+fn tells_value(lease: &Lease, outcome: &Outcome) -> bool
+    requires { IsOutcomeOf lease.now outcome.now }
+    ensures { result ≡ is_value_told outcome.now }
+{
+    match outcome {
+        Outcome::Solved(proofs) => told_by_all(proofs.as_slice()).value().is_some(),
+        Outcome::Exhausted(_) => false,
+    }
+}
