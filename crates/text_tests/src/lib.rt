@@ -7,6 +7,8 @@
 #[cfg(test)]
 mod certificates;
 #[cfg(test)]
+mod drafts;
+#[cfg(test)]
 mod fens;
 #[cfg(test)]
 mod games;

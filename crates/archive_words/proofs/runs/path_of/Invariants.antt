@@ -1,0 +1,9 @@
+use Rattle.std.proofs.Common.{◌≡◌, take, length}
+use Rattle.archive_words.proofs.runs.path_of.Given as goal
+
+-- the squares so far are the numbers so far
+abbrev pub invariant-loop-place : goal.invariant-loop-place
+invariant-loop-place l = record {
+  same : take l.place l.squares ≡ take l.place l.numbers;
+  full : length l.squares ≡ 13;
+}

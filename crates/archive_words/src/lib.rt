@@ -1,0 +1,24 @@
+//! The words of games in an archive, without their places: runs of numbers, which are moves, results
+//! or numbers of moves; words that tell a result; the texts of tags and of positions.
+//!
+//! It stands below `archive_games`, which cuts an archive into these words.
+//!
+//! Proved: each call ends, with no panic and no overflow; a move that is read has two to thirteen
+//! squares, and those are the numbers of its run. How words are understood is tested.
+//!
+//! Tests: archive_tests/src/words.rt
+#![tactic(auto)]
+
+mod fens;
+mod outcome;
+mod runs;
+mod tags;
+mod words;
+
+pub use fens::{clean_fen, is_like_fen};
+pub use outcome::Outcome;
+pub use runs::{Join, Meaning, Run};
+pub use tags::{
+    GameKind, TagName, TagText, game_kind, is_strict_name, tag_name, tag_text, unescaped,
+};
+pub use words::{Said, Word};

@@ -1,0 +1,182 @@
+//! Runs of numbers with signs between: `11-15`, `22x15`, `1/2-1/2`, `7`.
+ghost use Rattle.std.specs.Prelude.{◌≡◌, IfSome};
+
+use crate::outcome::Outcome;
+use arrayvec::ArrayVec;
+use draughts_board::{Move, Square};
+
+/// How many numbers a run keeps: as many as a move has squares at most.
+pub const MOST_NUMBERS: usize = 13;
+
+/// A sign between two numbers.
+#[derive(Clone, Copy, PartialEq, Eq, Debug)]
+pub enum Join {
+    Dash,
+    /// `x`, `×`, or another letter that looks like it.
+    Cross,
+    Colon,
+    Slash,
+}
+
+/// What a run is.
+#[derive(Clone, Copy, Debug)]
+pub enum Meaning {
+    /// No number stands in it.
+    Nothing,
+    /// A number alone.
+    Number(u32),
+    /// The squares of a move.
+    Move(Move),
+    /// A result in digits.
+    Result(Outcome),
+    /// A time or a date.
+    Clock,
+    /// A number is wanted at its end.
+    Half,
+    /// Nothing of these.
+    Bad,
+}
+
+/// A run of numbers, as far as it has come.
+#[derive(Drop)]
+pub struct Run {
+    numbers: ArrayVec<u32, MOST_NUMBERS>,
+    // A sign stands behind the last number.
+    is_open: bool,
+    // More numbers were there than are kept.
+    is_long: bool,
+    has_slash: bool,
+    // Each sign is a colon.
+    is_clock: bool,
+}
+
+/// The square of this number.
+fn square_of(number: u32) -> Option<Square>
+    ensures { IfSome result (λ s. s ≡ number) }
+{
+    if number > 32 {
+        return None;
+    }
+    Square::new(number as u8)
+}
+
+/// The move over these squares.
+fn path_of(numbers: &[u32]) -> Option<Move>
+    ensures { IfSome result (λ path. path ≡ numbers.now) }
+{
+    if numbers.is_empty() || numbers.len() > MOST_NUMBERS {
+        return None;
+    }
+    let first = square_of(numbers[0])?;
+    let mut squares = [first; 13];
+    for (place, number) in numbers.iter().enumerate() {
+        squares[place] = square_of(*number)?;
+    }
+    Move::of(&squares[..numbers.len()])
+}
+
+impl Run {
+    ghost use Rattle.archive_words.specs.Runs.{IsOver};
+
+    /// A run without numbers.
+    pub fn new() -> Run {
+        Run {
+            numbers: ArrayVec::new(),
+            is_open: false,
+            is_long: false,
+            has_slash: false,
+            is_clock: true,
+        }
+    }
+
+    /// No number stands in it.
+    pub fn is_empty(&self) -> bool {
+        self.numbers.is_empty()
+    }
+
+    /// A sign stands behind its last number, so that the next number belongs to it.
+    pub fn is_open(&self) -> bool {
+        self.is_open
+    }
+
+    /// The number that stands in it alone, if one does.
+    pub fn lone(&self) -> Option<u32> {
+        match self.numbers.as_slice() {
+            [number] if !self.is_open => Some(*number),
+            _ => None,
+        }
+    }
+
+    /// Takes a number behind the last sign.
+    pub fn push(&mut self, number: u32) {
+        self.is_open = false;
+        if self.numbers.is_full() {
+            self.is_long = true;
+        } else {
+            self.numbers.push(number);
+        }
+    }
+
+    /// Takes a sign behind the last number.
+    pub fn join(&mut self, join: Join) {
+        self.is_open = true;
+        match join {
+            Join::Colon => {}
+            Join::Slash => {
+                self.has_slash = true;
+                self.is_clock = false;
+            }
+            Join::Dash | Join::Cross => self.is_clock = false,
+        }
+    }
+
+    /// Takes the last sign back.
+    pub fn close(&mut self) {
+        self.is_open = false;
+    }
+
+    /// Begins anew.
+    pub fn clear(&mut self) {
+        self.numbers.clear();
+        self.is_open = false;
+        self.is_long = false;
+        self.has_slash = false;
+        self.is_clock = true;
+    }
+
+    /// What two numbers or more are.
+    fn joined(&self) -> Meaning
+        ensures { IsOver self.now.numbers.items result }
+    {
+        let numbers = self.numbers.as_slice();
+        if self.has_slash {
+            return match numbers {
+                [1, 2] | [1, 2, 1, 2] => Meaning::Result(Outcome::Draw),
+                _ => Meaning::Clock,
+            };
+        }
+        if let [first, second] = numbers
+            && let Some(outcome) = Outcome::of_score(*first, *second)
+        {
+            return Meaning::Result(outcome);
+        }
+        match path_of(numbers) {
+            Some(path) => Meaning::Move(path),
+            None if self.is_clock => Meaning::Clock,
+            None => Meaning::Bad,
+        }
+    }
+
+    /// What it is.
+    pub fn meaning(&self) -> Meaning
+        ensures { IsOver self.now.numbers.items result }
+    {
+        match self.numbers.as_slice() {
+            [] => Meaning::Nothing,
+            [number] if !self.is_open || self.is_clock => Meaning::Number(*number),
+            _ if self.is_open => Meaning::Half,
+            _ if self.is_long => Meaning::Bad,
+            _ => self.joined(),
+        }
+    }
+}

@@ -1,0 +1,179 @@
+//! The texts of tags.
+ghost use Rattle.std.specs.Prelude.{◌≤◌, ◌<◌, length};
+
+use std::alloc::{AllocError, Global};
+
+/// What stands between `[` and `]`.
+#[derive(Clone, Copy, Debug)]
+pub struct TagText<'a> {
+    pub name: &'a [u8],
+    /// The value without quotation marks around it.
+    pub value: &'a [u8],
+    /// Quotation marks stand around the value.
+    pub is_quoted: bool,
+}
+
+/// The tags that say something of a game beside who played it.
+#[derive(Clone, Copy, PartialEq, Eq, Debug)]
+pub enum TagName {
+    Event,
+    Fen,
+    Position,
+    SetUp,
+    GameType,
+    Variant,
+    Result,
+    Other,
+}
+
+/// The kind of a game, as a tag `GameType` or `Variant` names it.
+#[derive(Clone, Copy, PartialEq, Eq, Debug)]
+pub enum GameKind {
+    English,
+    /// Another kind of draughts.
+    Other,
+    /// The tag does not say.
+    Unknown,
+}
+
+/// A byte of a name; the bytes of letters beside A to Z are from 128 on.
+fn is_name_byte(byte: u8) -> bool {
+    byte.is_ascii_alphanumeric() || byte == b'_' || byte >= 128
+}
+
+/// The byte is no blank.
+fn is_ink(byte: u8) -> bool {
+    byte > 32
+}
+
+/// Without blanks at its front.
+fn behind_blanks(text: &[u8]) -> &[u8] {
+    match text.iter().position(|b| is_ink(*b)) {
+        Some(first) => &text[first..],
+        None => &text[text.len()..],
+    }
+}
+
+/// Without blanks at its end.
+fn before_blanks(text: &[u8]) -> &[u8] {
+    match text.iter().rposition(|b| is_ink(*b)) {
+        Some(last) => &text[..last + 1],
+        None => &text[..0],
+    }
+}
+
+/// The value, and whether quotation marks stand around it. A mark may be missing at one side.
+fn unquoted(text: &[u8]) -> (&[u8], bool) {
+    match text {
+        [b'"', value @ .., b'"'] => (value, true),
+        [b'"', value @ ..] | [value @ .., b'"'] => (value, false),
+        [b'\'', value @ .., b'\''] => (value, false),
+        value => (value, false),
+    }
+}
+
+/// The tag of what stands between `[` and `]`; none where no name stands at its front.
+pub fn tag_text(text: &[u8]) -> Option<TagText<'_>> {
+    let text = behind_blanks(text);
+    let len = text
+        .iter()
+        .position(|b| !is_name_byte(*b))
+        .unwrap_or(text.len());
+    let (name, rest) = text.split_at_checked(len)?;
+    if name.is_empty() || name[0].is_ascii_digit() {
+        return None;
+    }
+    let rest = match behind_blanks(rest) {
+        [b':' | b'=', value @ ..] => behind_blanks(value),
+        value => value,
+    };
+    let (value, is_quoted) = unquoted(before_blanks(rest));
+    Some(TagText {
+        name,
+        value,
+        is_quoted,
+    })
+}
+
+/// The name is one of the strict profile: a letter A to Z, and then letters, digits and `_`.
+pub fn is_strict_name(name: &[u8]) -> bool {
+    match name {
+        [first, rest @ ..] => {
+            first.is_ascii_alphabetic() && rest.iter().all(|b| is_name_byte(*b) && *b < 128)
+        }
+        [] => false,
+    }
+}
+
+/// Which tag it is. Capital and small letters are the same.
+pub fn tag_name(name: &[u8]) -> TagName {
+    let is = |word: &[u8]| name.eq_ignore_ascii_case(word);
+    if is(b"Event") {
+        TagName::Event
+    } else if is(b"FEN") {
+        TagName::Fen
+    } else if is(b"Position") {
+        TagName::Position
+    } else if is(b"SetUp") {
+        TagName::SetUp
+    } else if is(b"GameType") {
+        TagName::GameType
+    } else if is(b"Variant") {
+        TagName::Variant
+    } else if is(b"Result") {
+        TagName::Result
+    } else {
+        TagName::Other
+    }
+}
+
+/// Appends a value without its escapes: `\"` as `"`, `\\` as `\`.
+pub fn unescaped(alloc: Global, value: &[u8]) -> Result<Vec<u8>, AllocError> {
+    let mut text = Vec::new(alloc);
+    let mut is_escaped = false;
+    for b in value {
+        let begins = *b == b'\\' && !is_escaped;
+        if !begins {
+            text.push(*b)?;
+        }
+        is_escaped = begins;
+    }
+    Ok(text)
+}
+
+/// The letters, or the digits, at the front.
+fn first_word(value: &[u8]) -> &[u8] {
+    let len = value
+        .iter()
+        .position(|b| !b.is_ascii_alphanumeric())
+        .unwrap_or(value.len());
+    match value.split_at_checked(len) {
+        Some((word, _)) => word,
+        None => value,
+    }
+}
+
+/// The kind that a tag `GameType` or `Variant` names: 21 and words for it, another number and words
+/// for other kinds.
+pub fn game_kind(value: &[u8]) -> GameKind {
+    let word = first_word(value);
+    let is = |name: &[u8]| word.eq_ignore_ascii_case(name);
+    if is(b"21") || is(b"English") || is(b"American") || is(b"Anglo") || is(b"Checkers") {
+        return GameKind::English;
+    }
+    if word.is_empty() || !word.iter().all(|b| b.is_ascii_digit()) {
+        let other = is(b"Russian") || is(b"International") || is(b"Polish") || is(b"Italian");
+        let more = is(b"Brazilian") || is(b"Pool") || is(b"Spanish") || is(b"Turkish");
+        let rest = is(b"Frisian")
+            || is(b"Canadian")
+            || is(b"Czech")
+            || is(b"Suicide")
+            || is(b"Losing");
+        return if other || more || rest {
+            GameKind::Other
+        } else {
+            GameKind::Unknown
+        };
+    }
+    GameKind::Other
+}

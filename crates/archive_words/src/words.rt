@@ -1,0 +1,93 @@
+//! Words that tell a result.
+use arrayvec::ArrayVec;
+use draughts_board::Side;
+
+/// How many letters of a word are kept.
+const MOST_LETTERS: usize = 16;
+
+/// What a word says.
+#[derive(Clone, Copy, PartialEq, Eq, Debug)]
+pub enum Said {
+    /// The game is drawn.
+    Drawn,
+    /// The game was not finished.
+    Unfinished,
+    /// A side.
+    Side(Side),
+    /// The side that stands before it won.
+    Wins,
+    /// The side that stands before it lost.
+    Loses,
+    /// Nothing of its own: it stands beside words that say a result, or judges a move.
+    Nothing,
+    /// Anything else.
+    Other,
+}
+
+/// A word, as far as it has come: its letters as small ones, and `?` for a letter beside A to Z.
+#[derive(Drop)]
+pub struct Word {
+    letters: ArrayVec<u8, MOST_LETTERS>,
+    is_long: bool,
+}
+
+impl Word {
+    /// A word without letters.
+    pub fn new() -> Word {
+        Word {
+            letters: ArrayVec::new(),
+            is_long: false,
+        }
+    }
+
+    /// It has no letter.
+    pub fn is_empty(&self) -> bool {
+        self.letters.is_empty()
+    }
+
+    /// Takes a letter.
+    pub fn push(&mut self, letter: char) {
+        let small = if letter.is_ascii() {
+            letter.to_ascii_lowercase() as u8
+        } else {
+            b'?'
+        };
+        if self.letters.is_full() {
+            self.is_long = true;
+        } else {
+            self.letters.push(small);
+        }
+    }
+
+    /// Begins anew.
+    pub fn clear(&mut self) {
+        self.letters.clear();
+        self.is_long = false;
+    }
+
+    /// The side whose letter it is, `b` or `w`.
+    pub fn side(&self) -> Option<Side> {
+        match self.letters.as_slice() {
+            b"b" => Some(Side::Black),
+            b"w" => Some(Side::White),
+            _ => None,
+        }
+    }
+
+    /// What it says.
+    pub fn said(&self) -> Said {
+        if self.is_long {
+            return Said::Other;
+        }
+        match self.letters.as_slice() {
+            b"draw" | b"drawn" | b"draws" | b"tie" | b"tied" | b"remis" => Said::Drawn,
+            b"unfinished" | b"adjourned" | b"abandoned" => Said::Unfinished,
+            b"black" | b"red" | b"schwarz" => Said::Side(Side::Black),
+            b"white" | b"weiss" | b"wei?" => Said::Side(Side::White),
+            b"win" | b"wins" | b"won" | b"gewinnt" | b"gewann" => Said::Wins,
+            b"lost" | b"loses" | b"resigns" | b"resigned" | b"verliert" => Said::Loses,
+            b"n" | b"by" | b"agreed" | b"agreement" | b"game" | b"result" => Said::Nothing,
+            _ => Said::Other,
+        }
+    }
+}

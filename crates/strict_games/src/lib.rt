@@ -1,0 +1,29 @@
+//! Games as they are written in the strict profile that `solve` reads.
+//!
+//! A [`Draft`] is a game being written: where it begins, its tags, its moves, and the position that
+//! they lead to. `specs/Drafts.antt` says what a text of it is.
+//!
+//! [`OpeningGroups`] gathers games by the position that they lead to, and [`group_text`] writes one
+//! game for all of a group, with a tag that lists them.
+//!
+//! Proved: a move is taken only if it means exactly one legal move. A text is given out only if
+//! `read_games` reads it as exactly one game, with the draft's tags and moves, which begins where the
+//! draft began and leads to the position where it stands. A group's tag lists each of its games once.
+//!
+//! Tests: text_tests/src/drafts.rt
+#![tactic(auto)]
+
+mod draft;
+mod groups;
+pub mod laws;
+mod one_game;
+mod printing;
+mod ranges;
+mod reading_back;
+mod spelling;
+mod tags;
+
+pub use draft::Draft;
+pub use groups::{OpeningGroups, group_text};
+pub use printing::{Layout, Score};
+pub use tags::TagRefusal;
