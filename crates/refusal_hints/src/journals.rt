@@ -30,7 +30,8 @@ pub(crate) fn say_journal(text: &mut Vec<u8>, refusal: &Refusal) -> Result<(), A
                 text,
                 "The journal's file is damaged at byte ",
                 *at,
-                " (from 0). Nothing was written to it. Bring it back from a copy, or begin a new \
+                " (from 0), or another run is writing to it just now: look again once that run has \
+                    ended. Nothing was written to it. Bring it back from a copy, or begin a new \
                     journal; keep the damaged file if you want to have it looked at.\n",
             )
         }
