@@ -2,9 +2,12 @@
 //! reports.
 //!
 //! What a run leaves of its disk, and what it writes, stands in `specs/Journals.antt`. `solve`
-//! fills the endgame table and works by a `Plan`, with the plan's workers and then alone: how it
-//! ends is said of the session that comes back, and rests on no answer of a worker. Asked for the
-//! summary (`Account`), it writes the line that counts the roots in place of the report.
+//! fills the endgame table and works by a `Plan`. It begins with a first pass: each root without a
+//! value that was never searched has one search before any has a second one, and no expansion is
+//! put before the last of them was leased (`specs/FirstPass.antt`). Then the plan's workers share
+//! the session, and last it works alone: how it ends is said of the session that comes back, and
+//! rests on no answer of a worker. Asked for the summary (`Account`), it writes the line that counts
+//! the roots in place of the report.
 //!
 //! Proved, whatever the disk does: each value in the report is true, each opening stands in it
 //! once, and a fault of the disk is answered only where it was counted. Proved of an honest disk

@@ -86,11 +86,29 @@ fn expect(
 fn answers_are_written(rt: HostRuntime) -> Result<(), Fail> {
     let alloc = rt.alloc();
     let settled = output(alloc, true)?;
-    expect(&rt, alloc, Ok(settled), &[], (Status::Done, None, "roots 0"))?;
+    expect(
+        &rt,
+        alloc,
+        Ok(settled),
+        &[],
+        (Status::Done, None, "roots 0"),
+    )?;
     let unsettled = output(alloc, false)?;
-    expect(&rt, alloc, Ok(unsettled), &[], (Status::Unsolved, None, "roots 0"))?;
+    expect(
+        &rt,
+        alloc,
+        Ok(unsettled),
+        &[],
+        (Status::Unsolved, None, "roots 0"),
+    )?;
     let unwritten = output(alloc, true)?;
-    expect(&rt, alloc, Ok(unwritten), &[4], (Status::Write, None, "root"))?;
+    expect(
+        &rt,
+        alloc,
+        Ok(unwritten),
+        &[4],
+        (Status::Write, None, "root"),
+    )?;
     Ok(())
 }
 
@@ -101,7 +119,11 @@ fn refusals_are_written(rt: HostRuntime) -> Result<(), Fail> {
         (Refusal::Words(1), Status::Words, "refused words at 1\n"),
         (Refusal::TooLong, Status::Input, "refused input too-long\n"),
         (Refusal::Disk, Status::Disk, "refused disk\n"),
-        (Refusal::Damaged(40), Status::Journal, "refused journal damaged byte 40\n"),
+        (
+            Refusal::Damaged(40),
+            Status::Journal,
+            "refused journal damaged byte 40\n",
+        ),
         (Refusal::Memory, Status::Memory, "refused memory\n"),
         (Refusal::Read, Status::Read, "refused read\n"),
     ] {

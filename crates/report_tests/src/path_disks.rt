@@ -8,7 +8,11 @@ use std::test::Fail;
 /// Writes three bytes and syncs: the length behind that, the moment and the faults.
 fn keep<D: Disk>(disk: &mut D) -> (Result<u64, DiskFault>, u64, u64) {
     let is_written = disk.write_at(0, b"abc").is_ok() && disk.sync().is_ok();
-    let length = if is_written { disk.len() } else { Err(DiskFault) };
+    let length = if is_written {
+        disk.len()
+    } else {
+        Err(DiskFault)
+    };
     (length, disk.moment(), disk.faults())
 }
 

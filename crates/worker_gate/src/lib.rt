@@ -7,7 +7,8 @@
 //! Proved: the front of a pass goes on by entries that turns may add. With `Done` or `Spent` it is
 //! of a state in which a worker is answered so; with `Failed` it ends with the fault of the disk. A
 //! gate that wants to see how many roots are settled is shown it in a turn that changes nothing.
-//! `run_workers` works in threads, and then in the caller.
+//! `run_workers` works in threads, and then in the caller. `search_together` searches leaves that a
+//! session alone has leased, in threads, and touches no session.
 //!
 //! That searches run at the same time is tested and not proved. That a worker who waits for a leaf
 //! sleeps is not proved.
