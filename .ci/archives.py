@@ -3,8 +3,9 @@
 
 Words: the program, and a folder with files NAME.pdn (an archive) and NAME.expected, which is written by hand. A line
 of NAME.expected is a game of the archive, in order: `left out`, or the game's own position in brackets, if it has one,
-its moves with all squares of captures, and its result. A capture may be written with squares between left out. A line `told 3:7` says that something is told of line 3, column
-7. `no game` stands for an archive without games.
+its moves with all squares of captures, and its result. A capture may be written with squares between left out. A line
+`told 3:7` says that `write` tells something of line 3, column 7; `check` lists all that `write` tells but changes.
+`no game` stands for an archive without games.
 
 It ends with 1 where an archive is read otherwise, or fewer than nine of ten games that a person would read are written.
 """
@@ -61,7 +62,8 @@ def differences(program, path):
     """What is read otherwise, and how many games are written and wanted."""
     archive = path.read_bytes()
     wanted, told = wanted_of(path.with_suffix(".expected"))
-    written = games_of(run(program, "write", archive)[0])
+    games, tells = run(program, "write", archive)
+    written = games_of(games)
     listed = run(program, "check", archive)[0]
     readable = [line for line in wanted if line != "left out"]
     same = sum(is_same(ours, theirs) for ours, theirs in zip(written, readable))
@@ -69,8 +71,10 @@ def differences(program, path):
     if same != len(readable) or len(written) != len(readable):
         found += ["  written:", *(f"    {line}" for line in written), "  wanted:", *(f"    {line}" for line in readable)]
     for line, column in told:
-        if f"line {line}, column {column}" not in listed:
+        if not re.search(rf"^line {line}, column {column}\b", tells, re.MULTILINE):
             found.append(f"  not told: line {line}, column {column}")
+    if listed.splitlines() != [line for line in tells.splitlines() if "): changed: " not in line]:
+        found += ["  check lists:", listed, "  write tells:", tells]
     return found, same, len(readable)
 
 

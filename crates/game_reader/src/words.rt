@@ -1,6 +1,15 @@
 //! The words of the command line.
-use clap::{Arg, ArgMatches, Command, value_parser};
-use std::alloc::{AllocError, Global};
+use shared_words::number;
+use thiserror::Error;
+
+/// The most plies that the opening of a game has. So many are taken where no number is given.
+const MOST_PLIES: u64 = 200;
+
+/// The number of the first part.
+const FIRST_PART: u64 = 1;
+
+/// The greatest number that a part may have.
+const LAST_PART: u64 = 999_999_999;
 
 /// What is asked.
 #[derive(Clone, Copy, PartialEq, Eq, Debug)]
@@ -13,53 +22,55 @@ pub enum Asked {
     Openings { plies: u64, part: Option<u64> },
 }
 
-/// The option `--part`.
-fn part_option<'a>(alloc: Global) -> Arg<'a> {
-    Arg::new(alloc, "part")
-        .long("part")
-        .value_name("N")
-        .help("only the Nth 4096 games of those that are written")
-        .value_parser(value_parser!(u64).range(1..1_000_000_000))
+/// Why the words ask nothing.
+#[derive(Clone, Copy, PartialEq, Eq, Debug, Error)]
+pub enum WordsRefusal {
+    /// They are of no form that the program knows.
+    #[error("the words are of no form that `game_reader --help` lists")]
+    Form,
+    /// What stands behind `--part` is no part's number.
+    #[error("`--part` takes a number from 1 to 999999999")]
+    Part,
+    /// What stands behind `--plies` is no number of plies.
+    #[error("`--plies` takes a number from 0 to 200")]
+    Plies,
 }
 
-/// The words that the program takes.
-pub fn command<'a>(alloc: Global) -> Result<Command<'a>, AllocError> {
-    let check = Command::new(alloc, "check").about(
-        "lists every fault and every doubtful reading; ends with 1 if there is any",
-    );
-    let write = Command::new(alloc, "write")
-        .about("writes the games that can be read, in the profile that solve reads")
-        .arg(part_option(alloc))?;
-    let plies = Arg::new(alloc, "plies")
-        .long("plies")
-        .value_name("N")
-        .help("how many plies of each game are its opening, 0 to 200")
-        .value_parser(value_parser!(u64).range(0..201))
-        .default_value("200");
-    let openings = Command::new(alloc, "openings")
-        .about("writes a game of one line for each distinct opening, with the games that have it")
-        .arg(plies)?
-        .arg(part_option(alloc))?;
-    Command::new(alloc, "game_reader")
-        .version("0.1.0")
-        .about("reads archives of games of English draughts as they are")
-        .subcommand_required(true)
-        .arg_required_else_help(true)
-        .subcommand(check)?
-        .subcommand(write)?
-        .subcommand(openings)
+/// The part that a word numbers, from 1.
+fn part_of(word: &str) -> Result<Option<u64>, WordsRefusal> {
+    match number(word.as_bytes()) {
+        Some(n) if FIRST_PART <= n && n <= LAST_PART => Ok(Some(n)),
+        _ => Err(WordsRefusal::Part),
+    }
 }
 
-/// What the words ask.
-pub fn asked_by(matches: &ArgMatches) -> Asked {
-    match matches.subcommand() {
-        Some(("write", given)) => Asked::Write {
-            part: given.get_one::<u64>("part"),
-        },
-        Some(("openings", given)) => Asked::Openings {
-            plies: given.get_one::<u64>("plies").unwrap_or(200),
-            part: given.get_one::<u64>("part"),
-        },
-        _ => Asked::Check,
+/// How many plies a word says.
+fn plies_of(word: &str) -> Result<u64, WordsRefusal> {
+    match number(word.as_bytes()) {
+        Some(n) if n <= MOST_PLIES => Ok(n),
+        _ => Err(WordsRefusal::Plies),
+    }
+}
+
+/// What the options behind `openings` ask: each stands at most once, with its number behind it.
+fn read_openings(options: &[&str]) -> Result<Asked, WordsRefusal> {
+    let (plies, part) = match options {
+        [] => (MOST_PLIES, None),
+        ["--plies", n] => (plies_of(n)?, None),
+        ["--part", k] => (MOST_PLIES, part_of(k)?),
+        ["--plies", n, "--part", k] | ["--part", k, "--plies", n] => (plies_of(n)?, part_of(k)?),
+        _ => return Err(WordsRefusal::Form),
+    };
+    Ok(Asked::Openings { plies, part })
+}
+
+/// What the words ask, without the program's name.
+pub fn read_words(words: &[&str]) -> Result<Asked, WordsRefusal> {
+    match words {
+        ["check"] => Ok(Asked::Check),
+        ["write"] => Ok(Asked::Write { part: None }),
+        ["write", "--part", k] => Ok(Asked::Write { part: part_of(k)? }),
+        ["openings", options @ ..] => read_openings(options),
+        _ => Err(WordsRefusal::Form),
     }
 }

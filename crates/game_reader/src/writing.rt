@@ -98,6 +98,7 @@ fn judged(
 }
 
 /// The game's text, if it can be written. Where it is the same game as an earlier one, a note says so.
+#[tactic(auto, using(crate::proofs::Written::one_text))]
 fn text_of(
     alloc: Global,
     game: &mut ArchiveGame,
@@ -273,8 +274,26 @@ fn gather<S: Source, N: Sink>(
     Err(RunRefusal::Archive(ArchiveRefusal::TooLong))
 }
 
+/// Writes the game of one line of the group at this place, from 0.
+#[tactic(auto, using(crate::proofs::Written::writes_none, crate::proofs::Written::writes_group))]
+fn write_group<K: Sink>(
+    alloc: Global,
+    sink: &mut K,
+    groups: &OpeningGroups,
+    place: usize,
+) -> Result<(), RunRefusal>
+    ensures { OnOk result (WritesGames (K.taken sink.old) (K.taken sink.new)) }
+{
+    if let Some((position, games)) = groups.group(place) {
+        if let Some(text) = group_text(alloc, &position, games)? {
+            write_all(sink, &text)?;
+        }
+    }
+    Ok(())
+}
+
 /// Writes a game of one line for each group of the part that is asked.
-#[tactic(auto, using(crate::proofs::Written::writes_none, crate::proofs::Written::writes_one, crate::proofs::Written::writes_more))]
+#[tactic(auto, using(crate::proofs::Written::writes_none, crate::proofs::Written::writes_more))]
 fn write_groups<K: Sink>(
     alloc: Global,
     sink: &mut K,
@@ -287,11 +306,7 @@ fn write_groups<K: Sink>(
         if !is_in_part(place as u64, part) {
             continue;
         }
-        if let Some((position, games)) = groups.group(place) {
-            if let Some(text) = group_text(alloc, &position, games)? {
-                write_all(sink, &text)?;
-            }
-        }
+        write_group(alloc, sink, groups, place)?;
     }
     Ok(())
 }

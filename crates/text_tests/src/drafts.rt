@@ -45,7 +45,7 @@ fn a_game(rt: HostRuntime) -> Result<(), Fail> {
         &[(11, None, 15), (22, None, 18), (15, None, 22)],
     )?;
     assert_eq!(rt;
-        draft.play(square(&rt, 24), &[], 20),
+        draft.play(square(&rt, 24), &[], square(&rt, 20)),
         Err(ResolveRefusal::Illegal)
     );
     let text = draft.text(Score::Halves, Layout::Lines)?.ok_or("unread")?;
