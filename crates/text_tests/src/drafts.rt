@@ -111,8 +111,11 @@ fn groups(rt: HostRuntime) -> Result<(), Fail> {
     groups.add(Position::start(), 44)?;
     groups.add(other, 45)?;
     assert_eq!(rt; groups.len(), 2);
-    let (position, games) = groups.group(0).ok_or("none")?;
-    let text = group_text(rt.alloc(), &position, games)?.ok_or("unread")?;
+    let text = match groups.group(0) {
+        Some((position, games)) => group_text(rt.alloc(), &position, games)?,
+        None => None,
+    };
+    let text = text.ok_or("unread")?;
     assert_eq!(rt;
         text.as_slice(),
         b"[FEN \"W:W21:B1\"] [Games \"12, 40-43, 45\"] *\n".as_slice()
