@@ -3,7 +3,6 @@ use bench_edges::{MemorySink, MemorySource, Status};
 use opening_report::{Refusal, Written};
 use program_edges::{KeepingSource, hand_back, read_source, refuse, told, write_answer};
 use std::alloc::{AllocError, Global};
-use std::process::Abort;
 use std::test::Fail;
 
 /// Words, and what a program tells of itself by them.
@@ -67,70 +66,65 @@ fn output(alloc: Global, is_settled: bool) -> Result<Written, AllocError> {
     })
 }
 
-/// What an answer comes to over a sink of which these writes fail, one byte a write.
-fn expect(
-    rt: &impl Abort,
+/// What an answer comes to over a sink of which these writes fail, one byte a write: the status, the refusal, and whether this
+/// text was taken.
+fn written_as(
     alloc: Global,
     answer: Result<Written, Refusal>,
-    failing: &[u64],
-    due: (Status, Option<Refusal>, &str),
-) -> Result<(), AllocError> {
-    let mut sink = MemorySink::new(alloc, failing.to_vec(alloc)?).at_most(1);
+    failing: Vec<u64>,
+    text: &str,
+) -> (Status, Option<Refusal>, bool) {
+    let mut sink = MemorySink::new(alloc, failing).at_most(1);
     let (status, refusal) = write_answer(answer, &mut sink);
-    assert!(rt; status == due.0 && refusal == due.1, "{}", due.2);
-    assert!(rt; sink.bytes() == due.2.as_bytes(), "{}", due.2);
-    Ok(())
+    let is_text = sink.bytes() == text.as_bytes();
+    (status, refusal, is_text)
 }
 
 #[test]
 fn answers_are_written(rt: HostRuntime) -> Result<(), Fail> {
     let alloc = rt.alloc();
-    let settled = output(alloc, true)?;
-    expect(
-        &rt,
-        alloc,
-        Ok(settled),
-        &[],
-        (Status::Done, None, "roots 0"),
-    )?;
-    let unsettled = output(alloc, false)?;
-    expect(
-        &rt,
-        alloc,
-        Ok(unsettled),
-        &[],
-        (Status::Unsolved, None, "roots 0"),
-    )?;
-    let unwritten = output(alloc, true)?;
-    expect(
-        &rt,
-        alloc,
-        Ok(unwritten),
-        &[4],
-        (Status::Write, None, "root"),
-    )?;
+    let settled = written_as(alloc, Ok(output(alloc, true)?), Vec::new(alloc), "roots 0");
+    assert!(rt; settled == (Status::Done, None, true));
+    let unsettled = written_as(alloc, Ok(output(alloc, false)?), Vec::new(alloc), "roots 0");
+    assert!(rt; unsettled == (Status::Unsolved, None, true));
+    let failing = [4].to_vec(alloc)?;
+    let unwritten = written_as(alloc, Ok(output(alloc, true)?), failing, "root");
+    assert!(rt; unwritten == (Status::Write, None, true));
     Ok(())
+}
+
+/// Refusals, with the status and the line of each.
+const REFUSED: [(Refusal, Status, &str); 6] = [
+    (Refusal::Words(1), Status::Words, "refused words at 1\n"),
+    (Refusal::TooLong, Status::Input, "refused input too-long\n"),
+    (Refusal::Disk, Status::Disk, "refused disk\n"),
+    (
+        Refusal::Damaged(40),
+        Status::Journal,
+        "refused journal damaged byte 40\n",
+    ),
+    (Refusal::Memory, Status::Memory, "refused memory\n"),
+    (Refusal::Read, Status::Read, "refused read\n"),
+];
+
+/// The line of the first refusal that is written otherwise.
+fn first_miswritten(alloc: Global) -> Option<&'static str> {
+    for (refusal, status, line) in &REFUSED {
+        let due = (*status, Some(*refusal), true);
+        if written_as(alloc, Err(*refusal), Vec::new(alloc), *line) != due {
+            return Some(*line);
+        }
+    }
+    None
 }
 
 #[test]
 fn refusals_are_written(rt: HostRuntime) -> Result<(), Fail> {
     let alloc = rt.alloc();
-    for (refusal, status, line) in [
-        (Refusal::Words(1), Status::Words, "refused words at 1\n"),
-        (Refusal::TooLong, Status::Input, "refused input too-long\n"),
-        (Refusal::Disk, Status::Disk, "refused disk\n"),
-        (
-            Refusal::Damaged(40),
-            Status::Journal,
-            "refused journal damaged byte 40\n",
-        ),
-        (Refusal::Memory, Status::Memory, "refused memory\n"),
-        (Refusal::Read, Status::Read, "refused read\n"),
-    ] {
-        expect(&rt, alloc, Err(refusal), &[], (status, Some(refusal), line))?;
-    }
+    assert!(rt; first_miswritten(alloc).is_none());
     // The status stays where the sink fails at the line.
     let mut sink = MemorySink::new(alloc, [0].to_vec(alloc)?);
-    assert!(rt; refuse(&Refusal::Disk, &mut sink) == Status::Disk && sink.bytes().is_empty());
+    let status = refuse(&Refusal::Disk, &mut sink);
+    assert!(rt; status == Status::Disk && sink.bytes().is_empty());
     Ok(())
 }
