@@ -2,7 +2,7 @@
 use Rattle.std.specs.Prelude.{ℕ, ◌≤◌, All, option_to_list}
 use Rattle.archive_games.specs.declared.game.ArchiveGame.{ArchiveGame}
 
--- each place of a game, and of what is told of it, is within so many bytes
+-- each place of a game, and of what is told of it, is within the bytes fed
 pub record IsGameWithin (bytes : ℕ) (game : ArchiveGame) : Type 0 where
   pub begins : game.begins.byte ≤ bytes
   pub tags : All (λ tag. tag.place.byte ≤ bytes) game.tags.items

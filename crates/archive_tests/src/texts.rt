@@ -14,7 +14,7 @@ fn take_signs(text: &mut ArchiveText, signs: &mut String) -> Result<(), AllocErr
     Ok(())
 }
 
-/// The signs of a source that is fed in pieces of so many bytes.
+/// The signs of a source that is fed in pieces of this many bytes.
 fn signs(alloc: Global, source: &[u8], piece: usize) -> Result<String, FeedRefusal> {
     let mut text = ArchiveText::new(alloc);
     let mut signs = String::new(alloc);

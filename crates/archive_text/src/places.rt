@@ -33,7 +33,7 @@ impl Place {
         byte: 0,
     };
 
-    /// The place behind a character that stands here and takes so many bytes.
+    /// The place behind a character that stands here and takes this many bytes.
     pub(crate) fn behind(self, letter: char, width: usize) -> Place
         requires few { self.byte + width ≤ 2 ^ 62 }
         requires some { 0 < width }

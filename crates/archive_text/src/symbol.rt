@@ -13,7 +13,7 @@ pub(crate) struct Symbol {
     pub(crate) is_reference: bool,
 }
 
-/// The line end at the front, which begins with a CR of so many bytes.
+/// The line end at the front, which begins with a CR of this many bytes.
 fn return_at(encoding: Encoding, rest: &[u8], width: usize) -> Symbol
     requires { (0 < width) × (width ≤ length rest.now) }
     ensures some { 0 < result.width }

@@ -18,7 +18,7 @@ pub enum Asked {
     Check,
     /// To write the games, or this part of them.
     Write { part: Option<u64> },
-    /// To write the openings after so many plies, or this part of them.
+    /// To write the openings after these plies, or this part of them.
     Openings { plies: u64, part: Option<u64> },
 }
 

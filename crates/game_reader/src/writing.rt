@@ -67,7 +67,7 @@ impl Tally {
 }
 
 /// The game numbered so among those that can be written, from 0, belongs to the part that is asked,
-/// from 1; where none is asked every game does.
+/// from 1; if none is asked every game does.
 fn is_in_part(number: u64, part: Option<u64>) -> bool {
     match part {
         None => true,

@@ -50,7 +50,7 @@ pub(crate) fn first_pass<R: Threads + Sync, D: Disk, O: Oracle + Sync, G: Gate +
     record_rest(session, waiting)
 }
 
-/// Searches up to so many roots. What tells a root's value is committed as it comes. All else comes back, and waits until the
+/// Searches at most `most` roots. What tells a root's value is committed as it comes. All else comes back, and waits until the
 /// last root was leased: so no root grows before that, and none has a second search.
 #[tactic(auto, using(crate::proofs::FirstPassLemmas::ungrown_then, crate::proofs::FirstPassLemmas::by_turns, worker_gate::proofs::SearchingLemmas::can_search_on))]
 fn search_roots<R: Threads + Sync, D: Disk, O: Oracle + Sync, G: Gate + Sync>(
@@ -138,7 +138,7 @@ fn count_roots(tree: &Tree) -> RootCounts
     RootCounts { all, settled }
 }
 
-/// Leases up to so many roots, as long as the pick gives one.
+/// Leases at most `most` roots, as long as the pick gives one.
 #[tactic(auto, using(crate::proofs::FirstPassLemmas::ungrown_then))]
 fn lease_roots<D: Disk>(
     alloc: Global,

@@ -7,7 +7,7 @@ use source_warnings::warnings_text;
 use std::alloc::{AllocError, Global};
 use std::io::IsTerminal;
 
-/// The number of `--plies` that takes all moves of a game. It stands where none is given.
+/// The number of `--plies` that takes all moves of a game. It stands if none is given.
 const ALL_PLIES: u8 = 200;
 
 /// How many plies of each game were asked, and 0 where all were.

@@ -28,7 +28,7 @@ impl MoverNumbers {
         other: 0,
     };
 
-    /// Those of a position that was not looked at, with so many replies: the mover needs one of them, the other side all.
+    /// Those of a position that was not looked at, with this many replies: the mover needs one of them, the other side all.
     pub(crate) fn unseen(replies: usize) -> MoverNumbers {
         MoverNumbers {
             own: 1,

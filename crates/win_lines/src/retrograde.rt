@@ -117,7 +117,7 @@ impl WonLines {
         Some(*p)
     }
 
-    /// The position waits for so many of its replies.
+    /// The position waits for this many of its replies.
     fn wait(&mut self, place: usize, replies: usize) {
         if let Some(line) = self.lines.get_index_mut(place) {
             line.waiting = replies;
@@ -181,7 +181,7 @@ impl WonLines {
         Ok(())
     }
 
-    /// A reply of the position at this place is won in so many plies: it waits for one less.
+    /// A reply of the position at this place is won in these plies: it waits for one less.
     fn hear(&mut self, place: usize, plies: u32) -> Result<(), AllocError> {
         let Some(line) = self.lines.get_index_mut(place) else {
             return Ok(());
@@ -198,7 +198,7 @@ impl WonLines {
         self.settle(place, slowest)
     }
 
-    /// The position at this place is won in so many plies.
+    /// The position at this place is won in this many plies.
     fn settle(&mut self, place: usize, plies: u32) -> Result<(), AllocError> {
         if let Some(line) = self.lines.get_index_mut(place) {
             line.plies = Some(plies);

@@ -21,7 +21,7 @@ const REMEMBERED_SHALLOW: usize = 4_096;
 /// .. and where it looks deeper.
 const REMEMBERED_DEEP: usize = 65_536;
 
-/// A search of so many plies takes less than making the larger memory.
+/// A search of this many plies takes less than making the larger memory.
 const SHALLOW: u8 = 4;
 
 /// What the search of a leaf found, made ready for staging.
