@@ -6,8 +6,8 @@ tests, a trial or a program that times; where the head of a crate, the lines `//
 names a file of tests that is not there; and where `docs/CRATES.md` is not what this program makes of the sections and the heads.
 With `--write` it writes that page.
 
-Of a head the page has the first paragraph, what stands from a paragraph that begins with `Proved` on, and the files behind
-`Tests:`; of tests, trials and what times the first sentence alone.
+Of a head the page has the first paragraph (its part before a colon, if that has SAYS_ENOUGH characters), the first sentence of the
+paragraph that begins with `Proved`, and the files behind `Tests:`; of tests, trials and what times one line of the first sentence.
 """
 import pathlib
 import re
@@ -20,13 +20,15 @@ SECTION = re.compile(r"# ---- (.+)")
 ON_TOP = ("tests", "trials", "speed")
 HEAD_LINES = 3
 WIDTH = 132
+SAYS_ENOUGH = 32
 INTRODUCTION = """# Crates
 
-What each crate is, what its contracts say, and what it stands on. `.ci/crates.py --write` writes this page from the sections of
-`crates.txt` and the heads of the crates' root files, and the gate fails where it is out of date: mend a head, and never this page.
+What each crate is, the first of what its contracts say, what it stands on, and where its tests are. The head of its root file,
+`src/lib.rt` or `src/main.rt`, says the rest. `.ci/crates.py --write` makes this page of `crates.txt` and the heads, and the gate
+fails if it is out of date: mend a head, and never this page.
 
-A crate stands on crates of earlier sections, and on those above it in its own. Of these a row names the ones that stand under no
-other of them. A crate without a line on tests has them in its own `src/`, or is tried by the crates above it.
+A crate stands on crates above it alone; behind `on` are those that stand under no other of them. `text_tests/words` is the file
+`crates/text_tests/src/words.rt`. A crate without one has its tests in its own `src/`, or is tried by the crates above it.
 """
 
 
@@ -52,18 +54,35 @@ class Crate:
         named = [part for part in self.paragraphs() if part.startswith("Tests:")]
         return re.split(r",\s*", named[0].removeprefix("Tests:").strip()) if named else []
 
-    def said(self):
-        """The paragraphs of the head that the page has."""
-        parts = [part for part in self.paragraphs() if not part.startswith("Tests:")]
-        proved = next((at for at, part in enumerate(parts) if part.startswith("Proved")), len(parts))
-        return [plain(part) for part in parts[:1] + parts[max(proved, 1):]]
+    def what(self):
+        """What it is. The name of a program stands before its colon already."""
+        text = plain(self.paragraphs()[0]).removeprefix(f"`{self.name}`: ")
+        front, colon, _ = text.partition(": ")
+        text = f"{front}." if colon and len(front) >= SAYS_ENOUGH else text
+        return text[:1].upper() + text[1:]
+
+    def proved(self):
+        """The first sentence of what its contracts say; none if no paragraph begins with `Proved`."""
+        parts = self.paragraphs()
+        begin = next((at for at, part in enumerate(parts) if part.startswith("Proved")), len(parts))
+        return first_sentence("\n".join(parts[begin:]))
 
 
 def plain(part):
-    """A paragraph in lines of the page; links to items of the code are their names alone."""
+    """A text in one line; links to items of the code are their names alone."""
     part = re.sub(r"\[(`[^`\]]+`)\](\([^)]*\))?", r"\1", part)
-    lines = re.sub(r"\n(?!- )\s*", " ", part).split("\n")
-    return "\n".join(wrapped(line, "  " if line.startswith("- ") else "") for line in lines)
+    return re.sub(r"\s+", " ", part)
+
+
+def first_sentence(text):
+    """A sentence that begins with `Then` belongs to the one before it, and the first item of a list to what announces it."""
+    text = re.sub(r":\s+- (.)", lambda match: ": " + match[1].lower(), text, count=1)
+    return plain(re.split(r"(?<=\.)\s+(?!Then )", text, maxsplit=1)[0])
+
+
+def one_line(text, room):
+    """A sentence, up to its first comma if it does not fit whole."""
+    return text if len(text) <= room else text.partition(",")[0]
 
 
 def wrapped(line, indent=""):
@@ -113,17 +132,21 @@ def faults_of(crates, lows):
                 yield f"crates/{crate.name}: its head names {path}, which is no file of crates/"
 
 
+def names_of(words):
+    return ", ".join(f"`{word}`" for word in words)
+
+
 def row(crate, lows):
     """What the page says of a crate."""
     if crate.section in ON_TOP:
-        sentence = re.split(r"(?<=[.:])\s", plain(crate.paragraphs()[0]), maxsplit=1)[0].rstrip(".:")
-        return wrapped(f"- `{crate.name}`: {sentence[:1].lower()}{sentence[1:]}.", "  ") + "\n"
+        what = re.split(r"[.:](?=\s|$)", plain(crate.paragraphs()[0]).removeprefix("Tests of the "), maxsplit=1)[0]
+        return f"- `{crate.name}`: {one_line(what[:1].lower() + what[1:], WIDTH - len(crate.name) - len('- ``: .'))}.\n"
     named = lows[crate.name]
     nearest = [low for low in named if not any(low in below(lows, other) for other in named)]
-    last = [f"Stands on {', '.join(f'`{low}`' for low in nearest)}."] if nearest else []
-    last += [f"Tests: {', '.join(f'`{path}`' for path in crate.tests())}."] if crate.tests() else []
-    parts = crate.said() + ([wrapped(" ".join(last))] if last else [])
-    return f"### {crate.name}\n\n" + "\n\n".join(parts) + "\n"
+    tests = [path.replace("/src/", "/").removesuffix(".rt") for path in crate.tests()]
+    parts = [f"`{crate.name}`{f', on {names_of(nearest)}' if nearest else ''}.", crate.what(), crate.proved()]
+    parts += [f"Tests: {names_of(tests)}."] if tests else []
+    return wrapped("- " + " ".join(part for part in parts if part), "  ") + "\n"
 
 
 def page_of(crates, lows):
@@ -132,7 +155,7 @@ def page_of(crates, lows):
         is_first = crate.section != section
         section = crate.section
         parts += [f"\n## {section[:1].upper()}{section[1:]}\n\n"] if is_first else []
-        parts += ["" if is_first or section in ON_TOP else "\n", row(crate, lows)]
+        parts.append(row(crate, lows))
     return "".join(parts)
 
 
