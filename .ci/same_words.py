@@ -1,7 +1,7 @@
 #!/usr/bin/env python3
 """Fails where `--help`, the manual page and the README name other commands or exit statuses than each other; where the manual page
-has other options than `--help`, or other numbers at one, and the README one that `--help` has not; and where what the program says of
-a number past an option's limit has other limits.
+has other options than `--help`, or other numbers at one, and the README one that `--help` has not; where a completion has other
+commands or options; and where what the program says of a number past an option's limit has other limits.
 
 What `--help` writes comes on standard input. Of the README the table of commands is looked at, and what follows it up to the next
 part. The program is run with each option of `--help` and a number that is one past its greatest.
@@ -86,6 +86,12 @@ def main():
         lacks = set() if what == "options" else here - there
         if there - here or lacks:
             faults.append(f"README.md has the {what} {sorted(there - here)} beside those of --help, and lacks {sorted(lacks)}")
+    for path in sorted(top.glob("completions/*opening_bench*")):
+        words = path.read_text(encoding="utf-8")
+        lacks = (told[0] | told[1]) - set(re.findall(r"[a-z-]+", words))
+        more = set(OPTION.findall(words)) - told[1]
+        if lacks or more:
+            faults.append(f"completions/{path.name} lacks {sorted(lacks)} of --help, and has {sorted(more)} beside")
     for name in sorted(told[3].keys() | manual[3].keys()):
         here, there = told[3].get(name, set()), manual[3].get(name, set())
         if here != there:
