@@ -49,6 +49,32 @@ fn read_gate<D: Disk>(disk: &mut D, len: u64, gate: u64) -> Result<Gate, DiskFau
     Ok(Gate::of(&start[..count], len - gate))
 }
 
+/// What stands at a gate's place. One that looks broken is looked at again if the disk has more
+/// bytes by now than were counted: another run may be writing, which opens a gate only when the
+/// whole frame stands behind it.
+fn find_gate<D: Disk>(disk: &mut D, len: &mut u64, gate: u64) -> Result<Gate, JournalRefusal>
+    requires len { IsHonest D.TELLS → len.old ≡ length (D.reads disk.old) }
+    requires within { gate ≤ len.old }
+    requires bound { len.old ≤ 2 ^ 62 }
+    ensures begins { IsHonest D.TELLS → IfOk result (BeginsGate (drop gate (D.reads disk.old))) }
+    ensures within { IfOk result (IsGateWithin (len.new - gate)) }
+    ensures len { IsHonest D.TELLS → len.new ≡ length (D.reads disk.new) }
+    ensures bound { (gate ≤ len.new) × (len.new ≤ 2 ^ 62) }
+    ensures refused { IfErr result (λ refusal. refusal ≡ JournalRefusal.DiskFault) }
+    ensures reads { OnlyReads D.Disk disk.old disk.new (result ≡ Err JournalRefusal.DiskFault) }
+{
+    let seen = read_gate(disk, *len, gate)?;
+    if !matches!(seen, Gate::Broken) {
+        return Ok(seen);
+    }
+    let count = measure(disk)?;
+    if count <= *len {
+        return Ok(seen);
+    }
+    *len = count;
+    Ok(read_gate(disk, count, gate)?)
+}
+
 /// Fills the buffer with the bytes from a place on, and tells whether there were so many.
 fn fill<D: Disk>(disk: &mut D, at: u64, into: &mut [u8]) -> Result<bool, DiskFault>
     ensures bytes { IsHonest D.TELLS → IfOk result (λ whole. MatchBool whole
@@ -64,28 +90,30 @@ fn fill<D: Disk>(disk: &mut D, at: u64, into: &mut [u8]) -> Result<bool, DiskFau
 fn read_frame<D: Disk>(
     alloc: Global,
     disk: &mut D,
-    len: u64,
+    len: &mut u64,
     gate: u64,
     text: &mut Vec<u8>,
     payloads: &mut Vec<Payload>,
 ) -> Result<Option<u64>, JournalRefusal>
-    requires len { IsHonest D.TELLS → len ≡ length (D.reads disk.old) }
-    requires within { gate ≤ len }
-    requires bound { len ≤ 2 ^ 62 }
+    requires len { IsHonest D.TELLS → len.old ≡ length (D.reads disk.old) }
+    requires within { gate ≤ len.old }
+    requires bound { len.old ≤ 2 ^ 62 }
     ensures frame { IsHonest D.TELLS → IfOk result (λ next. MatchOption next
         (IsClosed (drop gate (D.reads disk.old)))
         (λ n. AddsFrame gate n (D.reads disk.old) payloads.old.items payloads.new.items)) }
     ensures closed { IfOk result (λ next. IfNone next
-        ((gate < len) × (payloads.new.items ≡ payloads.old.items))) }
+        ((gate < len.new) × (payloads.new.items ≡ payloads.old.items))) }
     ensures goes { IfOk result (λ next. IfSome next
-        (λ n. (gate < n) × (n ≤ len) × (length payloads.new.items + gate ≤ length payloads.old.items
+        (λ n. (gate < n) × (n ≤ len.new) × (length payloads.new.items + gate ≤ length payloads.old.items
         + n))) }
     ensures refused { IsHonest D.TELLS →
         IfErr result (λ e. OnFalse (says_nothing_of_file e)
         (IsBrokenAt gate (drop gate (D.reads disk.old)) e)) }
+    ensures len { IsHonest D.TELLS → len.new ≡ length (D.reads disk.new) }
+    ensures bound { len.new ≤ 2 ^ 62 }
     ensures reads { OnlyReads D.Disk disk.old disk.new (result ≡ Err JournalRefusal.DiskFault) }
 {
-    let size = match read_gate(disk, len, gate)? {
+    let size = match find_gate(disk, len, gate)? {
         Gate::Closed => return Ok(None),
         Gate::Broken => return Err(JournalRefusal::Damaged(gate)),
         Gate::Open(size) => size,
@@ -101,8 +129,8 @@ fn read_frame<D: Disk>(
     Ok(Some(gate + 9 + size))
 }
 
-/// Reads the frames of a journal on a disk of so many bytes, from behind its head to the first
-/// closed gate.
+/// Reads the frames of a journal, from behind its head to the first closed gate. The disk had this
+/// many bytes when they were counted.
 pub fn read_frames<D: Disk>(
     alloc: Global,
     disk: &mut D,
@@ -115,15 +143,16 @@ pub fn read_frames<D: Disk>(
     requires bound { len ≤ 2 ^ 62 }
     ensures frames { IsHonest D.TELLS →
         IfOk result (λ f. HoldsFrames pieces (D.reads disk.old) f.gate f.payloads.items) }
-    ensures bound { IfOk result (λ f. (length f.payloads.items ≤ f.gate) × (f.gate < len)) }
+    ensures bound { IfOk result (λ f. (length f.payloads.items ≤ f.gate) × (f.gate < 2 ^ 62)) }
     ensures refused { IsHonest D.TELLS → IfErr result
         (λ e. OnFalse (says_nothing_of_file e) (IsDamage pieces (D.reads disk.old) e)) }
     ensures reads { OnlyReads D.Disk disk.old disk.new (result ≡ Err JournalRefusal.DiskFault) }
 {
+    let mut len = len;
     let mut gate = 8;
     let mut text = Vec::new(alloc);
     let mut payloads = Vec::new(alloc);
-    while let Some(next) = read_frame(alloc, disk, len, gate, &mut text, &mut payloads)? {
+    while let Some(next) = read_frame(alloc, disk, &mut len, gate, &mut text, &mut payloads)? {
         gate = next;
     }
     Ok(Frames { gate, payloads })

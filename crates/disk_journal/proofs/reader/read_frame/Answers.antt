@@ -12,11 +12,11 @@ pub returns-then-not-branch-2-clause-refused : goal.returns-then-not-branch-2-cl
 returns-then-not-branch-2-clause-refused g c = λ tells.
     let file = g.D.Disk.reads c.args.disk.now in
     let size = c.in-Open.size in
-    let at_gate : IsOpen size (drop c.args.gate file) = rw c.in-Open.is at (c.in_ok-read_gate.ensures.begins tells) in
+    let at_gate : IsOpen size (drop c.args.gate file) = rw c.in-Open.is at (c.in_ok-find_gate.ensures.begins tells) in
     let long : length c.deref_mut.result.now ≡ size = omega (arith, c.deref_mut.ensures.len, c.in_ok-resize.ensures.len) in
     let whole : c.in_ok-fill.field-0 ≡ true = search rules in
     let read = rw whole at (c.in_ok-fill.ensures.bytes tells) in
-    let same = ap (λ (l : List ℕ). take (length c.deref_mut.result.now) (drop (c.args.gate + 9) l)) (c.in_ok-read_gate.ensures.reads.looks tells).same in
+    let same = ap (λ (l : List ℕ). take (length c.deref_mut.result.now) (drop (c.args.gate + 9) l)) (c.in_ok-find_gate.ensures.reads.looks tells).same in
     let filled : c.fill.new.into ≡ take size (drop (c.args.gate + 9) file) = read ∙ same ∙ ap (λ n. take n (drop (c.args.gate + 9) file)) long in
     let text : c.deref.result.now ≡ c.fill.new.into = c.deref.ensures.value ∙ take_at c.fill.new.into _ c.resize.new.self.len (omega (arith, c.fill.auto.into, c.deref_mut.ensures.len)) in
     let none : c.in_ok-read_body.field-0 ≡ false = search rules in
@@ -25,17 +25,17 @@ returns-then-not-branch-2-clause-refused g c = λ tells.
 
 pub returns-then-not-branch-2-clause-reads : goal.returns-then-not-branch-2-clause-reads
 returns-then-not-branch-2-clause-reads g c =
-    reads_then g.D.Disk g.met.D.Disk.now_counts g.met.D.Disk.earlier_counts _ _ _ _ _ _ c.in_ok-read_gate.ensures.reads c.in_ok-fill.ensures.reads (λ is. absurd cc)
+    reads_then g.D.Disk g.met.D.Disk.now_counts g.met.D.Disk.earlier_counts _ _ _ _ _ _ c.in_ok-find_gate.ensures.reads c.in_ok-fill.ensures.reads (λ is. absurd cc)
 
 pub returns-clause-frame : goal.returns-clause-frame
 returns-clause-frame g c = λ tells.
     let file = g.D.Disk.reads c.args.disk.now in
     let size = c.in-Open.size in
-    let at_gate : IsOpen size (drop c.args.gate file) = rw c.in-Open.is at (c.in_ok-read_gate.ensures.begins tells) in
+    let at_gate : IsOpen size (drop c.args.gate file) = rw c.in-Open.is at (c.in_ok-find_gate.ensures.begins tells) in
     let long : length c.deref_mut.result.now ≡ size = omega (arith, c.deref_mut.ensures.len, c.in_ok-resize.ensures.len) in
     let whole : c.in_ok-fill.field-0 ≡ true = search rules in
     let read = rw whole at (c.in_ok-fill.ensures.bytes tells) in
-    let same = ap (λ (l : List ℕ). take (length c.deref_mut.result.now) (drop (c.args.gate + 9) l)) (c.in_ok-read_gate.ensures.reads.looks tells).same in
+    let same = ap (λ (l : List ℕ). take (length c.deref_mut.result.now) (drop (c.args.gate + 9) l)) (c.in_ok-find_gate.ensures.reads.looks tells).same in
     let filled : c.fill.new.into ≡ take size (drop (c.args.gate + 9) file) = read ∙ same ∙ ap (λ n. take n (drop (c.args.gate + 9) file)) long in
     let text : c.deref.result.now ≡ c.fill.new.into = c.deref.ensures.value ∙ take_at c.fill.new.into _ c.resize.new.self.len (omega (arith, c.fill.auto.into, c.deref_mut.ensures.len)) in
     let some : c.in_ok-read_body.field-0 ≡ true = search rules in
@@ -45,7 +45,7 @@ returns-clause-frame g c = λ tells.
 pub returns-clause-goes : goal.returns-clause-goes
 returns-clause-goes g c =
     let size = c.in-Open.size in
-    let within : (0 < size) × (9 + size ≤ c.args.len - c.args.gate) = rw c.in-Open.is at c.in_ok-read_gate.ensures.within in
+    let within : (0 < size) × (9 + size ≤ c.find_gate.new.len - c.args.gate) = rw c.in-Open.is at c.in_ok-find_gate.ensures.within in
     let long : length c.deref_mut.result.now ≡ size = omega (arith, c.deref_mut.ensures.len, c.in_ok-resize.ensures.len) in
     let text : c.deref.result.now ≡ c.fill.new.into = c.deref.ensures.value ∙ take_at c.fill.new.into _ c.resize.new.self.len (omega (arith, c.fill.auto.into, c.deref_mut.ensures.len)) in
     let some : c.in_ok-read_body.field-0 ≡ true = search rules in
@@ -59,4 +59,4 @@ returns-clause-goes g c =
 
 pub returns-clause-reads : goal.returns-clause-reads
 returns-clause-reads g c =
-    reads_then g.D.Disk g.met.D.Disk.now_counts g.met.D.Disk.earlier_counts _ _ _ _ _ _ c.in_ok-read_gate.ensures.reads c.in_ok-fill.ensures.reads (λ is. absurd cc)
+    reads_then g.D.Disk g.met.D.Disk.now_counts g.met.D.Disk.earlier_counts _ _ _ _ _ _ c.in_ok-find_gate.ensures.reads c.in_ok-fill.ensures.reads (λ is. absurd cc)

@@ -7,10 +7,12 @@ use Rattle.disk_journal.proofs.reader.read_frames.Goals as goal
 
 pub loop-payloads-preserved : goal.loop-payloads-preserved
 loop-payloads-preserved g c =
-    let goes : (c.loop-payloads.gate < c.in-Some.next) × (c.in-Some.next ≤ c.args.len) × (length c.read_frame.new.payloads.items + c.loop-payloads.gate ≤ length c.loop-payloads.payloads.items + c.in-Some.next) =
+    let goes : (c.loop-payloads.gate < c.in-Some.next) × (c.in-Some.next ≤ c.read_frame.new.len) × (length c.read_frame.new.payloads.items + c.loop-payloads.gate ≤ length c.loop-payloads.payloads.items + c.in-Some.next) =
     rw c.in-Some.is at c.in_ok-next.ensures.goes in
     record {
       within = goes.1;
+      bound = c.in_ok-next.ensures.bound;
+      len = c.in_ok-next.ensures.len;
       counted = omega (arith, goes.2, c.loop-payloads.invariant.counted);
       read = λ tells.
           let adds : AddsFrame c.loop-payloads.gate c.in-Some.next (g.D.Disk.reads c.loop-payloads.disk) c.loop-payloads.payloads.items c.read_frame.new.payloads.items = rw c.in-Some.is at (c.in_ok-next.ensures.frame tells) in

@@ -1,0 +1,50 @@
+#!/usr/bin/env python3
+"""Runs `report` again and again on a journal while `solve` writes to it.
+
+Each report has to show the roots of a prefix of what stands in the journal: a status of 0 or 1, and nothing refused. An argument names
+another program.
+"""
+import pathlib
+import subprocess
+import sys
+import tempfile
+
+TOP = pathlib.Path(__file__).resolve().parent.parent
+GAMES = b'[FEN "B:W18,22,26,30:B3,7,11,12"] *\n'
+BUDGET = "3000"
+LEAST_REPORTS = 10
+
+
+def reports_beside(program, folder):
+    """How the reports ended that ran beside one run of `solve`, and that run's status."""
+    journal = f"{folder}/journal"
+    words = [program, journal, "solve", "--depth", "0", "--budget", BUDGET]
+    ended = []
+    with subprocess.Popen(words, stdin=subprocess.PIPE, stdout=subprocess.DEVNULL) as run:
+        run.stdin.write(GAMES)
+        run.stdin.close()
+        while run.poll() is None:
+            report = subprocess.run([program, journal, "report"], stdin=subprocess.DEVNULL, capture_output=True, check=False)
+            ended.append((report.returncode, report.stdout))
+    return ended, run.returncode
+
+
+def main():
+    if len(sys.argv) > 1:
+        program = sys.argv[1]
+    else:
+        subprocess.run([TOP / "bin/opening_bench", "--version"], stdout=subprocess.DEVNULL, check=True)
+        program = TOP / "crates/opening_bench/out/opening_bench"
+    with tempfile.TemporaryDirectory() as folder:
+        ended, status = reports_beside(program, folder)
+    faults = [f"`solve` ended with {status}"] if status not in (0, 1) else []
+    if len(ended) < LEAST_REPORTS:
+        faults.append(f"only {len(ended)} reports ran beside `solve`")
+    faults += [f"a report ended with {code}: {text[:200]!r}" for code, text in ended if code not in (0, 1)][:3]
+    for fault in faults:
+        print(f"beside: {fault}", file=sys.stderr)
+    return 1 if faults else 0
+
+
+if __name__ == "__main__":
+    sys.exit(main())
