@@ -12,7 +12,8 @@ import tempfile
 TOP = pathlib.Path(__file__).resolve().parent.parent
 GAMES = b'[FEN "B:W18,22,26,30:B3,7,11,12"] *\n'
 BUDGET = "3000"
-LEAST_REPORTS = 10
+ENOUGH_REPORTS = 20
+MOST_RUNS = 10
 
 
 def reports_beside(program, folder):
@@ -35,11 +36,14 @@ def main():
     else:
         subprocess.run([TOP / "bin/opening_bench", "--version"], stdout=subprocess.DEVNULL, check=True)
         program = TOP / "crates/opening_bench/out/opening_bench"
-    with tempfile.TemporaryDirectory() as folder:
-        ended, status = reports_beside(program, folder)
-    faults = [f"`solve` ended with {status}"] if status not in (0, 1) else []
-    if len(ended) < LEAST_REPORTS:
-        faults.append(f"only {len(ended)} reports ran beside `solve`")
+    ended, faults = [], []
+    for _ in range(MOST_RUNS):
+        with tempfile.TemporaryDirectory() as folder:
+            reports, status = reports_beside(program, folder)
+        ended += reports
+        faults += [f"`solve` ended with {status}"] if status not in (0, 1) else []
+        if len(ended) >= ENOUGH_REPORTS:
+            break
     faults += [f"a report ended with {code}: {text[:200]!r}" for code, text in ended if code not in (0, 1)][:3]
     for fault in faults:
         print(f"beside: {fault}", file=sys.stderr)
