@@ -1,8 +1,8 @@
 #!/usr/bin/env python3
 """Runs `report` again and again on a journal while `solve` writes to it.
 
-Each report has to show the roots of a prefix of what stands in the journal: a status of 0 or 1, and nothing refused. An argument names
-another program.
+Each report has to end with status 0 or 1, so none is refused; what it shows is not looked at. At least one has to run. An argument
+names another program.
 """
 import pathlib
 import subprocess
@@ -44,6 +44,7 @@ def main():
         faults += [f"`solve` ended with {status}"] if status not in (0, 1) else []
         if len(ended) >= ENOUGH_REPORTS:
             break
+    faults += [] if ended else ["no report ran beside `solve`"]
     faults += [f"a report ended with {code}: {text[:200]!r}" for code, text in ended if code not in (0, 1)][:3]
     for fault in faults:
         print(f"beside: {fault}", file=sys.stderr)
