@@ -80,8 +80,8 @@ def try_roots(program, folder):
 
 def try_work(program, folder):
     """All records of work that a journal may have, over three sessions. Each is a position that is expanded, of 22 bytes, behind a
-    head of 9 bytes and a root of 31."""
-    for budget, due in ((WORK - 10, (WORK - 10) * 22 + 40), (4, 4 * 22), (WORK, 6 * 22), (WORK, 0)):
+    head of 9 bytes and a root of 35."""
+    for budget, due in ((WORK - 10, (WORK - 10) * 22 + 44), (4, 4 * 22), (WORK, 6 * 22), (WORK, 0)):
         path = pathlib.Path(folder, "work")
         before = path.stat().st_size if path.exists() else 0
         run(program, ["work", "solve", "--depth", "0", "--budget", str(budget)], [b"*"], folder)

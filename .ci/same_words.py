@@ -1,10 +1,11 @@
 #!/usr/bin/env python3
 """Fails where `--help`, the manual page and the README name other commands or exit statuses than each other; where the manual page
 has other options than `--help`, or other numbers at one, and the README one that `--help` has not; where a completion has other
-commands or options; and where what the program says of a number past an option's limit has other limits.
+commands or options; and where what the program says of words that it refuses names other commands, options or limits.
 
 What `--help` writes comes on standard input. Of the README the table of commands is looked at, and what follows it up to the next
-part. The program is run with each option of `--help` and a number that is one past its greatest.
+part. The program is run with each option of `--help` and a number that is one past its greatest, with each command of `--help` that
+takes numbers and a word that is none, and with words that are no command and no option. The sentence that shows the word is left out.
 """
 import pathlib
 import re
@@ -42,10 +43,11 @@ def of_help(text):
 
 
 def of_placeholders(text):
-    """The numbers that --help says of each option, and of the letter that stands for its number."""
+    """The numbers that --help says of each option, and, where it says no range, of the letter that stands for its number."""
     letters = items(text, re.compile(r"([A-Z]+)  +(?=\S)"))
     options = items(text, re.compile(r"(--[a-z-]+)(?= [A-Z])"))
-    return {name: numbers(said) | numbers(letters.get(said.split()[0], "")) for name, said in options.items()}
+    of_letters = {name: "" if " to " in said else letters.get(said.split()[0], "") for name, said in options.items()}
+    return {name: numbers(said) | numbers(of_letters[name]) for name, said in options.items()}
 
 
 def of_manual(text):
@@ -65,11 +67,41 @@ def of_readme(text):
     return set(COMMAND.findall(part)), set(OPTION.findall(text)), statuses
 
 
-def limits_told(program, name, most):
-    """The numbers that the program says on standard error of a number that is one past the greatest of an option."""
-    words = [program, "-", "solve", name, str(most + 1)]
-    told = subprocess.run(words, stdin=subprocess.DEVNULL, stdout=subprocess.DEVNULL, stderr=subprocess.PIPE, check=False)
-    return numbers(told.stderr.decode("utf-8", "replace"))
+def of_arguments(text):
+    """The numbers that --help says of the letters of each command that takes any."""
+    letters = {name: numbers(said) for name, said in items(text, re.compile(r"([A-Z]+)  +(?=\S)")).items()}
+    usages = re.findall(r"^  opening_bench PATH ([a-z-]+)((?: [A-Z]+)+)(?: >.*)?$", text, re.M)
+    return {command: set().union(*(letters[name] for name in said.split())) for command, said in usages}
+
+
+def text_told(program, *words):
+    """What the program says on standard error of words that it refuses, behind the sentence that shows the last one, which is wrong."""
+    told = subprocess.run([program, "-", *words], stdin=subprocess.DEVNULL, stdout=subprocess.DEVNULL, stderr=subprocess.PIPE, check=False)
+    return told.stderr.decode("utf-8", "replace").removeprefix(f"`{words[-1]}` cannot stand there. ")
+
+
+def names_told(text, begins):
+    """The names of a sentence `The commands are a, b and c`."""
+    match = re.search(begins + r" ([a-z, -]+)", text)
+    return set(re.findall(r"[a-z-]+", match.group(1).replace(" and ", ", ").replace("each with a number", ""))) if match else set()
+
+
+def faults_of_told(program, text, commands, options):
+    """Where what the program says of words that it refuses has other names or limits than --help."""
+    for what, said, due in (
+        ("commands", names_told(text_told(program, "no-command"), "The commands are"), commands),
+        ("options", names_told(text_told(program, "solve", "--no-option"), "The options are"), options - {"--help", "--version"}),
+    ):
+        if said != due:
+            yield f"of {what} --help has {sorted(due)}, and the text on a word that is none {sorted(said)}"
+    for name, due in sorted(of_placeholders(text).items()):
+        said = numbers(text_told(program, "solve", name, str(max(due) + 1)))
+        if not said or not said <= due or max(said) != max(due):
+            yield f"at {name} --help has the numbers {sorted(due)}, and the text on a number that is too great {sorted(said)}"
+    for command, due in sorted(of_arguments(text).items()):
+        said = numbers(text_told(program, command, "none"))
+        if said != due:
+            yield f"at {command} --help has the numbers {sorted(due)}, and the text on a word that is none {sorted(said)}"
 
 
 def main():
@@ -96,10 +128,7 @@ def main():
         here, there = told[3].get(name, set()), manual[3].get(name, set())
         if here != there:
             faults.append(f"at {name} --help has the numbers {sorted(here)} and docs/opening_bench.1 {sorted(there)}")
-    for name, here in sorted(of_placeholders(text).items()):
-        said = limits_told(top / "bin/opening_bench", name, max(here))
-        if not said or not said <= here or max(said) != max(here):
-            faults.append(f"at {name} --help has the numbers {sorted(here)}, and the text on a number that is too great {sorted(said)}")
+    faults += faults_of_told(top / "bin/opening_bench", text, told[0], told[1])
     for fault in faults:
         print(f"look: {fault}", file=sys.stderr)
     sys.exit(1 if faults else 0)

@@ -2,7 +2,7 @@
 # Work records a second of one worker and of four, and how many times as many those are: 2,000 openings that are made from seed
 # 1, searched 8 plies deep, with the journal in memory, and 400 of them with a journal in the folder for temporary files.
 # The runs of one and of four take turns, and the fastest of three counts; the beginning of the roots is not timed. Then where the
-# time of one worker goes, and what one thread and four make with no bench and no turns: of the searches and their encoding alone,
+# time of one worker goes, and what one thread and four make with no bench and no turns: of the searches and their sheets alone,
 # and of steps in registers that take about as long as one worker, which is what this machine makes of four threads in so short a
 # time.
 #

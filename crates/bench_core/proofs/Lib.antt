@@ -23,3 +23,5 @@ pub mod ForgetLemmas
 pub mod OneForest
 pub mod KnownAtSight
 pub mod WaitingLemmas
+pub mod NamingLemmas
+pub mod ReadLemmas

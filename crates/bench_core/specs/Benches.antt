@@ -21,6 +21,7 @@ use Rattle.certificate_checker.specs.Told.{facts_shown}
 use Rattle.bench_core.specs.Grown.{GrownState}
 use Rattle.bench_core.specs.States.{CoreState, AreRowsApart}
 use Rattle.bench_core.specs.Cores.{Core, IsSoundCore}
+use Rattle.bench_core.specs.Naming.{NamingState, AreNamesOf}
 
 -- the record that is staged
 abbrev pub record_staged : Staged → BenchRecord
@@ -104,3 +105,9 @@ pub record IsBench (whole : Core) (grown : GrownState) (leases : LeaseRows) (wai
   pub nodes : due ≤ grown.nodes
   pub room : length waiting ≤ grown.room
   pub countable : whole.state.work + length waiting < 2 ^ 64
+
+-- .. and its list of names is that of its records
+pub record IsNamingBench (whole : Core) (grown : GrownState) (leases : LeaseRows)
+    (waiting : List Staged) (due : ℕ) (list : NamingState) : Type 0 where
+  pub bench : IsBench whole grown leases waiting due
+  pub names : AreNamesOf grown.records (map record_staged waiting) list

@@ -4,6 +4,7 @@ pub mod Grown
 pub mod States
 pub mod Cores
 pub mod Answers
+pub mod Naming
 pub mod Benches
 pub mod Results
 pub mod Applying

@@ -1,14 +1,15 @@
 //! A bench.
 use crate::applying::{apply, end, keep};
 use crate::grown::GrownTree;
+use crate::naming::Naming;
 use crate::refusals::{LeaseRefusal, ReadyRefusal, ReplayRefusal};
-use crate::replaying::{replay_begin, replay_expand, replay_solve};
+use crate::replaying::replay_record;
 use crate::results::{Found, LeaseResult};
 use crate::settings::{MOST_WORK, Settings};
 use crate::shown::is_same_lease;
 use crate::staged::Staged;
 use crate::taken::{LeasedNodes, lease_at};
-use bench_records::{BenchRecord, encode};
+use bench_records::{BenchRecord, Named, Sheet, decode, kind_of, sheet_of};
 use certificate_checker::Outcome;
 use draughts_board::Position;
 use lease_table::{Lease, LeaseId, Leases, Stale};
@@ -19,7 +20,7 @@ use std::marker::Model;
 use strategy_certificate::{Certificate, Oracle};
 use swift_sight::child_at_sight;
 
-/// A proof tree with its certificates, the leases of its leaves, and what is staged.
+/// A proof tree with its certificates, the leases of its leaves, what is staged, and the positions that its records name.
 ///
 /// A contract sees the state of the core, the records by which its forest came about, and those that are staged. Rows
 /// of leases that ran out are hidden.
@@ -28,6 +29,7 @@ pub struct Bench {
     grown: GrownTree,
     leases: Leases,
     staged: Vec<Staged>,
+    names: Naming,
     /// How many nodes the staged records will make.
     nodes_due: usize,
     /// How many leases were given.
@@ -42,7 +44,7 @@ impl Model for Bench {
     ghost use Rattle.std.specs.Coded.{codes};
     ghost use Rattle.proof_tree.specs.Code.{forest_code};
     ghost use Rattle.bench_core.specs.Cores.{Core};
-    ghost use Rattle.bench_core.specs.Benches.{seen, IsBench};
+    ghost use Rattle.bench_core.specs.Benches.{seen, IsNamingBench};
 
     ghost Value = { Core };
 
@@ -51,13 +53,13 @@ impl Model for Bench {
     ghost view = { λ b. seen b.grown b.leases b.staged.items b.given b.work b.settings };
 
     ghost invariant = { λ b.
-        IsBench (seen b.grown b.leases b.staged.items b.given b.work b.settings)
-        b.grown b.leases b.staged.items b.nodes_due };
+        IsNamingBench (seen b.grown b.leases b.staged.items b.given b.work b.settings)
+        b.grown b.leases b.staged.items b.nodes_due b.names };
 }
 
 impl Bench {
     ghost use Rattle.proof_tree.specs.declared.tree.TheConstants.{MOST_ROOTS};
-    ghost use Rattle.bench_core.specs.declared.settings.TheConstants.{MOST_WORK, MOST_LEASE};
+    ghost use Rattle.bench_core.specs.declared.settings.TheConstants.{MOST_WORK};
     ghost use Rattle.std.specs.Prelude.{◌≡◌, ◌≢◌, ◌≤◌, ◌<◌, ◌+◌, ◌-◌, ◌^◌, ◌++◌, ◌∷◌, [], ℕ, List, Contains, length, min, count_by, slice_get, Option, Ok, IfOk, IfErr, IfSome, IsSome, OnOk, OnErr, IsTrue, ◌↔◌, Some, false};
     ghost use Rattle.draughts_board.specs.Board.{Board};
     ghost use Rattle.draughts_board.specs.Draughts.{draughts};
@@ -69,25 +71,19 @@ impl Bench {
     ghost use Rattle.certificate_joiner.specs.Certified.{IsJoined, claim_for};
     ghost use Rattle.std.specs.Option.{option_map};
     ghost use Rattle.lease_table.specs.Rows.{first_unkept, without};
-    ghost use Rattle.bench_records.specs.declared.records.BenchRecord.{BenchRecord as Record};
     ghost use Rattle.bench_records.specs.declared.records.BenchRecord.TheVariants as records;
-    ghost use Rattle.bench_records.specs.Texts.{IsText};
+    ghost use Rattle.bench_records.specs.Texts.{IsText, IsShortText, short_kind, record_sheet, named_in};
     ghost use Rattle.bench_core.specs.Records.{is_work, begun};
     ghost use Rattle.bench_core.specs.States.{HasRow, IsFoundUnder, lease_answer, with_lease, with_lease_rows};
-    ghost use Rattle.bench_core.specs.Cores.{Core, IsSoundCore, new_core, with_budget, with_staged, MayStage, IsOutcomeOf, record_of, with_record, IsForgotten, IsCommitted, CanApplyAll};
+    ghost use Rattle.bench_core.specs.Cores.{Core, IsSoundCore, new_core, with_budget, with_staged, MayStage, IsOutcomeOf, record_of, IsForgotten, IsCommitted, CanApplyAll};
     ghost use Rattle.certificate_checker.specs.Sight.{IsAtSight};
     ghost use Rattle.bench_core.specs.Benches.{record_staged, lease_kept, IsPrepared};
     ghost use Rattle.bench_core.specs.Results.{outcome_of, IsTold};
-    ghost use Rattle.bench_core.specs.Growing.{GrowsWith};
-    ghost use Rattle.bench_core.specs.Answers.{RefusesLease, RefusesReady, RefusesReplay, unkept};
+    ghost use Rattle.bench_core.specs.Answers.{RefusesLease, RefusesReady, HasReplayed, RefusesReplay, unkept};
 
     /// A bench without roots. The caller knows that there is a sound table of so many pieces, as each oracle tells.
     pub fn new(alloc: Global, s: Settings) -> Result<Bench, AllocError>
         requires pieces { IsTableSize s.pieces }
-        requires depth { s.depth ≤ 12 }
-        requires budget { s.budget ≤ MOST_WORK }
-        requires lasts { 1 ≤ s.lease }
-        requires lease { s.lease ≤ MOST_LEASE }
         requires table { (answer : Board → Option Answer) × IsSoundTable draughts s.pieces answer }
         ensures { IfOk result (λ bench. bench ≡ new_core s) }
     {
@@ -95,6 +91,7 @@ impl Bench {
             grown: GrownTree::new(alloc),
             leases: Leases::new(alloc, s.lease),
             staged: Vec::new(alloc),
+            names: Naming::new(alloc),
             nodes_due: 0,
             given: 0,
             work: 0,
@@ -118,31 +115,39 @@ impl Bench {
         self.work = 0;
     }
 
-    /// Applies a record that is read back, checking it by the tree and the table. It is not counted as the session's work.
+    /// Reads a payload as the text of a record behind those of the bench, and applies the record, checking it by the tree
+    /// and the table. It is not counted as the session's work.
     ///
-    /// `Unlawful` comes exactly where the record is not lawful for the tree as it is. After a refusal the bench is as it
-    /// was.
-    pub fn replay<O: Oracle>(&mut self, r: BenchRecord, oracle: &O) -> Result<(), ReplayRefusal>
+    /// `Unread` comes exactly where the payload is the text of no record there, with what goes wrong first, and `Unlawful`
+    /// exactly where its record is not lawful for the tree as it is. After a refusal the bench is as it was.
+    pub fn replay<O: Oracle>(&mut self, payload: &[u8], oracle: &O) -> Result<(), ReplayRefusal>
         requires tables { O.piece_limit oracle.now ≡ self.old.state.settings.pieces }
         requires leased { self.old.state.leases.rows ≡ [] }
         requires staged { self.old.staged ≡ [] }
-        ensures grown { OnOk result (GrowsWith self.old.state.settings.pieces
-            self.old.state.forest r self.new.state.forest) }
-        ensures rest { OnOk result (self.new ≡ with_record self.old r self.new.state.forest) }
-        ensures refused { IfErr result (RefusesReplay self.old r) }
+        ensures replayed { OnOk result (HasReplayed self.old payload.now self.new) }
+        ensures refused { IfErr result (RefusesReplay self.old payload.now) }
         ensures unchanged { OnErr result (self.new ≡ self.old) }
     {
-        match r {
-            BenchRecord::Begin(p) => replay_begin(self.alloc, &mut self.grown, p, oracle),
-            BenchRecord::Solve {
-                node,
-                position,
-                shown,
-            } => replay_solve(self.alloc, &mut self.grown, node, position, shown, oracle),
-            BenchRecord::Expand { node } => {
-                replay_expand(self.alloc, &mut self.grown, node, oracle)
-            }
+        let r = decode(
+            self.alloc,
+            payload,
+            self.settings.pieces,
+            self.names.named(),
+        )?;
+        self.names.add(&r)?;
+        if let Err(refusal) = replay_record(self.alloc, &mut self.grown, r, oracle) {
+            self.names.forget();
+            return Err(refusal.into());
         }
+        self.names.apply_all();
+        Ok(())
+    }
+
+    /// The positions that the records name, those applied and those staged: each once, in the order of first naming.
+    pub fn named(&self) -> &Named
+        ensures { result.now ≡ named_in [] (self.now.records ++ self.now.staged) }
+    {
+        self.names.named()
     }
 
     /// The tree. Every bench is sound.
@@ -244,7 +249,8 @@ impl Bench {
         Ok(())
     }
 
-    /// Stages a root, and gives the text of its record. After want of memory the bench is as it was.
+    /// Stages a root, and gives the text of its record, of version 2 behind those applied and staged. After want of memory
+    /// the bench is as it was.
     pub fn begin<O: Oracle>(&mut self, p: Position, oracle: &O) -> Result<Vec<u8>, AllocError>
         requires tables { O.piece_limit oracle.now ≡ self.old.state.settings.pieces }
         requires absent { ¬ Contains (root_positions self.old.state.forest
@@ -254,20 +260,27 @@ impl Bench {
         ensures staged { OnOk result (self.new ≡ with_staged self.old (records.Begin p)) }
         ensures may { OnOk result (MayStage self.old (records.Begin p)) }
         ensures grows { OnOk result (CanApplyAll self.new) }
-        ensures text { IfOk result (λ text. (before : List Record)
-            → IsText self.old.state.settings.pieces before (records.Begin p) text.items) }
+        ensures text { IfOk result (λ text. IsText self.old.state.settings.pieces
+            (self.old.records ++ self.old.staged) (records.Begin p) text.items) }
+        ensures short { IfOk result (λ text. IsShortText
+            (named_in [] (self.old.records ++ self.old.staged)) (records.Begin p) text.items) }
         ensures unchanged { OnErr result (self.new ≡ self.old) }
     {
         let root = child_at_sight(self.alloc, &p, oracle)?;
-        let text = encode(self.alloc, &BenchRecord::Begin(p))?;
-        self.stage_root(root)?;
-        Ok(text)
+        let record = BenchRecord::Begin(p);
+        let sheet = sheet_of(self.alloc, &record)?;
+        self.stage_root(root, kind_of(&record), &sheet)
     }
 
-    /// Stages a root.
-    fn stage_root(&mut self, root: Child) -> Result<(), AllocError>
+    /// Stages a root, whose record has this kind and this sheet.
+    fn stage_root(&mut self, root: Child, kind: u8, sheet: &Sheet) -> Result<Vec<u8>, AllocError>
         requires sight { IsAtSight self.old.state.settings.pieces root }
         requires may { MayStage self.old (records.Begin root.position) }
+        requires kind { kind ≡ short_kind (records.Begin root.position) }
+        requires sheet { sheet.now ≡ record_sheet (records.Begin root.position) }
+        ensures short { IfOk result (λ text. IsShortText
+            (named_in [] (self.old.records ++ self.old.staged)) (records.Begin root.position)
+            text.items) }
         ensures staged { OnOk result
             (self.new ≡ with_staged self.old (records.Begin root.position)) }
         ensures grows { OnOk result (CanApplyAll self.new) }
@@ -280,13 +293,15 @@ impl Bench {
             return Err(AllocError);
         };
         self.grown.reserve(nodes, self.staged.len() + 1)?;
-        self.staged.push(Staged::Begin(root))?;
+        self.staged.reserve(1)?;
+        let text = self.names.stage(self.alloc, kind, sheet)?;
+        self.staged.push_reserved(Staged::Begin(root));
         self.nodes_due = nodes;
-        Ok(())
+        Ok(text)
     }
 
-    /// Stages the result of a lease's search, keeps the lease for it, and gives the text of its record. After a refusal
-    /// the bench is as it was, and the outcome is dropped.
+    /// Stages the result of a lease's search, keeps the lease for it, and gives the text of its record, of version 2 behind
+    /// those applied and staged. After a refusal the bench is as it was, and the outcome is dropped.
     ///
     /// `Stale` comes exactly where no live row is this lease, or it is kept already.
     pub fn ready(&mut self, lease: &Lease, outcome: Outcome) -> Result<Vec<u8>, ReadyRefusal>
@@ -296,9 +311,11 @@ impl Bench {
             (self.new ≡ with_staged self.old (record_of lease.now outcome)) }
         ensures may { OnOk result (MayStage self.old (record_of lease.now outcome)) }
         ensures grows { OnOk result (CanApplyAll self.new) }
-        ensures text { IfOk result (λ text. (before : List Record)
-            → IsText self.old.state.settings.pieces before
-            (record_of lease.now outcome) text.items) }
+        ensures text { IfOk result (λ text. IsText self.old.state.settings.pieces
+            (self.old.records ++ self.old.staged) (record_of lease.now outcome) text.items) }
+        ensures short { IfOk result (λ text. IsShortText
+            (named_in [] (self.old.records ++ self.old.staged)) (record_of lease.now outcome)
+            text.items) }
         ensures refused { IfErr result (RefusesReady self.old.state lease.now) }
         ensures unchanged { OnErr result (self.new ≡ self.old) }
     {
@@ -306,25 +323,33 @@ impl Bench {
         self.ready_result(found)
     }
 
-    /// Stages a result that is made already, as `ready` does. It copies no certificate and encodes nothing.
+    /// Stages a result that is made already, as `ready` does. It copies no certificate, and of the text it makes the
+    /// numbers of positions alone.
     pub fn ready_result(&mut self, found: LeaseResult) -> Result<Vec<u8>, ReadyRefusal>
         ensures live { OnOk result (Contains self.old.state.leases.rows (unkept found.lease)) }
         ensures staged { OnOk result
             (self.new ≡ with_staged self.old (record_of found.lease found.outcome)) }
         ensures may { OnOk result (MayStage self.old (record_of found.lease found.outcome)) }
         ensures grows { OnOk result (CanApplyAll self.new) }
-        ensures text { IfOk result (λ text. (before : List Record)
-            → IsText self.old.state.settings.pieces before
+        ensures text { IfOk result (λ text. IsText self.old.state.settings.pieces
+            (self.old.records ++ self.old.staged) (record_of found.lease found.outcome)
+            text.items) }
+        ensures short { IfOk result (λ text. IsShortText
+            (named_in [] (self.old.records ++ self.old.staged))
             (record_of found.lease found.outcome) text.items) }
         ensures refused { IfErr result (RefusesReady self.old.state found.lease) }
         ensures unchanged { OnErr result (self.new ≡ self.old) }
     {
-        let LeaseResult { lease, found, text } = found;
+        let LeaseResult {
+            lease,
+            found,
+            kind,
+            sheet,
+        } = found;
         if !self.is_open(&lease) {
             return Err(ReadyRefusal::Stale(lease.id));
         }
-        self.stage_found(&lease, found)?;
-        Ok(text)
+        Ok(self.stage_found(&lease, found, kind, &sheet)?)
     }
 
     /// Whether a live row that is not kept is this lease.
@@ -343,11 +368,22 @@ impl Bench {
         !self.leases.is_kept(lease.id)
     }
 
-    /// Stages what the search under an open lease found.
-    fn stage_found(&mut self, lease: &Lease, found: Found) -> Result<(), AllocError>
+    /// Stages what the search under an open lease found, whose record has this kind and this sheet.
+    fn stage_found(
+        &mut self,
+        lease: &Lease,
+        found: Found,
+        kind: u8,
+        sheet: &Sheet,
+    ) -> Result<Vec<u8>, AllocError>
         requires live { Contains self.old.state.leases.rows (unkept lease.now) }
         requires outcome { IsOutcomeOf lease.now (outcome_of found) }
         requires told { IsTold found }
+        requires kind { kind ≡ short_kind (record_of lease.now (outcome_of found)) }
+        requires sheet { sheet.now ≡ record_sheet (record_of lease.now (outcome_of found)) }
+        ensures short { IfOk result (λ text. IsShortText
+            (named_in [] (self.old.records ++ self.old.staged))
+            (record_of lease.now (outcome_of found)) text.items) }
         ensures staged { OnOk result
             (self.new ≡ with_staged self.old (record_of lease.now (outcome_of found))) }
         ensures may { MayStage self.old (record_of lease.now (outcome_of found)) }
@@ -359,15 +395,25 @@ impl Bench {
             unreachable!()
         };
         let item = found.into_staged(lease, node);
-        self.stage_work(lease.id, item)
+        self.stage_work(lease.id, item, kind, sheet)
     }
 
-    /// Stages the record of an open lease's search, and keeps the lease for it.
-    fn stage_work(&mut self, id: LeaseId, item: Staged) -> Result<(), AllocError>
+    /// Stages the record of an open lease's search, which has this kind and this sheet, and keeps the lease for it.
+    fn stage_work(
+        &mut self,
+        id: LeaseId,
+        item: Staged,
+        kind: u8,
+        sheet: &Sheet,
+    ) -> Result<Vec<u8>, AllocError>
         requires found { HasRow (λ row. (row.kept ≡ false)
             × IsFoundUnder self.old.state row.lease (record_staged item)) self.old.state id }
         requires kept { lease_kept item ≡ Some id }
         requires prepared { IsPrepared self.old.state item }
+        requires kind { kind ≡ short_kind (record_staged item) }
+        requires sheet { sheet.now ≡ record_sheet (record_staged item) }
+        ensures short { IfOk result (λ text. IsShortText
+            (named_in [] (self.old.records ++ self.old.staged)) (record_staged item) text.items) }
         ensures staged { OnOk result (self.new ≡ with_staged self.old (record_staged item)) }
         ensures grows { OnOk result (CanApplyAll self.new) }
         ensures unchanged { OnErr result (self.new ≡ self.old) }
@@ -379,10 +425,12 @@ impl Bench {
             return Err(AllocError);
         };
         self.grown.reserve(nodes, self.staged.len() + 1)?;
-        self.staged.push(item)?;
+        self.staged.reserve(1)?;
+        let text = self.names.stage(self.alloc, kind, sheet)?;
+        self.staged.push_reserved(item);
         keep(&mut self.leases, self.given, id);
         self.nodes_due = nodes;
-        Ok(())
+        Ok(text)
     }
 
     /// Takes the last `begin` or `ready` back.
@@ -393,6 +441,7 @@ impl Bench {
         let Some(item) = self.staged.pop() else {
             unreachable!()
         };
+        self.names.forget();
         self.nodes_due -= item.nodes();
         if let Some(id) = item.lease() {
             self.leases.unkeep(id);
@@ -403,6 +452,7 @@ impl Bench {
     pub fn apply_staged(&mut self)
         ensures { IsCommitted self.old self.new }
     {
+        self.names.apply_all();
         self.staged.reverse();
         while let Some(item) = self.staged.pop() {
             self.nodes_due -= item.nodes();

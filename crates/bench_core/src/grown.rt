@@ -1,4 +1,7 @@
 //! A tree with the records by which it grew.
+ghost use Rattle.std.specs.Prelude.{◌≡◌, ◌<◌, ◌≤◌, ◌++◌, ◌∷◌, [], count_by, vec_len, vec_capacity};
+ghost use Rattle.bench_core.specs.Grown.{is_work_applied};
+
 use crate::staged::Applied;
 use bench_records::CertificateList;
 use certificate_joiner::{PartShelf, join};
@@ -162,9 +165,6 @@ impl GrownTree {
         join(alloc, &self.tree, &self.shelf, root, pieces)
     }
 }
-
-ghost use Rattle.std.specs.Prelude.{◌≡◌, ◌<◌, ◌≤◌, ◌++◌, ◌∷◌, [], count_by, vec_len, vec_capacity};
-ghost use Rattle.bench_core.specs.Grown.{is_work_applied};
 
 /// How many of them are of a search.
 fn count_work(log: &[Applied]) -> usize

@@ -8,10 +8,11 @@
 //!
 //! Proved: `lease` gives `Done`, `Spent`, `NoLeaf`, or the leaf that `pick` gives with those leased
 //! taken, which is not decided at sight. `begin` stages a root, `ready` the record of a result
-//! under a live lease; `ready_result` does so with a [`LeaseResult`], whose text was made without
-//! the bench. `forget_ready` takes the last one back. `apply_staged` is its events in order.
-//! `replay` applies a record that is read back, and refuses exactly what is not lawful. After each
-//! refusal the bench is as it was. `certificate` joins.
+//! under a live lease; `ready_result` does so with a [`LeaseResult`], which was made without the
+//! bench. Each gives the text of its record behind those applied and staged, whose positions are
+//! named by numbers. `forget_ready` takes the last one back. `apply_staged` is its events in order.
+//! `replay` reads a payload and applies its record, and refuses exactly what is no record's text,
+//! or not lawful. After each refusal the bench is as it was. `certificate` joins.
 //!
 //! `laws`: every list of events leads from a sound state to a sound one, whose settled roots have
 //! true values and in which no leaf has two leases. One list of records has one forest, whose roots
@@ -24,6 +25,7 @@ mod applying;
 mod bench;
 mod grown;
 pub mod laws;
+mod naming;
 mod refusals;
 mod replaying;
 mod results;

@@ -10,7 +10,7 @@ ghost use Rattle.proof_tree.specs.Sound.{root_positions, IsSoundForest};
 ghost use Rattle.certificate_checker.specs.Refusals.{check_wants_memory};
 ghost use Rattle.certificate_joiner.specs.Certified.{IsShelved};
 ghost use Rattle.certificate_joiner.specs.Laws.{AreCertified};
-ghost use Rattle.bench_core.specs.declared.refusals.ReplayRefusal.TheVariants as refusals;
+ghost use Rattle.bench_core.specs.declared.refusals.ApplyRefusal.TheVariants as refusals;
 ghost use Rattle.bench_records.specs.declared.records.BenchRecord.TheVariants as records;
 ghost use Rattle.bench_core.specs.Records.{batches_shown};
 ghost use Rattle.bench_core.specs.Growing.{MayBegin};
@@ -18,9 +18,9 @@ ghost use Rattle.bench_core.specs.Grown.{GrownState};
 ghost use Rattle.bench_core.specs.Replaying.{IsReplayed, RefusesRecord};
 
 use crate::grown::GrownTree;
-use crate::refusals::ReplayRefusal;
+use crate::refusals::ApplyRefusal;
 use crate::shown::certificates_of;
-use bench_records::CertificateList;
+use bench_records::{BenchRecord, CertificateList};
 use certificate_checker::{CheckRefusal, ProofList, Proved, check, told_by_all};
 use draughts_board::{Position, Side};
 use proof_numbers::Child;
@@ -37,12 +37,12 @@ fn may_begin(tree: &Tree, p: Position) -> bool
 }
 
 /// Begins a root.
-pub(crate) fn replay_begin<O: Oracle>(
+fn replay_begin<O: Oracle>(
     alloc: Global,
     grown: &mut GrownTree,
     p: Position,
     oracle: &O,
-) -> Result<(), ReplayRefusal>
+) -> Result<(), ApplyRefusal>
     ensures ok { OnOk result
         (IsReplayed (O.piece_limit oracle.now) grown.old (records.Begin p) grown.new) }
     ensures refused { IfErr result
@@ -51,7 +51,7 @@ pub(crate) fn replay_begin<O: Oracle>(
     ensures records { OnErr result (grown.new.records ≡ grown.old.records) }
 {
     if !may_begin(grown.tree(), p) {
-        return Err(ReplayRefusal::Unlawful);
+        return Err(ApplyRefusal::Unlawful);
     }
     let root = child_at_sight(alloc, &p, oracle)?;
     grown.reserve(1, 1)?;
@@ -78,12 +78,12 @@ fn is_at_sight<O: Oracle>(p: &Position, children: &[Child], oracle: &O) -> bool
 }
 
 /// Expands a node.
-pub(crate) fn replay_expand<O: Oracle>(
+fn replay_expand<O: Oracle>(
     alloc: Global,
     grown: &mut GrownTree,
     node: u64,
     oracle: &O,
-) -> Result<(), ReplayRefusal>
+) -> Result<(), ApplyRefusal>
     ensures ok { OnOk result
         (IsReplayed (O.piece_limit oracle.now) grown.old (records.Expand node) grown.new) }
     ensures refused { IfErr result
@@ -93,15 +93,15 @@ pub(crate) fn replay_expand<O: Oracle>(
 {
     let tree = grown.tree();
     let Some(n) = tree.leaf(node) else {
-        return Err(ReplayRefusal::Unlawful);
+        return Err(ApplyRefusal::Unlawful);
     };
     if is_resolved_for_both(tree, n) {
-        return Err(ReplayRefusal::Unlawful);
+        return Err(ApplyRefusal::Unlawful);
     }
     let p = tree.position(n);
     let children = children_at_sight(alloc, &p, oracle)?;
     if is_at_sight(&p, children.as_slice(), oracle) {
-        return Err(ReplayRefusal::Unlawful);
+        return Err(ApplyRefusal::Unlawful);
     }
     grown.reserve(children.as_slice().len(), 1)?;
     grown.expand(n, children.as_slice());
@@ -134,12 +134,12 @@ fn is_of(c: &Certificate, p: &Position, pieces: u8) -> bool
 }
 
 /// What refuses the record of a certificate that is refused so: want of memory, or that it is not lawful.
-fn refusal_for(refusal: CheckRefusal) -> ReplayRefusal
+fn refusal_for(refusal: CheckRefusal) -> ApplyRefusal
     ensures { (result ≡ refusals.Unlawful) ↔ (check_wants_memory refusal ≡ false) }
 {
     match refusal {
-        CheckRefusal::Memory(error) => ReplayRefusal::Memory(error),
-        _ => ReplayRefusal::Unlawful,
+        CheckRefusal::Memory(error) => ApplyRefusal::Memory(error),
+        _ => ApplyRefusal::Unlawful,
     }
 }
 
@@ -149,7 +149,7 @@ fn check_shown<O: Oracle>(
     p: &Position,
     c: Certificate,
     oracle: &O,
-) -> Result<Proved, ReplayRefusal>
+) -> Result<Proved, ApplyRefusal>
     ensures ok { IfOk result
         (λ proved. (proved ≡ c) × IsShelved (O.piece_limit oracle.now) p.now c) }
     ensures refused { IfErr result (λ refusal. (refusal ≡ refusals.Unlawful)
@@ -157,7 +157,7 @@ fn check_shown<O: Oracle>(
 {
     let pieces = oracle.pieces();
     if !is_of(&c, p, pieces) {
-        return Err(ReplayRefusal::Unlawful);
+        return Err(ApplyRefusal::Unlawful);
     }
     match check(alloc, c, oracle) {
         Ok(proved) => Ok(proved),
@@ -171,7 +171,7 @@ fn check_all<O: Oracle>(
     p: &Position,
     shown: CertificateList,
     oracle: &O,
-) -> Result<ProofList, ReplayRefusal>
+) -> Result<ProofList, ApplyRefusal>
     ensures ok { IfOk result
         (λ proofs. (proofs ≡ shown) × All (IsShelved (O.piece_limit oracle.now) p.now) shown) }
     ensures refused { IfErr result (λ refusal. (refusal ≡ refusals.Unlawful)
@@ -188,14 +188,14 @@ fn check_all<O: Oracle>(
 }
 
 /// Adds what certificates tell of a node.
-pub(crate) fn replay_solve<O: Oracle>(
+fn replay_solve<O: Oracle>(
     alloc: Global,
     grown: &mut GrownTree,
     node: u64,
     position: Position,
     shown: CertificateList,
     oracle: &O,
-) -> Result<(), ReplayRefusal>
+) -> Result<(), ApplyRefusal>
     requires sound { IsSoundForest grown.old.forest }
     requires certified { AreCertified (O.piece_limit oracle.now) (batches_shown grown.old.records)
         grown.old.forest }
@@ -209,19 +209,45 @@ pub(crate) fn replay_solve<O: Oracle>(
 {
     let tree = grown.tree();
     let Some(n) = tree.leaf(node) else {
-        return Err(ReplayRefusal::Unlawful);
+        return Err(ApplyRefusal::Unlawful);
     };
     if tree.position(n) != position {
-        return Err(ReplayRefusal::Unlawful);
+        return Err(ApplyRefusal::Unlawful);
     }
     let known = tree.facts(n);
     let proofs = check_all(alloc, &position, shown, oracle)?;
     let facts = told_by_all(proofs.as_slice());
     if known.includes(&facts) {
-        return Err(ReplayRefusal::Unlawful);
+        return Err(ApplyRefusal::Unlawful);
     }
     let shown = certificates_of(alloc, proofs)?;
     grown.reserve(0, 1)?;
     grown.solve(n, position, &facts, shown);
     Ok(())
+}
+
+/// Applies a record.
+pub(crate) fn replay_record<O: Oracle>(
+    alloc: Global,
+    grown: &mut GrownTree,
+    r: BenchRecord,
+    oracle: &O,
+) -> Result<(), ApplyRefusal>
+    requires sound { IsSoundForest grown.old.forest }
+    requires certified { AreCertified (O.piece_limit oracle.now) (batches_shown grown.old.records)
+        grown.old.forest }
+    ensures ok { OnOk result (IsReplayed (O.piece_limit oracle.now) grown.old r grown.new) }
+    ensures refused { IfErr result (RefusesRecord (O.piece_limit oracle.now) grown.old r) }
+    ensures forest { OnErr result (grown.new.forest ≡ grown.old.forest) }
+    ensures records { OnErr result (grown.new.records ≡ grown.old.records) }
+{
+    match r {
+        BenchRecord::Begin(p) => replay_begin(alloc, grown, p, oracle),
+        BenchRecord::Solve {
+            node,
+            position,
+            shown,
+        } => replay_solve(alloc, grown, node, position, shown, oracle),
+        BenchRecord::Expand { node } => replay_expand(alloc, grown, node, oracle),
+    }
 }

@@ -5,9 +5,9 @@ ghost use Rattle.certificate_checker.specs.declared.outcomes.Outcome.TheVariants
 ghost use Rattle.bench_core.specs.Cores.{IsOutcomeOf};
 ghost use Rattle.bench_core.specs.Results.{staged_of};
 
-use crate::shown::{certificates_of, solve_text};
+use crate::shown::{certificates_of, solve_sheet};
 use crate::staged::Staged;
-use bench_records::{BenchRecord, CertificateList, encode};
+use bench_records::{BenchRecord, CertificateList, Sheet, kind_of, sheet_of};
 use certificate_checker::{Exhausted, Outcome, ProofList, told_by_all};
 use lease_table::Lease;
 use proof_numbers::Facts;
@@ -49,16 +49,17 @@ impl Found {
     }
 }
 
-/// The result of a lease's search, with all that staging it needs: what it tells, and the text of its record. No bench is
-/// needed to make it.
+/// The result of a lease's search, with all that staging it needs: what it tells, and the sheet of its record, which
+/// staging fills in with the numbers of positions. No bench is needed to make it.
 ///
 /// A contract sees the lease, and the outcome of its search.
 #[derive(Drop)]
 pub struct LeaseResult {
     pub(crate) lease: Lease,
     pub(crate) found: Found,
-    /// The text of the record that is staged of it.
-    pub(crate) text: Vec<u8>,
+    /// The kind of the record that is staged of it, and its sheet.
+    pub(crate) kind: u8,
+    pub(crate) sheet: Sheet,
 }
 
 impl Model for LeaseResult {
@@ -68,11 +69,11 @@ impl Model for LeaseResult {
 
     ghost view = { λ r. record { lease = r.lease; outcome = outcome_of r.found } };
 
-    ghost invariant = { λ r. IsResultOf r.lease r.found r.text.items };
+    ghost invariant = { λ r. IsResultOf r.lease r.found r.kind r.sheet };
 }
 
 impl LeaseResult {
-    /// The outcome of the lease's search, with what it tells and the text of its record.
+    /// The outcome of the lease's search, with what it tells and the sheet of its record.
     pub fn new(alloc: Global, lease: &Lease, outcome: Outcome) -> Result<LeaseResult, AllocError>
         requires { IsOutcomeOf lease.now outcome }
         ensures { IfOk result (λ made. made ≡ record { lease = lease.now; outcome = outcome }) }
@@ -92,11 +93,12 @@ fn solved(alloc: Global, lease: &Lease, proofs: ProofList) -> Result<LeaseResult
 {
     let facts = told_by_all(proofs.as_slice());
     let shown = certificates_of(alloc, proofs)?;
-    let (shown, text) = solve_text(alloc, lease.node, lease.position, shown)?;
+    let (shown, kind, sheet) = solve_sheet(alloc, lease.node, lease.position, shown)?;
     Ok(LeaseResult {
         lease: *lease,
         found: Found::Solved { facts, shown },
-        text,
+        kind,
+        sheet,
     })
 }
 
@@ -106,10 +108,12 @@ fn exhausted(alloc: Global, lease: &Lease, e: Exhausted) -> Result<LeaseResult, 
     ensures { IfOk result (λ made.
         made ≡ record { lease = lease.now; outcome = outcomes.Exhausted e }) }
 {
-    let text = encode(alloc, &BenchRecord::Expand { node: lease.node })?;
+    let record = BenchRecord::Expand { node: lease.node };
+    let sheet = sheet_of(alloc, &record)?;
     Ok(LeaseResult {
         lease: *lease,
         found: Found::Exhausted(e),
-        text,
+        kind: kind_of(&record),
+        sheet,
     })
 }

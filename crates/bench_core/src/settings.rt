@@ -1,12 +1,15 @@
 //! What a bench is made for.
+ghost use Rattle.std.specs.Prelude.{◌≤◌};
+ghost use Rattle.certificate_checker.specs.declared.outcomes.TheConstants.{MOST_DEPTH};
+ghost use Rattle.bench_core.specs.declared.settings.TheConstants.{MOST_LEASE, MOST_WORK};
 
 /// The work records that all sessions of one journal may have together.
 pub const MOST_WORK: u32 = 1_000_000;
 
-/// For so many leases given a lease lasts at most.
+/// A lease lasts for at most this many leases given.
 pub const MOST_LEASE: u32 = 1_000_000_000;
 
-/// What a bench is made for.
+/// What a bench is made for, within its limits.
 #[derive(Clone, Copy, PartialEq, Eq, Debug)]
 pub struct Settings {
     /// For how many pieces the endgame tables are, 2 or 3.
@@ -17,4 +20,8 @@ pub struct Settings {
     pub budget: u32,
     /// For how many leases given a lease lasts, 1 to 1,000,000,000.
     pub lease: u32,
+    pub ghost shallow: { depth ≤ MOST_DEPTH },
+    pub ghost payable: { budget ≤ MOST_WORK },
+    pub ghost lasts: { 1 ≤ lease },
+    pub ghost ends: { lease ≤ MOST_LEASE },
 }

@@ -1,7 +1,9 @@
 //! The record that a node is solved, of certificates that a search gave.
-ghost use Rattle.std.specs.Prelude.{◌≡◌, IfOk};
+ghost use Rattle.std.specs.Prelude.{◌≡◌, IfOk, OnOk, ◌↔◌, IsTrue, ℕ};
+ghost use Rattle.bench_records.specs.declared.records.BenchRecord.TheVariants as records;
+ghost use Rattle.bench_records.specs.Texts.{ShowsEnough, IsSoundRecord, short_kind, record_sheet};
 
-use bench_records::{BenchRecord, CertificateList, encode};
+use bench_records::{BenchRecord, CertificateList, Sheet, kind_of, sheet_of};
 use certificate_checker::ProofList;
 use draughts_board::Position;
 use lease_table::Lease;
@@ -21,32 +23,29 @@ pub(crate) fn certificates_of(
     Ok(CertificateList::from_vec(list))
 }
 
-ghost use Rattle.std.specs.Prelude.{◌↔◌, IsTrue, ℕ, List};
-ghost use Rattle.bench_records.specs.declared.records.BenchRecord.{BenchRecord as Record};
-ghost use Rattle.bench_records.specs.declared.records.BenchRecord.TheVariants as records;
-ghost use Rattle.bench_records.specs.Texts.{IsText, ShowsEnough};
-
-/// The text of the record that a node is solved, and the certificates back.
-pub(crate) fn solve_text(
+/// The certificates back, and the kind and the sheet of the record that a node is solved.
+pub(crate) fn solve_sheet(
     alloc: Global,
     node: u64,
     position: Position,
     shown: CertificateList,
-) -> Result<(CertificateList, Vec<u8>), AllocError>
+) -> Result<(CertificateList, u8, Sheet), AllocError>
     requires { (pieces : ℕ) × ShowsEnough pieces (records.Solve node position shown) }
-    ensures same { IfOk result (λ both. both.0 ≡ shown) }
-    ensures text { IfOk result (λ both. (pieces : ℕ) (before : List Record)
-        → ShowsEnough pieces (records.Solve node position shown)
-        → IsText pieces before (records.Solve node position shown) both.1.items) }
+    ensures same { IfOk result (λ made. made.0 ≡ shown) }
+    ensures kind { IfOk result (λ made. made.1 ≡ short_kind (records.Solve node position shown)) }
+    ensures sheet { IfOk result
+        (λ made. made.2 ≡ record_sheet (records.Solve node position shown)) }
+    ensures sound { OnOk result (IsSoundRecord (records.Solve node position shown)) }
 {
     let record = BenchRecord::Solve {
         node,
         position,
         shown,
     };
-    let text = encode(alloc, &record)?;
+    let sheet = sheet_of(alloc, &record)?;
+    let kind = kind_of(&record);
     match record {
-        BenchRecord::Solve { shown, .. } => Ok((shown, text)),
+        BenchRecord::Solve { shown, .. } => Ok((shown, kind, sheet)),
         BenchRecord::Begin(_) => unreachable!(),
         BenchRecord::Expand { .. } => unreachable!(),
     }

@@ -1,5 +1,7 @@
 //! Leased nodes, as a pick sees them.
-ghost use Rattle.std.specs.Prelude.{◌≡◌};
+ghost use Rattle.std.specs.Prelude.{◌≡◌, IsSome};
+ghost use Rattle.proof_tree.specs.Forest.{node_at};
+ghost use Rattle.bench_core.specs.States.{node_position};
 
 use crate::settings::Settings;
 use draughts_board::Side;
@@ -22,10 +24,6 @@ impl<'a> Taken for LeasedNodes<'a> {
         self.leases.leased(n.number(), self.now)
     }
 }
-
-ghost use Rattle.std.specs.Prelude.{IsSome};
-ghost use Rattle.proof_tree.specs.Forest.{node_at};
-ghost use Rattle.bench_core.specs.States.{node_position};
 
 /// A lease of the leaf, under this number, for whoever's win is sought there.
 pub(crate) fn lease_at(

@@ -6,7 +6,7 @@ ghost use Rattle.bench_disk.specs.Runs.{IsCall, OnlyLooks, OnlySyncs, OnlyWrites
 use thiserror::Error;
 
 /// The most bytes that a disk holds.
-pub const MAX_LEN: u64 = 1 << 62;
+pub const MOST_LENGTH: u64 = 1 << 62;
 
 /// The disk refused a call, and counted that.
 #[derive(Clone, Copy, Debug, PartialEq, Eq, Error)]

@@ -1,7 +1,7 @@
 //! A file of the operating system. It tells no content: what it stands for is trusted.
 ghost use Rattle.std.specs.Prelude.{◌≡◌, ◌≤◌, [], false, length, IfOk};
 
-use crate::{FileHandle, HandleDisk, MAX_LEN};
+use crate::{FileHandle, HandleDisk, MOST_LENGTH};
 use std::fs::{File, Files};
 use std::io;
 use std::os::unix::fs::FileExt;
@@ -97,7 +97,7 @@ impl<R: Files<File = File> + Drop> FileHandle for PathFile<R> {
 
     fn read_at(&mut self, at: u64, into: &mut [u8]) -> io::Result<usize> {
         self.open()?;
-        if at > MAX_LEN {
+        if at > MOST_LENGTH {
             return Ok(0);
         }
         self.opened()?.read_at(into, at)

@@ -34,7 +34,7 @@ mod torn;
 mod whole;
 
 pub use call::Call;
-pub use disk::{Disk, DiskFault, MAX_LEN};
+pub use disk::{Disk, DiskFault, MOST_LENGTH};
 pub use failing_disk::{FailingDisk, FaultDisk, FuseDisk};
 pub use failing_plan::{FailingCalls, Fuse, Plan};
 pub use file_disk::{FileDisk, PathFile};

@@ -5,7 +5,7 @@ ghost use Rattle.bench_disk.specs.Disk.{written};
 
 use crate::call::Call;
 use crate::torn::{Picks, overwrite, torn};
-use crate::{Disk, DiskFault, MAX_LEN};
+use crate::{Disk, DiskFault, MOST_LENGTH};
 use std::alloc::{AllocError, Global};
 
 /// An honest disk in memory, from which one can ask what a crash leaves.
@@ -43,7 +43,7 @@ impl MemoryDisk {
     pub fn of(alloc: Global, bytes: Vec<u8>) -> Result<MemoryDisk, AllocError>
         ensures { IfOk result (λ disk. IsNewDisk disk bytes.items) }
     {
-        if bytes.len() as u64 > MAX_LEN {
+        if bytes.len() as u64 > MOST_LENGTH {
             return Err(AllocError);
         }
         Ok(MemoryDisk {
@@ -130,7 +130,7 @@ impl MemoryDisk {
         ensures start { self.new.start.items ≡ self.old.start.items }
         ensures faults { self.new.faults ≡ self.old.faults }
     {
-        if from.len() as u64 > MAX_LEN - at as u64 {
+        if from.len() as u64 > MOST_LENGTH - at as u64 {
             return Err(AllocError);
         }
         let bytes = from.to_vec(self.alloc)?;

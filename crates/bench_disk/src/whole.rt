@@ -3,7 +3,7 @@ ghost use Rattle.std.specs.Prelude.{◌≡◌, ◌+◌, ◌-◌, ◌<◌, ◌≤
 ghost use Rattle.bench_disk.specs.Disk.{HasRead, IsHonest, NothingPending, written};
 ghost use Rattle.bench_disk.specs.Handle.{Looks, Syncs, Writes};
 
-use crate::{FileHandle, MAX_LEN};
+use crate::{FileHandle, MOST_LENGTH};
 
 /// How many bytes the file has, where they are at most 2^62.
 pub fn measure<F: FileHandle>(file: &mut F) -> Option<u64>
@@ -13,7 +13,7 @@ pub fn measure<F: FileHandle>(file: &mut F) -> Option<u64>
         file.old file.new }
 {
     let len = file.len().ok()?;
-    if len <= MAX_LEN { Some(len) } else { None }
+    if len <= MOST_LENGTH { Some(len) } else { None }
 }
 
 /// Reads until the buffer is full or the file ends.
@@ -47,7 +47,7 @@ pub fn write_whole<F: FileHandle>(file: &mut F, at: u64, from: &[u8]) -> Option<
         Writes F.images F.images_since F.moment F.is_entered at (length from.now)
         file.old file.new }
 {
-    if at > MAX_LEN || from.len() as u64 > MAX_LEN - at {
+    if at > MOST_LENGTH || from.len() as u64 > MOST_LENGTH - at {
         return None;
     }
     let mut done = 0;

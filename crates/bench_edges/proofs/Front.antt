@@ -5,7 +5,7 @@ use Rattle.bench_edges.specs.declared.words.Command.{Command}
 use Rattle.bench_edges.specs.declared.words.Command.TheVariants.{Solve}
 use Rattle.bench_edges.specs.Words.{SaysSolve, Says, BeginsCommand, IsRefusedAt}
 use Rattle.bench_edges.proofs.Settings.{cons_head, cons_tail, not_nil}
-use Rattle.bench_edges.proofs.Grammar.{IsStuck, called, name_of, name_said, refused_in}
+use Rattle.bench_edges.proofs.Grammar.{IsStuck, command_called, name_of, name_said, refused_in}
 use Rattle.bench_edges.proofs.SolveWords.{options_of, solve_says}
 
 some_path : ◌≢◌ {A = List ℕ} (45 ∷ []) []
@@ -17,7 +17,7 @@ begins_from_nothing = ((45 ∷ []) ∷ codes "solve" ∷ [], Solve (options_of [
 
 -- no word at all
 pub refused_empty : (words : List (List ℕ)) → length words ≡ 0 → IsRefusedAt words 0
-refused_empty words end = refused_in words 0 (omega arith) begins_from_nothing (λ inside. absurd (omega arith)) (λ _ command says. not_nil _ _ (called [] command says).spelling)
+refused_empty words end = refused_in words 0 (omega arith) begins_from_nothing (λ inside. absurd (omega arith)) (λ _ command says. not_nil _ _ (command_called [] command says).spelling)
 
 -- an empty path
 pub refused_path : (words : List (List ℕ)) → 0 < length words → get_or words 0 [] ≡ [] → IsRefusedAt words 0
@@ -25,7 +25,7 @@ refused_path words within empty = refused_in words 0 (omega arith) begins_from_n
   where
     stuck : IsStuck [] (get_or words 0 [])
     stuck rest command says =
-        let front = called (get_or words 0 [] ∷ rest) command says in
+        let front = command_called (get_or words 0 [] ∷ rest) command says in
         front.named (sym (cons_head _ _ _ _ front.spelling) ∙ empty)
 
 -- a path, and then no command's name
@@ -48,5 +48,5 @@ refused_command words within named other = refused_in words 1 (omega arith) good
 
     alone : 1 ≡ length words → (command : Command) → Says (take 1 words) command → ⊥
     alone end command says =
-        let front = called (take 1 words) command says in
+        let front = command_called (take 1 words) command says in
         not_nil _ _ (cons_tail _ _ _ _ (sym one ∙ front.spelling))

@@ -3,7 +3,7 @@ use Rattle.std.proofs.Common.{◌≡◌, ◌≢◌, ℕ, ◌<◌, ◌≤◌, Lis
 use Rattle.std.proofs.lemmas.Grind.{common_steps}
 use Rattle.bench_edges.specs.declared.words.Command.{Command}
 use Rattle.bench_edges.specs.declared.words.Command.TheVariants.{Generate}
-use Rattle.bench_edges.specs.declared.words.TheConstants.{MAX_SEED, MIN_COUNT, MAX_COUNT}
+use Rattle.bench_edges.specs.declared.words.TheConstants.{MOST_SEED, LEAST_COUNT, MOST_COUNT}
 use Rattle.bench_edges.specs.Words.{AreGenerated, SaysGenerate, Says, BeginsCommand, IsRefusedAt}
 use Rattle.bench_edges.proofs.Settings.{cons_head, cons_tail, not_nil}
 use Rattle.bench_edges.proofs.Grammar.{IsStuck, name_said, only_generate, refused_at, refused_in}
@@ -30,7 +30,7 @@ says_numbers : (path : List ℕ) (seed count : ℕ) → path ≢ [] → AreGener
 says_numbers path seed count named limits = (record { path = path; spelling = refl; named = named }, limits)
 
 -- a word behind the name that is no seed, or none
-pub refused_seed : (words : List (List ℕ)) (path : List ℕ) → 1 < length words → path ≢ [] → take 2 words ≡ path ∷ codes "generate" ∷ [] → (2 < length words → (n : ℕ) → n ≤ MAX_SEED → get_or words 2 [] ≢ decimal n) → IsRefusedAt words 2
+pub refused_seed : (words : List (List ℕ)) (path : List ℕ) → 1 < length words → path ≢ [] → take 2 words ≡ path ∷ codes "generate" ∷ [] → (2 < length words → (n : ℕ) → n ≤ MOST_SEED → get_or words 2 [] ≢ decimal n) → IsRefusedAt words 2
 refused_seed words path within named front other = refused_in words 2 (omega arith) good stuck none
   where
     good : BeginsCommand (take 2 words)
@@ -53,7 +53,7 @@ seed_read words path seed within front digits =
     three ∙ ap (λ (w : List ℕ). take 2 words ++ w ∷ []) digits ∙ ap (λ (ws : List (List ℕ)). ws ++ decimal seed ∷ []) front
 
 -- a word behind the seed that is no count, or none
-pub refused_count : (words : List (List ℕ)) (path : List ℕ) (seed : ℕ) → 2 < length words → path ≢ [] → seed ≤ MAX_SEED → take 3 words ≡ path ∷ codes "generate" ∷ decimal seed ∷ [] → (3 < length words → (n : ℕ) → MIN_COUNT ≤ n → n ≤ MAX_COUNT → get_or words 3 [] ≢ decimal n) → IsRefusedAt words 3
+pub refused_count : (words : List (List ℕ)) (path : List ℕ) (seed : ℕ) → 2 < length words → path ≢ [] → seed ≤ MOST_SEED → take 3 words ≡ path ∷ codes "generate" ∷ decimal seed ∷ [] → (3 < length words → (n : ℕ) → LEAST_COUNT ≤ n → n ≤ MOST_COUNT → get_or words 3 [] ≢ decimal n) → IsRefusedAt words 3
 refused_count words path seed within named small front other = refused_in words 3 (omega arith) good stuck none
   where
     good : BeginsCommand (take 3 words)

@@ -38,8 +38,8 @@ no_name word solve report certify verify table table_check generate (MakeTable p
 no_name word solve report certify verify table table_check generate TableCheck = table_check
 no_name word solve report certify verify table table_check generate (Generate seed count) = generate
 
-differ : (one other : List ℕ) → bytes_eq one other ≡ false → one ≢ other
-differ one other apart same =
+names_differ : (one other : List ℕ) → bytes_eq one other ≡ false → one ≢ other
+names_differ one other apart same =
     let wrong : false ≡ true = sym apart ∙ (bytes_eq-Decides one other).1 same in
     search rules
 
@@ -51,82 +51,82 @@ pub record IsCalled (words : List (List ℕ)) (name : List ℕ) : Type 0 where
   pub named : path ≢ []
 
 -- they stand in front of a command's words
-pub called : (words : List (List ℕ)) (command : Command) → Says words command → IsCalled words (name_of command)
-called words (Solve options) says = record { path = says.path; rest = flat_map setting_words says.given; spelling = says.spelling; named = says.named }
-called words Report says = record { path = says.path; rest = []; spelling = says.spelling; named = says.named }
-called words (Certify root) says = record { path = says.0.path; rest = decimal root ∷ []; spelling = says.0.spelling; named = says.0.named }
-called words Verify says = record { path = says.path; rest = []; spelling = says.spelling; named = says.named }
-called words (MakeTable pieces) says = record { path = says.0.path; rest = decimal pieces ∷ []; spelling = says.0.spelling; named = says.0.named }
-called words TableCheck says = record { path = says.path; rest = []; spelling = says.spelling; named = says.named }
-called words (Generate seed count) says = record { path = says.0.path; rest = decimal seed ∷ decimal count ∷ []; spelling = says.0.spelling; named = says.0.named }
+pub command_called : (words : List (List ℕ)) (command : Command) → Says words command → IsCalled words (name_of command)
+command_called words (Solve options) says = record { path = says.path; rest = flat_map setting_words says.given; spelling = says.spelling; named = says.named }
+command_called words Report says = record { path = says.path; rest = []; spelling = says.spelling; named = says.named }
+command_called words (Certify root) says = record { path = says.0.path; rest = decimal root ∷ []; spelling = says.0.spelling; named = says.0.named }
+command_called words Verify says = record { path = says.path; rest = []; spelling = says.spelling; named = says.named }
+command_called words (MakeTable pieces) says = record { path = says.0.path; rest = decimal pieces ∷ []; spelling = says.0.spelling; named = says.0.named }
+command_called words TableCheck says = record { path = says.path; rest = []; spelling = says.spelling; named = says.named }
+command_called words (Generate seed count) says = record { path = says.0.path; rest = decimal seed ∷ decimal count ∷ []; spelling = says.0.spelling; named = says.0.named }
 
 -- so the words with a name say the command of this name alone
 pub name_said : (words : List (List ℕ)) (path name : List ℕ) (rest : List (List ℕ)) (command : Command) → words ≡ path ∷ name ∷ rest → Says words command → name_of command ≡ name
 name_said words path name rest command spelling says =
-    let front = called words command says in
+    let front = command_called words command says in
     cons_head _ _ _ _ (cons_tail _ _ _ _ (sym front.spelling ∙ spelling))
 
 pub only_solve : (words : List (List ℕ)) (command : Command) → Says words command → name_of command ≡ codes "solve" → (options : Options) × ((command ≡ Solve options) × SaysSolve words options)
 only_solve words (Solve options) says same = (options, (refl, says))
-only_solve words Report says same = absurd (differ (codes "report") (codes "solve") refl same)
-only_solve words (Certify root) says same = absurd (differ (codes "certify") (codes "solve") refl same)
-only_solve words Verify says same = absurd (differ (codes "verify") (codes "solve") refl same)
-only_solve words (MakeTable pieces) says same = absurd (differ (codes "table") (codes "solve") refl same)
-only_solve words TableCheck says same = absurd (differ (codes "table-check") (codes "solve") refl same)
-only_solve words (Generate seed count) says same = absurd (differ (codes "generate") (codes "solve") refl same)
+only_solve words Report says same = absurd (names_differ (codes "report") (codes "solve") refl same)
+only_solve words (Certify root) says same = absurd (names_differ (codes "certify") (codes "solve") refl same)
+only_solve words Verify says same = absurd (names_differ (codes "verify") (codes "solve") refl same)
+only_solve words (MakeTable pieces) says same = absurd (names_differ (codes "table") (codes "solve") refl same)
+only_solve words TableCheck says same = absurd (names_differ (codes "table-check") (codes "solve") refl same)
+only_solve words (Generate seed count) says same = absurd (names_differ (codes "generate") (codes "solve") refl same)
 
 pub only_table : (words : List (List ℕ)) (command : Command) → Says words command → name_of command ≡ codes "table" → (pieces : ℕ) × ((command ≡ MakeTable pieces) × (SaysNumbered (codes "table") words pieces × IsTableSize pieces))
-only_table words (Solve options) says same = absurd (differ (codes "solve") (codes "table") refl same)
-only_table words Report says same = absurd (differ (codes "report") (codes "table") refl same)
-only_table words (Certify root) says same = absurd (differ (codes "certify") (codes "table") refl same)
-only_table words Verify says same = absurd (differ (codes "verify") (codes "table") refl same)
+only_table words (Solve options) says same = absurd (names_differ (codes "solve") (codes "table") refl same)
+only_table words Report says same = absurd (names_differ (codes "report") (codes "table") refl same)
+only_table words (Certify root) says same = absurd (names_differ (codes "certify") (codes "table") refl same)
+only_table words Verify says same = absurd (names_differ (codes "verify") (codes "table") refl same)
 only_table words (MakeTable pieces) says same = (pieces, (refl, says))
-only_table words TableCheck says same = absurd (differ (codes "table-check") (codes "table") refl same)
-only_table words (Generate seed count) says same = absurd (differ (codes "generate") (codes "table") refl same)
+only_table words TableCheck says same = absurd (names_differ (codes "table-check") (codes "table") refl same)
+only_table words (Generate seed count) says same = absurd (names_differ (codes "generate") (codes "table") refl same)
 
 pub only_certify : (words : List (List ℕ)) (command : Command) → Says words command → name_of command ≡ codes "certify" → (root : ℕ) × ((command ≡ Certify root) × (SaysNumbered (codes "certify") words root × IsRootNumber root))
-only_certify words (Solve options) says same = absurd (differ (codes "solve") (codes "certify") refl same)
-only_certify words Report says same = absurd (differ (codes "report") (codes "certify") refl same)
+only_certify words (Solve options) says same = absurd (names_differ (codes "solve") (codes "certify") refl same)
+only_certify words Report says same = absurd (names_differ (codes "report") (codes "certify") refl same)
 only_certify words (Certify root) says same = (root, (refl, says))
-only_certify words Verify says same = absurd (differ (codes "verify") (codes "certify") refl same)
-only_certify words (MakeTable pieces) says same = absurd (differ (codes "table") (codes "certify") refl same)
-only_certify words TableCheck says same = absurd (differ (codes "table-check") (codes "certify") refl same)
-only_certify words (Generate seed count) says same = absurd (differ (codes "generate") (codes "certify") refl same)
+only_certify words Verify says same = absurd (names_differ (codes "verify") (codes "certify") refl same)
+only_certify words (MakeTable pieces) says same = absurd (names_differ (codes "table") (codes "certify") refl same)
+only_certify words TableCheck says same = absurd (names_differ (codes "table-check") (codes "certify") refl same)
+only_certify words (Generate seed count) says same = absurd (names_differ (codes "generate") (codes "certify") refl same)
 
 pub only_generate : (words : List (List ℕ)) (command : Command) → Says words command → name_of command ≡ codes "generate" → (seed count : ℕ) × ((command ≡ Generate seed count) × (SaysGenerate words seed count × AreGenerated seed count))
-only_generate words (Solve options) says same = absurd (differ (codes "solve") (codes "generate") refl same)
-only_generate words Report says same = absurd (differ (codes "report") (codes "generate") refl same)
-only_generate words (Certify root) says same = absurd (differ (codes "certify") (codes "generate") refl same)
-only_generate words Verify says same = absurd (differ (codes "verify") (codes "generate") refl same)
-only_generate words (MakeTable pieces) says same = absurd (differ (codes "table") (codes "generate") refl same)
-only_generate words TableCheck says same = absurd (differ (codes "table-check") (codes "generate") refl same)
+only_generate words (Solve options) says same = absurd (names_differ (codes "solve") (codes "generate") refl same)
+only_generate words Report says same = absurd (names_differ (codes "report") (codes "generate") refl same)
+only_generate words (Certify root) says same = absurd (names_differ (codes "certify") (codes "generate") refl same)
+only_generate words Verify says same = absurd (names_differ (codes "verify") (codes "generate") refl same)
+only_generate words (MakeTable pieces) says same = absurd (names_differ (codes "table") (codes "generate") refl same)
+only_generate words TableCheck says same = absurd (names_differ (codes "table-check") (codes "generate") refl same)
 only_generate words (Generate seed count) says same = (seed, count, (refl, says))
 
 pub only_plain : (command other : Command) → IsPlain command → name_of other ≡ name_of command → other ≡ command
 only_plain (Solve options) other plain same = absurd plain
-only_plain Report (Solve options) plain same = absurd (differ (codes "solve") (codes "report") refl same)
+only_plain Report (Solve options) plain same = absurd (names_differ (codes "solve") (codes "report") refl same)
 only_plain Report Report plain same = refl
-only_plain Report (Certify root) plain same = absurd (differ (codes "certify") (codes "report") refl same)
-only_plain Report Verify plain same = absurd (differ (codes "verify") (codes "report") refl same)
-only_plain Report (MakeTable pieces) plain same = absurd (differ (codes "table") (codes "report") refl same)
-only_plain Report TableCheck plain same = absurd (differ (codes "table-check") (codes "report") refl same)
-only_plain Report (Generate seed count) plain same = absurd (differ (codes "generate") (codes "report") refl same)
+only_plain Report (Certify root) plain same = absurd (names_differ (codes "certify") (codes "report") refl same)
+only_plain Report Verify plain same = absurd (names_differ (codes "verify") (codes "report") refl same)
+only_plain Report (MakeTable pieces) plain same = absurd (names_differ (codes "table") (codes "report") refl same)
+only_plain Report TableCheck plain same = absurd (names_differ (codes "table-check") (codes "report") refl same)
+only_plain Report (Generate seed count) plain same = absurd (names_differ (codes "generate") (codes "report") refl same)
 only_plain (Certify root) other plain same = absurd plain
-only_plain Verify (Solve options) plain same = absurd (differ (codes "solve") (codes "verify") refl same)
-only_plain Verify Report plain same = absurd (differ (codes "report") (codes "verify") refl same)
-only_plain Verify (Certify root) plain same = absurd (differ (codes "certify") (codes "verify") refl same)
+only_plain Verify (Solve options) plain same = absurd (names_differ (codes "solve") (codes "verify") refl same)
+only_plain Verify Report plain same = absurd (names_differ (codes "report") (codes "verify") refl same)
+only_plain Verify (Certify root) plain same = absurd (names_differ (codes "certify") (codes "verify") refl same)
 only_plain Verify Verify plain same = refl
-only_plain Verify (MakeTable pieces) plain same = absurd (differ (codes "table") (codes "verify") refl same)
-only_plain Verify TableCheck plain same = absurd (differ (codes "table-check") (codes "verify") refl same)
-only_plain Verify (Generate seed count) plain same = absurd (differ (codes "generate") (codes "verify") refl same)
+only_plain Verify (MakeTable pieces) plain same = absurd (names_differ (codes "table") (codes "verify") refl same)
+only_plain Verify TableCheck plain same = absurd (names_differ (codes "table-check") (codes "verify") refl same)
+only_plain Verify (Generate seed count) plain same = absurd (names_differ (codes "generate") (codes "verify") refl same)
 only_plain (MakeTable pieces) other plain same = absurd plain
-only_plain TableCheck (Solve options) plain same = absurd (differ (codes "solve") (codes "table-check") refl same)
-only_plain TableCheck Report plain same = absurd (differ (codes "report") (codes "table-check") refl same)
-only_plain TableCheck (Certify root) plain same = absurd (differ (codes "certify") (codes "table-check") refl same)
-only_plain TableCheck Verify plain same = absurd (differ (codes "verify") (codes "table-check") refl same)
-only_plain TableCheck (MakeTable pieces) plain same = absurd (differ (codes "table") (codes "table-check") refl same)
+only_plain TableCheck (Solve options) plain same = absurd (names_differ (codes "solve") (codes "table-check") refl same)
+only_plain TableCheck Report plain same = absurd (names_differ (codes "report") (codes "table-check") refl same)
+only_plain TableCheck (Certify root) plain same = absurd (names_differ (codes "certify") (codes "table-check") refl same)
+only_plain TableCheck Verify plain same = absurd (names_differ (codes "verify") (codes "table-check") refl same)
+only_plain TableCheck (MakeTable pieces) plain same = absurd (names_differ (codes "table") (codes "table-check") refl same)
 only_plain TableCheck TableCheck plain same = refl
-only_plain TableCheck (Generate seed count) plain same = absurd (differ (codes "generate") (codes "table-check") refl same)
+only_plain TableCheck (Generate seed count) plain same = absurd (names_differ (codes "generate") (codes "table-check") refl same)
 only_plain (Generate seed count) other plain same = absurd plain
 
 -- how a plain command is said
@@ -176,7 +176,7 @@ few_pieces pieces some = omega arith
 
 one_name : (words : List (List ℕ)) (first second : Command) → Says words first → Says words second → name_of second ≡ name_of first
 one_name words first second one two =
-    let front = called words first one in
+    let front = command_called words first one in
     name_said words front.path (name_of first) front.rest second front.spelling two
 
 pub one_command : (words : List (List ℕ)) (first second : Command) → Says words first → Says words second → first ≡ second

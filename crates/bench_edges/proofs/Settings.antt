@@ -24,20 +24,20 @@ not_nil x xs e = let long = ap length e in omega arith
 
 -- settings
 
-few : (option : SolveOption) → most_of option < 2 ^ 32
-few Workers = omega arith
-few Depth = omega arith
-few Pieces = omega arith
-few Plies = omega arith
-few Budget = omega arith
-few Lease = omega arith
+most_fits : (option : SolveOption) → most_of option < 2 ^ 32
+most_fits Workers = omega arith
+most_fits Depth = omega arith
+most_fits Pieces = omega arith
+most_fits Plies = omega arith
+most_fits Budget = omega arith
+most_fits Lease = omega arith
 
-small : (s : Setting) → IsSetting s → s.value < 2 ^ 64
-small s setting = let most = few setting.0 in let value = setting.1.1.1 in omega arith
+value_fits : (s : Setting) → IsSetting s → s.value < 2 ^ 64
+value_fits s setting = let most = most_fits setting.0 in let value = setting.1.1.1 in omega arith
 
 same_setting : (s t : Setting) → IsSetting s → IsSetting t → s.name ≡ t.name → decimal s.value ≡ decimal t.value → s ≡ t
 same_setting s t first second name digits =
-    let value : s.value ≡ t.value = decimal_injective s.value t.value (small s first) (small t second) digits in
+    let value : s.value ≡ t.value = decimal_injective s.value t.value (value_fits s first) (value_fits t second) digits in
     ap (λ (n : List ℕ). record { name = n; value = s.value }) name ∙ ap (λ (v : ℕ). record { name = t.name; value = v }) value
 
 -- the options' names differ
@@ -93,14 +93,14 @@ pub record Splits (given whole : List Setting) (word : List ℕ) (rest : List (L
   pub name : next.name ≡ word
   pub value : decimal next.value ∷ flat_map setting_words more ≡ rest
 
-pub splits : (given whole : List Setting) (word : List ℕ) (rest : List (List ℕ)) → AreSettings given → AreSettings whole → flat_map setting_words whole ≡ flat_map setting_words given ++ word ∷ rest → Splits given whole word rest
-splits [] [] word rest first second e = absurd (not_nil _ _ e)
-splits [] (s ∷ ss) word rest first second e = record { next = s; more = ss; split = refl; name = cons_head _ _ _ _ e; value = cons_tail _ _ _ _ e }
-splits (g ∷ gs) [] word rest first second e = absurd (not_nil _ _ e)
-splits (g ∷ gs) (s ∷ ss) word rest first second e =
+pub settings_split : (given whole : List Setting) (word : List ℕ) (rest : List (List ℕ)) → AreSettings given → AreSettings whole → flat_map setting_words whole ≡ flat_map setting_words given ++ word ∷ rest → Splits given whole word rest
+settings_split [] [] word rest first second e = absurd (not_nil _ _ e)
+settings_split [] (s ∷ ss) word rest first second e = record { next = s; more = ss; split = refl; name = cons_head _ _ _ _ e; value = cons_tail _ _ _ _ e }
+settings_split (g ∷ gs) [] word rest first second e = absurd (not_nil _ _ e)
+settings_split (g ∷ gs) (s ∷ ss) word rest first second e =
     let behind = cons_tail _ _ _ _ e in
     let same : s ≡ g = same_setting s g second.0 first.0 (cons_head _ _ _ _ e) (cons_head _ _ _ _ behind) in
-    let r = splits gs ss word rest first.2 second.2 (cons_tail _ _ _ _ behind) in
+    let r = settings_split gs ss word rest first.2 second.2 (cons_tail _ _ _ _ behind) in
     record { next = r.next; more = r.more; split = ap (λ t. t ∷ ss) same ∙ ap (λ l. g ∷ l) r.split; name = r.name; value = r.value }
 
 -- words are those of one list of settings
@@ -135,41 +135,41 @@ AreSettings-more (g ∷ gs) next all one new = (all.0, IsNew-more g.name gs next
 
 -- which number an option has
 
-skipped : (b : Bool) (P : Type 0) (x rest : Option ℕ) → Decides b P → ¬ P → cond b x rest ≡ rest
-skipped true P x rest d none = absurd (none (d.0 refl))
-skipped false P x rest d none = refl
+cond_skipped : (b : Bool) (P : Type 0) (x rest : Option ℕ) → Decides b P → ¬ P → cond b x rest ≡ rest
+cond_skipped true P x rest d none = absurd (none (d.0 refl))
+cond_skipped false P x rest d none = refl
 
-taken : (b : Bool) (P : Type 0) (x rest : Option ℕ) → Decides b P → P → cond b x rest ≡ x
-taken true P x rest d one = refl
-taken false P x rest d one = let wrong : false ≡ true = d.1 one in search rules
+cond_taken : (b : Bool) (P : Type 0) (x rest : Option ℕ) → Decides b P → P → cond b x rest ≡ x
+cond_taken true P x rest d one = refl
+cond_taken false P x rest d one = let wrong : false ≡ true = d.1 one in search rules
 
 some_none : {A : Type 0} (n : A) → Some n ≡ None → ⊥
 some_none n e = search rules
 
-unnamed : (b : Bool) (P : Type 0) (n : ℕ) (rest : Option ℕ) → Decides b P → cond b (Some n) rest ≡ None → (¬ P) × (rest ≡ None)
-unnamed true P n rest d e = absurd (some_none n e)
-unnamed false P n rest d e = ((λ p. let wrong : false ≡ true = d.1 p in search rules), e)
+cond_unnamed : (b : Bool) (P : Type 0) (n : ℕ) (rest : Option ℕ) → Decides b P → cond b (Some n) rest ≡ None → (¬ P) × (rest ≡ None)
+cond_unnamed true P n rest d e = absurd (some_none n e)
+cond_unnamed false P n rest d e = ((λ p. let wrong : false ≡ true = d.1 p in search rules), e)
 
 -- a new name has no number
 pub number_for-new : (name : List ℕ) (given : List Setting) → IsNew name given → number_for name given ≡ None
 number_for-new name [] new = refl
 number_for-new name (g ∷ gs) new =
-    skipped (bytes_eq g.name name) (g.name ≡ name) (Some g.value) (number_for name gs) (bytes_eq-Decides g.name name) new.0 ∙ number_for-new name gs new.1
+    cond_skipped (bytes_eq g.name name) (g.name ≡ name) (Some g.value) (number_for name gs) (bytes_eq-Decides g.name name) new.0 ∙ number_for-new name gs new.1
 
 pub IsNew-from_none : (name : List ℕ) (given : List Setting) → number_for name given ≡ None → IsNew name given
 IsNew-from_none name [] e = tt
 IsNew-from_none name (g ∷ gs) e =
-    let u = unnamed (bytes_eq g.name name) (g.name ≡ name) g.value (number_for name gs) (bytes_eq-Decides g.name name) e in
+    let u = cond_unnamed (bytes_eq g.name name) (g.name ≡ name) g.value (number_for name gs) (bytes_eq-Decides g.name name) e in
     (u.0, IsNew-from_none name gs u.1)
 
 -- one setting more gives its name its number, and no other name one
 pub number_for-same : (given : List Setting) (next : Setting) → IsNew next.name given → number_for next.name (given ++ next ∷ []) ≡ Some next.value
-number_for-same [] next new = taken (bytes_eq next.name next.name) (next.name ≡ next.name) (Some next.value) None (bytes_eq-Decides next.name next.name) refl
+number_for-same [] next new = cond_taken (bytes_eq next.name next.name) (next.name ≡ next.name) (Some next.value) None (bytes_eq-Decides next.name next.name) refl
 number_for-same (g ∷ gs) next new =
-    skipped (bytes_eq g.name next.name) (g.name ≡ next.name) (Some g.value) (number_for next.name (gs ++ next ∷ [])) (bytes_eq-Decides g.name next.name) new.0 ∙ number_for-same gs next new.1
+    cond_skipped (bytes_eq g.name next.name) (g.name ≡ next.name) (Some g.value) (number_for next.name (gs ++ next ∷ [])) (bytes_eq-Decides g.name next.name) new.0 ∙ number_for-same gs next new.1
 
 pub number_for-other : (name : List ℕ) (given : List Setting) (next : Setting) → next.name ≢ name → number_for name (given ++ next ∷ []) ≡ number_for name given
-number_for-other name [] next other = skipped (bytes_eq next.name name) (next.name ≡ name) (Some next.value) None (bytes_eq-Decides next.name name) other
+number_for-other name [] next other = cond_skipped (bytes_eq next.name name) (next.name ≡ name) (Some next.value) None (bytes_eq-Decides next.name name) other
 number_for-other name (g ∷ gs) next other = ap (λ (r : Option ℕ). cond (bytes_eq g.name name) (Some g.value) r) (number_for-other name gs next other)
 
 -- ---- which numbers options may have

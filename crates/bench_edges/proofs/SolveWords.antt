@@ -7,7 +7,7 @@ use Rattle.bench_edges.specs.declared.words.Command.TheVariants.{Solve}
 use Rattle.bench_edges.specs.declared.words.Options.{Options}
 use Rattle.bench_edges.specs.declared.words.SolveOption.TheVariants.{Workers, Depth, Pieces, Plies, Budget, Lease}
 use Rattle.bench_edges.specs.Words.{Setting, setting_words, IsSetting, IsNew, AreSettings, number_of, solve_words, SaysSolve, Says, BeginsCommand, IsRefusedAt}
-use Rattle.bench_edges.proofs.Settings.{cons_head, cons_tail, not_nil, splits, new_before, AreSettings-more}
+use Rattle.bench_edges.proofs.Settings.{cons_head, cons_tail, not_nil, settings_split, new_before, AreSettings-more}
 use Rattle.bench_edges.proofs.Grammar.{IsStuck, only_solve, name_said, refused_at, refused_in}
 
 -- the words in front of a place say `solve` with these settings
@@ -30,8 +30,8 @@ options_of given = record {
 }
 
 -- settings that are read say a whole `solve`
-pub said : (words : List (List ℕ)) (path : List ℕ) (given : List Setting) → words ≡ solve_words path given → path ≢ [] → AreSettings given → SaysSolve words (options_of given)
-said words path given spelling named settings = record {
+pub solve_said : (words : List (List ℕ)) (path : List ℕ) (given : List Setting) → words ≡ solve_words path given → path ≢ [] → AreSettings given → SaysSolve words (options_of given)
+solve_said words path given spelling named settings = record {
   path = path;
   given = given;
   spelling = spelling;
@@ -46,7 +46,7 @@ said words path given spelling named settings = record {
 }
 
 begins_with : (front rest : List (List ℕ)) (path : List ℕ) (given : List Setting) → front ++ rest ≡ solve_words path given → path ≢ [] → AreSettings given → BeginsCommand front
-begins_with front rest path given spelling named settings = (rest, Solve (options_of given), said (front ++ rest) path given spelling named settings)
+begins_with front rest path given spelling named settings = (rest, Solve (options_of given), solve_said (front ++ rest) path given spelling named settings)
 
 begins_there : (words : List (List ℕ)) (at : ℕ) (given : List Setting) → IsReadTo words at given → BeginsCommand (take at words)
 begins_there words at given r = begins_with (take at words) [] r.path given (append-nil (take at words) ∙ r.front) r.named r.settings
@@ -67,7 +67,7 @@ goes_on words at given r word rest command said_so =
     let spelling : whole ≡ r.path ∷ codes "solve" ∷ behind = ap (λ (ws : List (List ℕ)). ws ++ word ∷ rest) r.front in
     let says = (only_solve whole command said_so (name_said whole r.path (codes "solve") behind command spelling said_so)).1.1 in
     let all : says.path ∷ codes "solve" ∷ flat_map setting_words says.given ≡ r.path ∷ codes "solve" ∷ behind = sym says.spelling ∙ spelling in
-    let s = splits given says.given word rest r.settings says.settings (cons_tail _ _ _ _ (cons_tail _ _ _ _ all)) in
+    let s = settings_split given says.given word rest r.settings says.settings (cons_tail _ _ _ _ (cons_tail _ _ _ _ all)) in
     let placed = new_before given s.next s.more (subst AreSettings s.split says.settings) in
     record { next = s.next; more = s.more; setting = placed.0; new = placed.1; name = s.name; value = s.value }
 
@@ -130,4 +130,4 @@ refused_value words at given some r setting new within name other =
 
 -- nothing but `solve` stands behind the path
 pub solve_says : (path : List ℕ) → path ≢ [] → SaysSolve (path ∷ codes "solve" ∷ []) (options_of [])
-solve_says path named = said (path ∷ codes "solve" ∷ []) path [] refl named tt
+solve_says path named = solve_said (path ∷ codes "solve" ∷ []) path [] refl named tt

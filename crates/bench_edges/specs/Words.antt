@@ -21,7 +21,7 @@ use Rattle.bench_edges.specs.declared.words.Command.TheVariants.{Solve, Report, 
 use Rattle.bench_edges.specs.declared.words.Options.{Options}
 use Rattle.bench_edges.specs.declared.words.SolveOption.{SolveOption}
 use Rattle.bench_edges.specs.declared.words.SolveOption.TheVariants.{Workers, Depth, Pieces, Plies, Budget, Lease}
-use Rattle.bench_edges.specs.declared.words.TheConstants.{DEFAULT_WORKERS, MIN_WORKERS, MAX_WORKERS, DEFAULT_DEPTH, MAX_DEPTH, DEFAULT_PIECES, MIN_PIECES, MAX_PIECES, DEFAULT_PLIES, MAX_PLIES, DEFAULT_BUDGET, MAX_BUDGET, DEFAULT_LEASE, MIN_LEASE, MAX_LEASE, MIN_ROOT, MAX_ROOT, MAX_SEED, MIN_COUNT, MAX_COUNT}
+use Rattle.bench_edges.specs.declared.words.TheConstants.{DEFAULT_WORKERS, LEAST_WORKERS, MOST_WORKERS, DEFAULT_DEPTH, MOST_DEPTH, DEFAULT_PIECES, LEAST_PIECES, MOST_PIECES, DEFAULT_PLIES, MOST_PLIES, DEFAULT_BUDGET, MOST_BUDGET, DEFAULT_LEASE, LEAST_LEASE, MOST_LEASE, LEAST_ROOT, MOST_ROOT, MOST_SEED, LEAST_COUNT, MOST_COUNT}
 
 -- the bytes of each word
 abbrev pub texts : List (Bor (List ℕ)) → List (List ℕ)
@@ -38,20 +38,20 @@ option_name Lease = codes "--lease"
 
 -- the least number that it takes, the most, and the one that stands where none is given
 abbrev pub least_of : SolveOption → ℕ
-least_of Workers = MIN_WORKERS
+least_of Workers = LEAST_WORKERS
 least_of Depth = 0
-least_of Pieces = MIN_PIECES
+least_of Pieces = LEAST_PIECES
 least_of Plies = 0
 least_of Budget = 0
-least_of Lease = MIN_LEASE
+least_of Lease = LEAST_LEASE
 
 abbrev pub most_of : SolveOption → ℕ
-most_of Workers = MAX_WORKERS
-most_of Depth = MAX_DEPTH
-most_of Pieces = MAX_PIECES
-most_of Plies = MAX_PLIES
-most_of Budget = MAX_BUDGET
-most_of Lease = MAX_LEASE
+most_of Workers = MOST_WORKERS
+most_of Depth = MOST_DEPTH
+most_of Pieces = MOST_PIECES
+most_of Plies = MOST_PLIES
+most_of Budget = MOST_BUDGET
+most_of Lease = MOST_LEASE
 
 abbrev pub default_of : SolveOption → ℕ
 default_of Workers = DEFAULT_WORKERS
@@ -155,11 +155,11 @@ pub record SaysPlain (name : List ℕ) (words : List (List ℕ)) : Type 0 where
 
 -- a root has a number from the first to the last that a journal can hold
 abbrev pub IsRootNumber : ℕ → Type 0
-IsRootNumber n = (MIN_ROOT ≤ n) × (n ≤ MAX_ROOT)
+IsRootNumber n = (LEAST_ROOT ≤ n) × (n ≤ MOST_ROOT)
 
 -- the seed and the count of `generate`
 abbrev pub AreGenerated : ℕ → ℕ → Type 0
-AreGenerated seed count = (seed ≤ MAX_SEED) × ((MIN_COUNT ≤ count) × (count ≤ MAX_COUNT))
+AreGenerated seed count = (seed ≤ MOST_SEED) × ((LEAST_COUNT ≤ count) × (count ≤ MOST_COUNT))
 
 -- the words say this command: they are in the grammar
 abbrev pub Says : List (List ℕ) → Command → Type 0
@@ -174,8 +174,8 @@ Says words (Generate seed count) = SaysGenerate words seed count × AreGenerated
 -- the numbers that the command names are within their limits
 abbrev pub IsWithinLimits : Command → Type 0
 IsWithinLimits (Solve options) =
-    Takes Workers options.workers × ((options.depth ≤ MAX_DEPTH) × ((options.plies ≤ MAX_PLIES)
-    × (IsTableSize options.pieces × ((options.budget ≤ MAX_BUDGET) × Takes Lease options.lease))))
+    Takes Workers options.workers × ((options.depth ≤ MOST_DEPTH) × ((options.plies ≤ MOST_PLIES)
+    × (IsTableSize options.pieces × ((options.budget ≤ MOST_BUDGET) × Takes Lease options.lease))))
 IsWithinLimits Report = Unit {0}
 IsWithinLimits (Certify root) = IsRootNumber root
 IsWithinLimits Verify = Unit {0}

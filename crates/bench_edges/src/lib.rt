@@ -5,6 +5,9 @@
 //! has left and what a sink has taken are values that contracts see, where the object tells them.
 //! [`read_to_limit`] and [`write_all`] are the two loops over them. [`Status`] is how a run ends.
 //!
+//! The names of commands and options, with their limits and defaults, stand here alone
+//! ([`COMMAND_NAMES`], [`SOLVE_OPTIONS`]). A limit that a crate below keeps is that crate's number.
+//!
 //! Proved: what a read takes from a source and a write gives to a sink; a fault is answered only
 //! where its count rose, so that no layer above can claim one that did not happen. [`read_words`]
 //! reads exactly the grammar of the words, with numbers within their limits, and else names the
@@ -30,4 +33,10 @@ pub use source::{ReadRefusal, Source, SourceFault, read_to_limit};
 pub use status::Status;
 pub use std_sink::StdSink;
 pub use std_source::StdSource;
-pub use words::{Command, Options, WordsRefusal, read_words};
+pub use words::{
+    COMMAND_NAMES, Command, DEFAULT_BUDGET, DEFAULT_DEPTH, DEFAULT_LEASE, DEFAULT_PIECES,
+    DEFAULT_PLIES, DEFAULT_WORKERS, LEAST_COUNT, LEAST_LEASE, LEAST_PIECES, LEAST_ROOT,
+    LEAST_WORKERS, MOST_BUDGET, MOST_COUNT, MOST_DEPTH, MOST_LEASE, MOST_PIECES, MOST_PLIES,
+    MOST_ROOT, MOST_SEED, MOST_WORKERS, Options, SOLVE_OPTIONS, SolveOption, WordsRefusal,
+    read_words,
+};

@@ -47,9 +47,9 @@ pub struct Options {
     pub lease: u32,
 }
 
-/// An option of `solve`.
-#[derive(Clone, Copy)]
-pub(crate) enum SolveOption {
+/// An option of `solve`, each with a number.
+#[derive(Clone, Copy, Debug, PartialEq, Eq)]
+pub enum SolveOption {
     Workers,
     Depth,
     Pieces,
@@ -68,71 +68,106 @@ pub struct WordsRefusal {
 }
 
 /// How many workers search at once where no number is given.
-pub(crate) const DEFAULT_WORKERS: u32 = 1;
+pub const DEFAULT_WORKERS: u32 = 1;
 
 /// The least number of workers.
-pub(crate) const MIN_WORKERS: u32 = 1;
+pub const LEAST_WORKERS: u32 = 1;
 
 /// The most workers that search at once.
-pub(crate) const MAX_WORKERS: u32 = 64;
+pub const MOST_WORKERS: u32 = 64;
 
 /// How many plies a search looks ahead where no number is given.
-pub(crate) const DEFAULT_DEPTH: u32 = 4;
+pub const DEFAULT_DEPTH: u32 = 4;
 
 /// The most plies that a search looks ahead.
-pub(crate) const MAX_DEPTH: u32 = 12;
+pub const MOST_DEPTH: u32 = certificate_checker::MOST_DEPTH as u32;
 
 /// How many plies of each game are played where no number is given.
-pub(crate) const DEFAULT_PLIES: u32 = 200;
+pub const DEFAULT_PLIES: u32 = 200;
 
 /// The most plies of each game that are played.
-pub(crate) const MAX_PLIES: u32 = 200;
+pub const MOST_PLIES: u32 = 200;
 
 /// The number of pieces of the endgame table of `solve` where no number is given.
-pub(crate) const DEFAULT_PIECES: u32 = 2;
+pub const DEFAULT_PIECES: u32 = 2;
 
 /// The least number of pieces of an endgame table.
-pub(crate) const MIN_PIECES: u32 = 2;
+pub const LEAST_PIECES: u32 = 2;
 
 /// The most pieces of an endgame table.
-pub(crate) const MAX_PIECES: u32 = 3;
+pub const MOST_PIECES: u32 = 3;
 
 /// How many records of work a run may add where no number is given.
-pub(crate) const DEFAULT_BUDGET: u32 = 1_000;
+pub const DEFAULT_BUDGET: u32 = 1_000;
 
 /// The most records of work that a run may add.
-pub(crate) const MAX_BUDGET: u32 = 1_000_000;
+pub const MOST_BUDGET: u32 = bench_core::MOST_WORK;
 
 /// How many leases later a lease runs out where no number is given.
-pub(crate) const DEFAULT_LEASE: u32 = 1_000_000;
+pub const DEFAULT_LEASE: u32 = 1_000_000;
 
 /// The least number of leases after which a lease runs out.
-pub(crate) const MIN_LEASE: u32 = 1;
+pub const LEAST_LEASE: u32 = 1;
 
 /// The greatest number of leases after which a lease runs out.
-pub(crate) const MAX_LEASE: u32 = 1_000_000_000;
+pub const MOST_LEASE: u32 = bench_core::MOST_LEASE;
 
 /// The number of the first root of a journal.
-pub(crate) const MIN_ROOT: u32 = 1;
+pub const LEAST_ROOT: u32 = 1;
 
 /// The number of the last root that a journal can hold.
-pub(crate) const MAX_ROOT: u32 = 65_536;
+pub const MOST_ROOT: u32 = proof_tree::MOST_ROOTS as u32;
 
 /// The greatest seed of `generate`.
-pub(crate) const MAX_SEED: u32 = 4_294_967_295;
+pub const MOST_SEED: u32 = 4_294_967_295;
 
 /// The fewest openings that `generate` makes.
-pub(crate) const MIN_COUNT: u32 = 1;
+pub const LEAST_COUNT: u32 = 1;
 
 /// The most openings that `generate` makes.
-pub(crate) const MAX_COUNT: u32 = 2_000;
+pub const MOST_COUNT: u32 = capture_positions::MOST_OPENINGS;
 
 /// How many options `solve` has.
 const OPTION_COUNT: usize = 6;
 
+/// The options of `solve`, in the order of the manual.
+pub const SOLVE_OPTIONS: [SolveOption; OPTION_COUNT] = [
+    SolveOption::Workers,
+    SolveOption::Depth,
+    SolveOption::Pieces,
+    SolveOption::Plies,
+    SolveOption::Budget,
+    SolveOption::Lease,
+];
+
+/// The names of the commands, in the order of the manual.
+pub const COMMAND_NAMES: [&str; 7] = [
+    "solve",
+    "report",
+    "certify",
+    "verify",
+    "table",
+    "table-check",
+    "generate",
+];
+
 impl SolveOption {
+    /// The word that names it.
+    pub fn name(self) -> &'static str
+        ensures { result.now ≡ option_name self }
+    {
+        match self {
+            SolveOption::Workers => "--workers",
+            SolveOption::Depth => "--depth",
+            SolveOption::Pieces => "--pieces",
+            SolveOption::Plies => "--plies",
+            SolveOption::Budget => "--budget",
+            SolveOption::Lease => "--lease",
+        }
+    }
+
     /// The option that a word names, if it names one.
-    fn named(word: &str) -> Option<SolveOption>
+    pub fn named(word: &str) -> Option<SolveOption>
         ensures some { IfSome result (λ option. word.now ≡ option_name option) }
         ensures none { result ≡ None → (option : SolveOption) → word.now ≢ option_name option }
     {
@@ -156,28 +191,28 @@ impl SolveOption {
     }
 
     /// The least number that it takes.
-    fn least(self) -> u32
+    pub fn least(self) -> u32
         ensures { result ≡ least_of self }
     {
         match self {
-            SolveOption::Workers => MIN_WORKERS,
-            SolveOption::Pieces => MIN_PIECES,
-            SolveOption::Lease => MIN_LEASE,
+            SolveOption::Workers => LEAST_WORKERS,
+            SolveOption::Pieces => LEAST_PIECES,
+            SolveOption::Lease => LEAST_LEASE,
             _ => 0,
         }
     }
 
     /// The most that it takes.
-    fn most(self) -> u32
+    pub fn most(self) -> u32
         ensures { result ≡ most_of self }
     {
         match self {
-            SolveOption::Workers => MAX_WORKERS,
-            SolveOption::Depth => MAX_DEPTH,
-            SolveOption::Pieces => MAX_PIECES,
-            SolveOption::Plies => MAX_PLIES,
-            SolveOption::Budget => MAX_BUDGET,
-            SolveOption::Lease => MAX_LEASE,
+            SolveOption::Workers => MOST_WORKERS,
+            SolveOption::Depth => MOST_DEPTH,
+            SolveOption::Pieces => MOST_PIECES,
+            SolveOption::Plies => MOST_PLIES,
+            SolveOption::Budget => MOST_BUDGET,
+            SolveOption::Lease => MOST_LEASE,
         }
     }
 }
@@ -250,7 +285,7 @@ fn read_table(words: &[&str]) -> Result<Command, WordsRefusal>
     ensures command { IfOk result (λ command. Says (texts words.now) command) }
     ensures refused { IfErr result (λ refusal. IsRefusedAt (texts words.now) refusal.at) }
 {
-    let pieces = number_at(words, 2, MIN_PIECES, MAX_PIECES)?;
+    let pieces = number_at(words, 2, LEAST_PIECES, MOST_PIECES)?;
     if words.len() > 3 {
         return Err(WordsRefusal { at: 3 });
     }
@@ -264,7 +299,7 @@ fn read_certify(words: &[&str]) -> Result<Command, WordsRefusal>
     ensures command { IfOk result (λ command. Says (texts words.now) command) }
     ensures refused { IfErr result (λ refusal. IsRefusedAt (texts words.now) refusal.at) }
 {
-    let root = number_at(words, 2, MIN_ROOT, MAX_ROOT)?;
+    let root = number_at(words, 2, LEAST_ROOT, MOST_ROOT)?;
     if words.len() > 3 {
         return Err(WordsRefusal { at: 3 });
     }
@@ -278,8 +313,8 @@ fn read_generate(words: &[&str]) -> Result<Command, WordsRefusal>
     ensures command { IfOk result (λ command. Says (texts words.now) command) }
     ensures refused { IfErr result (λ refusal. IsRefusedAt (texts words.now) refusal.at) }
 {
-    let seed = number_at(words, 2, 0, MAX_SEED)?;
-    let count = number_at(words, 3, MIN_COUNT, MAX_COUNT)?;
+    let seed = number_at(words, 2, 0, MOST_SEED)?;
+    let count = number_at(words, 3, LEAST_COUNT, MOST_COUNT)?;
     if words.len() > 4 {
         return Err(WordsRefusal { at: 4 });
     }

@@ -2,6 +2,12 @@ pub mod Numbers
 pub mod Masks
 pub mod Fields
 pub mod Formats
+pub mod Noting
+pub mod Numbering
+pub mod Sheets
+pub mod OnSheets
+pub mod Growing
+pub mod Weaving
 pub mod Spots
 pub mod Rows
 pub mod Texts

@@ -1,5 +1,5 @@
 -- Entries of parts: positions that stand once.
-use Rattle.std.proofs.Common.{◌≡◌, ℕ, Bool, true, false, List, [], ◌∷◌, ◌++◌, map, refl, sym, ◌∙◌, ap, subst, inl, inr, ◌⊎◌}
+use Rattle.std.proofs.Common.{◌≡◌, true, false, List, [], ◌∷◌, ◌++◌, refl, sym, ◌∙◌, subst, inl, inr, ◌⊎◌}
 use Rattle.std.specs.Prelude.{Contains, Option, Some, None, IsNone, is_some, ◌↔◌}
 use Rattle.std.specs.List.{list_any, IsDistinct, AllByRecursion}
 use Rattle.std.proofs.lemmas.Bool.{false≢true}
@@ -10,7 +10,7 @@ use Rattle.draughts_board.specs.Same.{same_board-Decides, same_board-equivalence
 use Rattle.draughts_board.proofs.Members.{bool_cases, Contains-nil, Contains-cons_cases, Contains-map, Contains-from_map, true_any}
 use Rattle.strategy_certificate.specs.Parts.{HasDistinctPositions, HasEntry, positions_of}
 
-new_push : (qs : List Board) (p : Board) → IsDistinct same_board qs → ¬ Contains qs p → IsDistinct same_board (qs ++ p ∷ [])
+pub new_push : (qs : List Board) (p : Board) → IsDistinct same_board qs → ¬ Contains qs p → IsDistinct same_board (qs ++ p ∷ [])
 new_push qs p distinct new = IsDistinct-push same_board-equivalence qs p distinct (none (bool_cases (list_any (same_board p) qs)))
   where
     none : (list_any (same_board p) qs ≡ true) ⊎ (list_any (same_board p) qs ≡ false) → list_any (same_board p) qs ≡ false

@@ -1,5 +1,5 @@
 -- The order of the fields of a record.
-use Rattle.std.specs.Prelude.{◌≡◌, ℕ, zero, suc, ◌-◌, ◌^◌, Bool, ◌&&◌, ◌||◌, ◌==◌, nat_le, List, [], ◌∷◌, ◌++◌, Option, Some, None, if◌then◌else◌}
+use Rattle.std.specs.Prelude.{ℕ, zero, suc, ◌-◌, ◌^◌, Bool, ◌&&◌, ◌||◌, ◌==◌, nat_le, List, [], ◌∷◌, ◌++◌, Option, Some, None, if◌then◌else◌}
 use Rattle.draughts_board.specs.Board.{Board}
 use Rattle.draughts_board.specs.declared.pieces.Side.{Side}
 use Rattle.draughts_board.specs.declared.pieces.Side.TheVariants.{Black, White}
@@ -9,7 +9,8 @@ use Rattle.strategy_certificate.specs.declared.certificates.Part.TheVariants.{Wi
 use Rattle.strategy_certificate.specs.declared.certificates.Certificate.{Certificate}
 use Rattle.strategy_certificate.specs.Parts.{positions_of}
 use Rattle.strategy_certificate.specs.Certificates.{claim_of}
-use Rattle.bench_records.specs.Formats.{Format, done, field, byte, short, long, position, one, ◌>>=◌}
+use Rattle.bench_records.specs.Formats.{Format, done, byte, short, long, position, one, ◌>>=◌}
+use Rattle.bench_records.specs.Names.{numbered}
 use Rattle.bench_records.specs.declared.records.BenchRecord.{BenchRecord}
 use Rattle.bench_records.specs.declared.records.BenchRecord.TheVariants.{Begin, Solve, Expand}
 
@@ -103,10 +104,14 @@ expand_order = do
   node ← one (long (2 ^ 64 - 1))
   done (Expand node)
 
--- behind the kind byte: 1 a root begins, 2 a node is solved, 3 it is expanded
-abbrev pub kind_order : ℕ → ℕ → Format BenchRecord
-kind_order pieces kind =
-    (if kind == 1 then begin_order else (if kind == 2 then solve_order pieces else expand_order))
+-- Behind the kind byte: 1 a root begins, 2 a node is solved, 3 it is expanded; in version 2 4 a root
+-- begins, 5 a node is solved, where each position is spelled by its number in the list.
+abbrev pub kind_order : List Board → ℕ → ℕ → Format BenchRecord
+kind_order named pieces kind =
+    (if kind == 1 then begin_order
+    else (if kind == 2 then solve_order pieces
+    else (if kind == 3 then expand_order
+    else (if kind == 4 then numbered named begin_order else numbered named (solve_order pieces)))))
 
-abbrev pub record_order : ℕ → Format BenchRecord
-record_order pieces = one (byte (is_between 1 3)) >>= kind_order pieces
+abbrev pub record_order : List Board → ℕ → Format BenchRecord
+record_order named pieces = one (byte (is_between 1 5)) >>= kind_order named pieces

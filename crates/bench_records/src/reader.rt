@@ -4,8 +4,11 @@ ghost use Rattle.bench_records.specs.Positions.{short_text, long_text, side_byte
 ghost use Rattle.bench_records.specs.Reading.{NoPosition};
 ghost use Rattle.draughts_board.specs.Board.{IsLawful};
 
+use crate::named::Named;
+use crate::names::Names;
 use crate::refusal::RecordRefusal;
 use draughts_board::{Move, Position, Side, Square};
+use std::alloc::Global;
 use std::marker::Model;
 
 /// The number of the first 4 bytes, the most significant first, and the bytes behind them.
@@ -67,11 +70,14 @@ fn split_position(bytes: &[u8]) -> Option<(Position, &[u8])>
     Some((p, rest))
 }
 
-/// The bytes that are left, and the place of the first of them, counted from 0.
+/// The bytes that are left, the place of the first of them, counted from 0, the positions named so
+/// far, and whether positions are spelled by their numbers among them.
 #[derive(Drop)]
 pub(crate) struct Reader<'a> {
     left: &'a [u8],
     at: usize,
+    names: Names<'a>,
+    by_number: bool,
 }
 
 impl<'a> Model for Reader<'a> {
@@ -80,22 +86,48 @@ impl<'a> Model for Reader<'a> {
 
     ghost Value = { Spot };
 
-    ghost view = { λ r. record { left = r.left.now; at = r.at } };
+    ghost view = { λ r. record {
+      left = r.left.now;
+      at = r.at;
+      named = r.names;
+      by_number = r.by_number;
+    } };
 
     ghost invariant = { λ r. r.at + length r.left.now < 2 ^ 64 };
 }
 
 impl<'a> Reader<'a> {
-    ghost use Rattle.std.specs.Prelude.{IfOk, IfErr, [], ◌==◌};
+    ghost use Rattle.std.specs.Prelude.{IfOk, IfErr, [], ◌==◌, List, Contains, true, false};
+    ghost use Rattle.draughts_board.specs.Board.{Board};
     ghost use Rattle.bench_records.specs.Formats.{one, byte, short, long, position};
+    ghost use Rattle.bench_records.specs.Names.{IsNamed};
     ghost use Rattle.bench_records.specs.Orders.{is_between, choice_order, many, square_order};
-    ghost use Rattle.bench_records.specs.Reading.{ReadsValue, RefusesRecord};
+    ghost use Rattle.bench_records.specs.Reading.{ReadsValue, FailsFrom, RefusesRecord};
 
-    /// A reader of these bytes from their first on.
-    pub(crate) fn new(bytes: &'a [u8]) -> Reader<'a>
-        ensures { result ≡ record { left = bytes.now; at = 0 } }
+    /// A reader of these bytes from their first on, behind these positions; it reads them in full.
+    pub(crate) fn new(alloc: Global, bytes: &'a [u8], named: &'a Named) -> Reader<'a>
+        ensures value { result
+            ≡ record { left = bytes.now; at = 0; named = named.now; by_number = false } }
+        ensures named { IsNamed named.now }
     {
-        Reader { left: bytes, at: 0 }
+        Reader {
+            left: bytes,
+            at: 0,
+            names: Names::behind(alloc, named),
+            by_number: false,
+        }
+    }
+
+    /// It reads positions by their numbers from now on.
+    pub(crate) fn take_numbers(&mut self)
+        ensures { self.new ≡ record {
+          left = self.old.left;
+          at = self.old.at;
+          named = self.old.named;
+          by_number = true;
+        } }
+    {
+        self.by_number = true;
     }
 
     /// The place of the next byte.
@@ -201,18 +233,78 @@ impl<'a> Reader<'a> {
         Ok(Some(self.path(count)?))
     }
 
-    /// A position.
-    pub(crate) fn position(&mut self) -> Result<Position, RecordRefusal>
-        ensures ok { IfOk result (λ p. ReadsValue (one (position [])) self.old p self.new) }
-        ensures err { IfErr result (RefusesRecord (one (position [])) self.old) }
+    /// A position that is spelled in full, and its place.
+    fn full_position(&mut self) -> Result<(Position, usize), RecordRefusal>
+        requires { self.old.by_number ≡ false }
+        ensures read { IfOk result (λ r. (others : List Board) → ¬ Contains others r.0
+            → ReadsValue (one (position others)) self.old r.0 self.new) }
+        ensures taken { IfOk result (λ r. (others : List Board) → Contains others r.0
+            → FailsFrom (one (position others)) self.old r.1) }
+        ensures err { IfErr result (λ e. (others : List Board)
+            → RefusesRecord (one (position others)) self.old e) }
     {
+        let at = self.at;
         match split_position(self.left) {
             Some(cut) => {
                 self.left = cut.1;
                 self.at += 17;
-                Ok(cut.0)
+                Ok((cut.0, at))
             }
-            None => Err(RecordRefusal::BadField(self.at)),
+            None => Err(RecordRefusal::BadField(at)),
+        }
+    }
+
+    /// A position that is spelled by its number, and the place of what says which it is: of its
+    /// number, or behind that of the position itself.
+    fn numbered_position(&mut self) -> Result<(Position, usize), RecordRefusal>
+        requires { self.old.by_number ≡ true }
+        ensures read { IfOk result (λ r. (others : List Board) → ¬ Contains others r.0
+            → ReadsValue (one (position others)) self.old r.0 self.new) }
+        ensures taken { IfOk result (λ r. (others : List Board) → Contains others r.0
+            → FailsFrom (one (position others)) self.old r.1) }
+        ensures err { IfErr result (λ e. (others : List Board)
+            → RefusesRecord (one (position others)) self.old e) }
+    {
+        let at = self.at;
+        let Some((n, rest)) = split_short(self.left) else {
+            return Err(RecordRefusal::BadField(at));
+        };
+        let count = self.names.len();
+        if n > count || n == u32::MAX {
+            return Err(RecordRefusal::BadField(at));
+        }
+        if n < count {
+            let p = self.names.position(n);
+            self.left = rest;
+            self.at = at + 4;
+            return Ok((p, at));
+        }
+        let Some(cut) = split_position(rest) else {
+            return Err(RecordRefusal::BadField(at + 4));
+        };
+        if self.names.find(&cut.0).is_some() {
+            return Err(RecordRefusal::BadField(at + 4));
+        }
+        self.names.add(cut.0)?;
+        self.left = cut.1;
+        self.at = at + 21;
+        Ok((cut.0, at + 4))
+    }
+
+    /// A position, and the place of what says which it is: there a reader refuses it that has it
+    /// already.
+    pub(crate) fn position(&mut self) -> Result<(Position, usize), RecordRefusal>
+        ensures read { IfOk result (λ r. (others : List Board) → ¬ Contains others r.0
+            → ReadsValue (one (position others)) self.old r.0 self.new) }
+        ensures taken { IfOk result (λ r. (others : List Board) → Contains others r.0
+            → FailsFrom (one (position others)) self.old r.1) }
+        ensures err { IfErr result (λ e. (others : List Board)
+            → RefusesRecord (one (position others)) self.old e) }
+    {
+        if self.by_number {
+            self.numbered_position()
+        } else {
+            self.full_position()
         }
     }
 }

@@ -1,14 +1,16 @@
 //! Reading the text of a record.
-ghost use Rattle.std.specs.Prelude.{◌≡◌, ◌≤◌, ◌^◌, [], ◌∷◌, IfOk, IfErr};
+ghost use Rattle.std.specs.Prelude.{◌≡◌, ◌≤◌, ◌^◌, [], ◌∷◌, false, IfOk, IfErr};
 ghost use Rattle.std.specs.Bool.{OnFalse};
 ghost use Rattle.shared_words.specs.Answers.{IsExact};
 ghost use Rattle.strategy_certificate.specs.Parts.{HasEntry, positions_of};
 ghost use Rattle.bench_records.specs.Formats.{one, position, SpellsValue};
-ghost use Rattle.bench_records.specs.Texts.{IsTextAlone};
+ghost use Rattle.bench_records.specs.Names.{IsNamed};
+ghost use Rattle.bench_records.specs.Texts.{IsTextFor};
 ghost use Rattle.bench_records.specs.Orders.{many, win_order, hold_order, win_part_order, hold_part_order, part_order, certificate_order, begin_order, solve_order, expand_order, kind_order, record_order};
-ghost use Rattle.bench_records.specs.Reading.{ReadsValue, RefusesRecord};
+ghost use Rattle.bench_records.specs.Reading.{ReadsValue, RefusesRecord, ReadsPlain, RefusesPlain};
 ghost use Rattle.bench_records.specs.Refusals.{IsRecordRefusal, record_wants_memory};
 
+use crate::named::Named;
 use crate::reader::Reader;
 use crate::records::{BenchRecord, CertificateList, MOST_SHOWN};
 use crate::refusal::RecordRefusal;
@@ -26,12 +28,11 @@ fn win_position(reader: &mut Reader<'_>, part: &WinPart) -> Result<Position, Rec
     ensures err { IfErr result (
         RefusesRecord (one (position (positions_of part.now.entries))) reader.old) }
 {
-    let at = reader.place();
-    let p = reader.position()?;
-    if part.find(&p).is_some() {
-        return Err(RecordRefusal::BadField(at));
+    let spelled = reader.position()?;
+    if part.find(&spelled.0).is_some() {
+        return Err(RecordRefusal::BadField(spelled.1));
     }
-    Ok(p)
+    Ok(spelled.0)
 }
 
 /// A position that has no entry in the hold part.
@@ -42,12 +43,11 @@ fn hold_position(reader: &mut Reader<'_>, part: &HoldPart) -> Result<Position, R
     ensures err { IfErr result (
         RefusesRecord (one (position (positions_of part.now.entries))) reader.old) }
 {
-    let at = reader.place();
-    let p = reader.position()?;
-    if part.find(&p).is_some() {
-        return Err(RecordRefusal::BadField(at));
+    let spelled = reader.position()?;
+    if part.find(&spelled.0).is_some() {
+        return Err(RecordRefusal::BadField(spelled.1));
     }
-    Ok(p)
+    Ok(spelled.0)
 }
 
 /// An entry of a win part, behind those that the part has.
@@ -181,7 +181,8 @@ fn begin(reader: &mut Reader<'_>) -> Result<BenchRecord, RecordRefusal>
     ensures ok { IfOk result (λ r. ReadsValue begin_order reader.old r reader.new) }
     ensures err { IfErr result (RefusesRecord begin_order reader.old) }
 {
-    Ok(BenchRecord::Begin(reader.position()?))
+    let spelled = reader.position()?;
+    Ok(BenchRecord::Begin(spelled.0))
 }
 
 /// What stands behind the kind of a record that solves a node.
@@ -190,7 +191,8 @@ fn solve(alloc: Global, reader: &mut Reader<'_>, pieces: u8) -> Result<BenchReco
     ensures err { IfErr result (RefusesRecord (solve_order pieces) reader.old) }
 {
     let node = reader.long(u64::MAX)?;
-    let position = reader.position()?;
+    let spelled = reader.position()?;
+    let position = spelled.0;
     let count = reader.byte(1, MOST_SHOWN)?;
     let shown = certificates(alloc, reader, pieces, position, count)?;
     Ok(BenchRecord::Solve {
@@ -217,25 +219,42 @@ fn behind_kind(
     kind: u8,
 ) -> Result<BenchRecord, RecordRefusal>
     requires least { 1 ≤ kind }
-    requires most { kind ≤ 3 }
-    ensures ok { IfOk result (λ r. ReadsValue (kind_order pieces kind) reader.old r reader.new) }
-    ensures err { IfErr result (RefusesRecord (kind_order pieces kind) reader.old) }
+    requires most { kind ≤ 5 }
+    requires full { reader.old.by_number ≡ false }
+    ensures ok { IfOk result (λ r.
+        ReadsPlain (kind_order reader.old.named pieces kind) reader.old r reader.new) }
+    ensures err { IfErr result
+        (RefusesPlain (kind_order reader.old.named pieces kind) reader.old) }
 {
     match kind {
         1 => begin(reader),
         2 => solve(alloc, reader, pieces),
-        _ => expand(reader),
+        3 => expand(reader),
+        4 => {
+            reader.take_numbers();
+            begin(reader)
+        }
+        _ => {
+            reader.take_numbers();
+            solve(alloc, reader, pieces)
+        }
     }
 }
 
-/// The record that these bytes spell, all of them.
-fn record(alloc: Global, bytes: &[u8], pieces: u8) -> Result<BenchRecord, RecordRefusal>
-    ensures spelled { IfOk result (SpellsValue (record_order pieces) bytes.now) }
+/// The record that these bytes spell, all of them, behind these positions.
+fn record(
+    alloc: Global,
+    bytes: &[u8],
+    pieces: u8,
+    named: &Named,
+) -> Result<BenchRecord, RecordRefusal>
+    ensures spelled { IfOk result (SpellsValue (record_order named.now pieces) bytes.now) }
     ensures refused { IfErr result
-        (λ e. OnFalse (record_wants_memory e) (IsRecordRefusal pieces bytes.now e)) }
+        (λ e. OnFalse (record_wants_memory e) (IsRecordRefusal named.now pieces bytes.now e)) }
+    ensures named { IsNamed named.now }
 {
-    let mut reader = Reader::new(bytes);
-    let Ok(kind) = reader.byte(1, 3) else {
+    let mut reader = Reader::new(alloc, bytes, named);
+    let Ok(kind) = reader.byte(1, 5) else {
         return Err(RecordRefusal::BadKind);
     };
     let record = behind_kind(alloc, &mut reader, pieces, kind)?;
@@ -245,16 +264,22 @@ fn record(alloc: Global, bytes: &[u8], pieces: u8) -> Result<BenchRecord, Record
     Ok(record)
 }
 
-/// The record of which these bytes are the text, in a journal for tables of so many pieces.
+/// The record of which these bytes are a text, of version 1 or 2, in a journal for tables of so many
+/// pieces whose records before named these positions.
 ///
 /// Bytes that are no record's text are refused for what goes wrong first ([`RecordRefusal`]); there
 /// is one refusal of them, and none of the text of a record ([`crate::laws`]). Want of memory may
 /// be answered for any bytes. A count of entries takes no memory: that grows with the bytes that
 /// are there.
-pub fn decode(alloc: Global, bytes: &[u8], pieces: u8) -> Result<BenchRecord, RecordRefusal>
+pub fn decode(
+    alloc: Global,
+    bytes: &[u8],
+    pieces: u8,
+    named: &Named,
+) -> Result<BenchRecord, RecordRefusal>
     // The record that has this text, or what goes wrong first: exactly that, unless memory ran out.
-    ensures { IsExact record_wants_memory (IsTextAlone pieces bytes.now)
-        (IsRecordRefusal pieces bytes.now) result }
+    ensures { IsExact record_wants_memory (λ r. IsTextFor pieces named.now r bytes.now)
+        (IsRecordRefusal named.now pieces bytes.now) result }
 {
-    record(alloc, bytes, pieces)
+    record(alloc, bytes, pieces, named)
 }

@@ -1,133 +1,113 @@
-//! Writing a record in its one text.
+//! Writing a record in its texts.
 ghost use Rattle.std.specs.Prelude.{◌≡◌, ◌++◌, ◌∷◌, [], ◌≤◌, ℕ, ◌<◌, ◌^◌, List, length, map, All, IfOk, OnOk};
 ghost use Rattle.std.specs.List.{flat_map};
 ghost use Rattle.strategy_certificate.specs.declared.certificates.Part.TheVariants as parts;
 ghost use Rattle.strategy_certificate.specs.Certificates.{claim_of};
-ghost use Rattle.draughts_board.specs.Board.{IsLawful};
-ghost use Rattle.bench_records.specs.Positions.{short_text, long_text, side_byte, position_text};
-ghost use Rattle.bench_records.specs.Texts.{choice_bytes, win_text, hold_text, claim_byte, part_text, certificate_text, record_text, ShowsEnough, HasShortCount, IsText};
-ghost use Rattle.bench_records.specs.declared.records.BenchRecord.{BenchRecord as Record};
+ghost use Rattle.draughts_board.specs.Board.{Board, IsLawful};
+ghost use Rattle.bench_records.specs.Positions.{short_text, long_text};
+ghost use Rattle.bench_records.specs.Texts.{choice_bytes, win_sheet, hold_sheet, claim_byte, part_sheet, certificate_sheet, record_sheet, full_kind, short_kind, ShowsEnough, HasShortCount, IsSoundRecord, IsFullText, IsShortText, IsTextFor};
+ghost use Rattle.bench_records.specs.Names.{mark, name, marks};
 
+use crate::named::Named;
 use crate::records::BenchRecord;
+use crate::sheet::Sheet;
 use draughts_board::{Move, Position, Side};
 use std::alloc::{AllocError, Global};
 use strategy_certificate::{Certificate, Claim, HoldPart, Part, WinEntry, WinPart};
 
 /// Appends a number in 4 bytes.
-fn push_short(text: &mut Vec<u8>, n: u32) -> Result<(), AllocError>
-    ensures { OnOk result (text.new.items ≡ text.old.items ++ short_text n) }
+fn push_short(sheet: &mut Sheet, n: u32) -> Result<(), AllocError>
+    ensures { OnOk result (sheet.new ≡ sheet.old ++ marks (short_text n)) }
 {
-    text.extend_from_slice(&n.to_be_bytes())
+    sheet.extend(&n.to_be_bytes())
 }
 
 /// Appends a number in 8 bytes.
-fn push_long(text: &mut Vec<u8>, n: u64) -> Result<(), AllocError>
-    ensures { OnOk result (text.new.items ≡ text.old.items ++ long_text n) }
+fn push_long(sheet: &mut Sheet, n: u64) -> Result<(), AllocError>
+    ensures { OnOk result (sheet.new ≡ sheet.old ++ marks (long_text n)) }
 {
-    text.extend_from_slice(&n.to_be_bytes())
-}
-
-/// The byte for a side.
-fn side_byte(side: Side) -> u8
-    ensures { result ≡ side_byte side }
-{
-    match side {
-        Side::Black => 0,
-        Side::White => 1,
-    }
-}
-
-/// Appends a position.
-fn push_position(text: &mut Vec<u8>, p: &Position) -> Result<(), AllocError>
-    ensures text { OnOk result (text.new.items ≡ text.old.items ++ position_text p.now) }
-    ensures lawful { IsLawful p.now }
-{
-    text.push(side_byte(p.to_move()))?;
-    for mask in p.masks() {
-        push_short(text, mask)?;
-    }
-    Ok(())
+    sheet.extend(&n.to_be_bytes())
 }
 
 /// Appends a move, if one is chosen, or that none is.
-fn push_choice(text: &mut Vec<u8>, chosen: &Option<Move>) -> Result<(), AllocError>
-    ensures { OnOk result (text.new.items ≡ text.old.items ++ choice_bytes chosen.now) }
+fn push_choice(sheet: &mut Sheet, chosen: &Option<Move>) -> Result<(), AllocError>
+    ensures { OnOk result (sheet.new ≡ sheet.old ++ marks (choice_bytes chosen.now)) }
 {
     let Some(chosen) = chosen else {
-        text.push(0)?;
+        sheet.push(0)?;
         return Ok(());
     };
     let path = chosen.path();
-    text.push(path.len() as u8)?;
+    sheet.push(path.len() as u8)?;
     for square in path {
-        text.push(square.number())?;
+        sheet.push(square.number())?;
     }
     Ok(())
 }
 
 /// Appends an entry of a win part.
-fn push_win(text: &mut Vec<u8>, p: &Position, entry: &WinEntry) -> Result<(), AllocError>
-    ensures { OnOk result (text.new.items ≡ text.old.items ++ win_text (p.now, entry.now)) }
+fn push_win(sheet: &mut Sheet, p: &Position, entry: &WinEntry) -> Result<(), AllocError>
+    ensures { OnOk result (sheet.new ≡ sheet.old ++ win_sheet (p.now, entry.now)) }
 {
-    push_position(text, p)?;
-    push_long(text, entry.rank)?;
-    push_choice(text, &entry.chosen)
+    sheet.name(p)?;
+    push_long(sheet, entry.rank)?;
+    push_choice(sheet, &entry.chosen)
 }
 
 /// Appends an entry of a hold part.
-fn push_hold(text: &mut Vec<u8>, p: &Position, chosen: &Option<Move>) -> Result<(), AllocError>
-    ensures { OnOk result (text.new.items ≡ text.old.items ++ hold_text (p.now, chosen.now)) }
+fn push_hold(sheet: &mut Sheet, p: &Position, chosen: &Option<Move>) -> Result<(), AllocError>
+    ensures { OnOk result (sheet.new ≡ sheet.old ++ hold_sheet (p.now, chosen.now)) }
 {
-    push_position(text, p)?;
-    push_choice(text, chosen)
+    sheet.name(p)?;
+    push_choice(sheet, chosen)
 }
 
 /// Appends the number of entries of a part. One of 2^32 or more is answered as want of memory.
-fn push_count(text: &mut Vec<u8>, count: usize) -> Result<(), AllocError>
-    ensures text { OnOk result (text.new.items ≡ text.old.items ++ short_text count) }
+fn push_count(sheet: &mut Sheet, count: usize) -> Result<(), AllocError>
+    ensures text { OnOk result (sheet.new ≡ sheet.old ++ marks (short_text count)) }
     ensures fits { OnOk result (count < 2 ^ 32) }
 {
     match u32::try_from(count) {
-        Ok(count) => push_short(text, count),
+        Ok(count) => push_short(sheet, count),
         Err(_) => Err(AllocError),
     }
 }
 
 /// Appends a win part.
-fn push_win_part(text: &mut Vec<u8>, part: &WinPart) -> Result<(), AllocError>
-    ensures text { OnOk result (text.new.items ≡ text.old.items ++ part_text (parts.Win part.now)) }
+fn push_win_part(sheet: &mut Sheet, part: &WinPart) -> Result<(), AllocError>
+    ensures text { OnOk result (sheet.new ≡ sheet.old ++ part_sheet (parts.Win part.now)) }
     ensures counted { OnOk result (HasShortCount (parts.Win part.now)) }
 {
-    push_count(text, part.len())?;
+    push_count(sheet, part.len())?;
     for i in 0..part.len() {
         let (p, entry) = part.entry(i);
-        push_win(text, &p, &entry)?;
+        push_win(sheet, &p, &entry)?;
     }
     Ok(())
 }
 
 /// Appends a hold part.
-fn push_hold_part(text: &mut Vec<u8>, part: &HoldPart) -> Result<(), AllocError>
-    ensures text { OnOk result (text.new.items
-        ≡ text.old.items ++ part_text (parts.Hold part.now)) }
+fn push_hold_part(sheet: &mut Sheet, part: &HoldPart) -> Result<(), AllocError>
+    ensures text { OnOk result (sheet.new
+        ≡ sheet.old ++ part_sheet (parts.Hold part.now)) }
     ensures counted { OnOk result (HasShortCount (parts.Hold part.now)) }
 {
-    push_count(text, part.len())?;
+    push_count(sheet, part.len())?;
     for i in 0..part.len() {
         let (p, chosen) = part.entry(i);
-        push_hold(text, &p, &chosen)?;
+        push_hold(sheet, &p, &chosen)?;
     }
     Ok(())
 }
 
 /// Appends a part.
-fn push_part(text: &mut Vec<u8>, part: &Part) -> Result<(), AllocError>
-    ensures text { OnOk result (text.new.items ≡ text.old.items ++ part_text part.now) }
+fn push_part(sheet: &mut Sheet, part: &Part) -> Result<(), AllocError>
+    ensures text { OnOk result (sheet.new ≡ sheet.old ++ part_sheet part.now) }
     ensures counted { OnOk result (HasShortCount part.now) }
 {
     match part {
-        Part::Win(part) => push_win_part(text, part),
-        Part::Hold(part) => push_hold_part(text, part),
+        Part::Win(part) => push_win_part(sheet, part),
+        Part::Hold(part) => push_hold_part(sheet, part),
     }
 }
 
@@ -145,77 +125,114 @@ fn claim_byte(claim: Claim) -> u8
 }
 
 /// Appends a certificate of one part.
-fn push_certificate(text: &mut Vec<u8>, c: &Certificate) -> Result<(), AllocError>
+fn push_certificate(sheet: &mut Sheet, c: &Certificate) -> Result<(), AllocError>
     requires { map claim_of c.now.parts ≡ c.now.claim ∷ [] }
-    ensures text { OnOk result (text.new.items ≡ text.old.items ++ certificate_text c.now) }
+    ensures text { OnOk result (sheet.new ≡ sheet.old ++ certificate_sheet c.now) }
     ensures counted { OnOk result (All HasShortCount c.now.parts) }
 {
-    text.push(claim_byte(c.claim))?;
+    sheet.push(claim_byte(c.claim))?;
     match c.parts.as_slice() {
-        [part] => push_part(text, part),
+        [part] => push_part(sheet, part),
         _ => unreachable!(),
     }
 }
 
 /// Appends certificates of one part each.
-fn push_certificates(text: &mut Vec<u8>, shown: &[Certificate]) -> Result<(), AllocError>
+fn push_certificates(sheet: &mut Sheet, shown: &[Certificate]) -> Result<(), AllocError>
     requires { All (λ c. map claim_of c.parts ≡ c.claim ∷ []) shown.now }
-    ensures text { OnOk result (text.new.items
-        ≡ text.old.items ++ flat_map certificate_text shown.now) }
+    ensures text { OnOk result (sheet.new
+        ≡ sheet.old ++ flat_map certificate_sheet shown.now) }
     ensures counted { OnOk result (All (λ c. All HasShortCount c.parts) shown.now) }
 {
     for c in shown {
-        push_certificate(text, c)?;
+        push_certificate(sheet, c)?;
     }
     Ok(())
 }
 
 /// Appends what stands behind the kind of a record that solves a node.
 fn push_solve(
-    text: &mut Vec<u8>,
+    sheet: &mut Sheet,
     node: u64,
     position: &Position,
     shown: &[Certificate],
 ) -> Result<(), AllocError>
     requires few { length shown.now ≤ 4 }
     requires parts { All (λ c. map claim_of c.parts ≡ c.claim ∷ []) shown.now }
-    ensures text { OnOk result (text.new.items ≡ text.old.items ++ (long_text node
-        ++ (position_text position.now
-        ++ (length shown.now ∷ flat_map certificate_text shown.now)))) }
+    ensures text { OnOk result (sheet.new ≡ sheet.old ++ (marks (long_text node)
+        ++ name position.now ∷ mark (length shown.now)
+        ∷ flat_map certificate_sheet shown.now)) }
     ensures lawful { OnOk result (IsLawful position.now) }
     ensures counted { OnOk result (All (λ c. All HasShortCount c.parts) shown.now) }
 {
-    push_long(text, node)?;
-    push_position(text, position)?;
-    text.push(shown.len() as u8)?;
-    push_certificates(text, shown)
+    push_long(sheet, node)?;
+    sheet.name(position)?;
+    sheet.push(shown.len() as u8)?;
+    push_certificates(sheet, shown)
 }
 
-/// The text of a record. A part of 2^32 entries or more, which no text can say, is answered as want
-/// of memory.
-pub fn encode(alloc: Global, r: &BenchRecord) -> Result<Vec<u8>, AllocError>
+/// What stands behind the kind of a record, however its positions will be spelled. A part of 2^32
+/// entries or more, which no text can say, is answered as want of memory.
+pub fn sheet_of(alloc: Global, r: &BenchRecord) -> Result<Sheet, AllocError>
     requires { (pieces : ℕ) × ShowsEnough pieces r.now }
-    ensures { IfOk result (λ text. (pieces : ℕ) (before : List Record)
-        → ShowsEnough pieces r.now → IsText pieces before r.now text.items) }
+    ensures sheet { IfOk result (λ sheet. sheet ≡ record_sheet r.now) }
+    ensures sound { OnOk result (IsSoundRecord r.now) }
 {
-    let mut text = Vec::new(alloc);
+    let mut sheet = Sheet::new(alloc);
     match r {
-        BenchRecord::Begin(position) => {
-            text.push(1)?;
-            push_position(&mut text, position)?;
-        }
+        BenchRecord::Begin(position) => sheet.name(position)?,
         BenchRecord::Solve {
             node,
             position,
             shown,
-        } => {
-            text.push(2)?;
-            push_solve(&mut text, *node, position, shown.as_slice())?;
-        }
-        BenchRecord::Expand { node } => {
-            text.push(3)?;
-            push_long(&mut text, *node)?;
-        }
+        } => push_solve(&mut sheet, *node, position, shown.as_slice())?,
+        BenchRecord::Expand { node } => push_long(&mut sheet, *node)?,
     }
-    Ok(text)
+    Ok(sheet)
+}
+
+/// The kind of a record that spells positions by their numbers.
+pub fn kind_of(r: &BenchRecord) -> u8
+    ensures { result ≡ short_kind r.now }
+{
+    match r {
+        BenchRecord::Begin(_) => 4,
+        BenchRecord::Solve { .. } => 5,
+        BenchRecord::Expand { .. } => 3,
+    }
+}
+
+/// The text of version 2 of a record behind these positions. A part of 2^32 entries or more, and a
+/// position that would need the number 2^32 - 1, are answered as want of memory.
+pub fn encode(alloc: Global, r: &BenchRecord, named: &Named) -> Result<Vec<u8>, AllocError>
+    requires { (pieces : ℕ) × ShowsEnough pieces r.now }
+    ensures short { IfOk result (λ text. IsShortText named.now r.now text.items) }
+    ensures text { IfOk result (λ text. (pieces : ℕ)
+        → ShowsEnough pieces r.now → IsTextFor pieces named.now r.now text.items) }
+{
+    let sheet = sheet_of(alloc, r)?;
+    sheet.fill(alloc, kind_of(r), named)
+}
+
+/// The kind of a record that spells positions in full.
+fn full_kind_of(r: &BenchRecord) -> u8
+    ensures { result ≡ full_kind r.now }
+{
+    match r {
+        BenchRecord::Begin(_) => 1,
+        BenchRecord::Solve { .. } => 2,
+        BenchRecord::Expand { .. } => 3,
+    }
+}
+
+/// The text of version 1 of a record, which is one behind any positions. A part of 2^32 entries or
+/// more, which no text can say, is answered as want of memory.
+pub fn encode_full(alloc: Global, r: &BenchRecord) -> Result<Vec<u8>, AllocError>
+    requires { (pieces : ℕ) × ShowsEnough pieces r.now }
+    ensures full { IfOk result (λ text. IsFullText r.now text.items) }
+    ensures text { IfOk result (λ text. (pieces : ℕ) (named : List Board)
+        → ShowsEnough pieces r.now → IsTextFor pieces named r.now text.items) }
+{
+    let sheet = sheet_of(alloc, r)?;
+    sheet.spell(alloc, full_kind_of(r))
 }

@@ -3,7 +3,7 @@ use Rattle.std.specs.Prelude.{◌≡◌, ℕ, ◌<◌, ◌≤◌, true, length}
 use Rattle.draughts_board.specs.Board.{piece_count}
 use Rattle.draughts_board.specs.Rules.{has_jump, first_places}
 use Rattle.capture_positions.specs.Walk.{numbered_position, index_of_step, walk}
-use Rattle.capture_positions.specs.declared.openings.TheConstants.{INDEX_COUNT, MAX_OPENINGS}
+use Rattle.capture_positions.specs.declared.openings.TheConstants.{INDEX_COUNT, MOST_OPENINGS}
 
 -- A walk of 4,176 steps meets each index ..
 abbrev pub EachIndexIsMet : Type 0
@@ -20,7 +20,7 @@ NoIndexIsMetTwice =
 -- It meets enough different positions, from each seed.
 abbrev pub EnoughPositionsAreMet : Type 0
 EnoughPositionsAreMet =
-    (seed : ℕ) → MAX_OPENINGS ≤ length (first_places (walk seed INDEX_COUNT))
+    (seed : ℕ) → MOST_OPENINGS ≤ length (first_places (walk seed INDEX_COUNT))
 
 -- In each of its positions Black must capture.
 abbrev pub BlackMustCapture : Type 0

@@ -19,4 +19,4 @@ pub mod laws;
 mod openings;
 
 pub use jumps::{JUMP_COUNT, OTHER_COUNT};
-pub use openings::{INDEX_COUNT, MAX_OPENINGS, SEED_FACTOR, STEP_FACTOR, capture_positions};
+pub use openings::{INDEX_COUNT, MOST_OPENINGS, SEED_FACTOR, STEP_FACTOR, capture_positions};

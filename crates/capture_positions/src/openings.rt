@@ -19,7 +19,7 @@ pub const SEED_FACTOR: u64 = 7_919;
 pub const STEP_FACTOR: u64 = 101;
 
 /// The most openings that are made from a seed.
-pub const MAX_OPENINGS: u32 = 2_000;
+pub const MOST_OPENINGS: u32 = 2_000;
 
 /// The index at which a walk from this seed is after so many steps.
 fn index_of_step(seed: u32, step: u32) -> u32
@@ -68,7 +68,7 @@ pub fn capture_positions(
     seed: u32,
     count: u32,
 ) -> Result<IndexSet<Position>, AllocError>
-    requires { count ≤ MAX_OPENINGS }
+    requires { count ≤ MOST_OPENINGS }
     ensures openings { IfOk result (λ positions. positions.keys ≡ openings_from seed count) }
     ensures count { IfOk result (λ positions. length positions.keys ≡ count) }
     ensures different { IfOk result (λ positions. IsDistinct same_board positions.keys) }

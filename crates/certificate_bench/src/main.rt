@@ -6,15 +6,16 @@
 //!
 //! Without words it prints how many entries the certificate has and how many bytes its text, what
 //! it claims of which position, and how many entries the merged parts and the record have. With the
-//! word `time` it prints how many entries a second are read, and how many are checked.
+//! word `time` it prints how many entries a second are read, and how many are checked, and with the
+//! word `write` the certificate itself.
 #![tactic(auto)]
+
+ghost use Rattle.bench_records.specs.Texts.{IsShown};
 
 mod making;
 mod measure;
 mod merging;
 mod records;
-
-ghost use Rattle.bench_records.specs.Texts.{IsShown};
 
 use crate::making::{entry_count, make_certificate};
 use crate::merging::merged;
@@ -85,18 +86,28 @@ fn tell_record(rt: &(impl Print + Alloc<A = Global>), c: Certificate, text: &[u8
     Ok(())
 }
 
+/// Writes the text of a certificate.
+fn write(rt: &impl Print, text: &[u8]) -> Result<()> {
+    let text = str::from_utf8(text)?;
+    print!(rt; "{text}")?;
+    Ok(())
+}
+
 fn main(rt: HostRuntime) -> Result<()> {
-    let is_timed = env::args(&rt)?
-        .nth(1)
-        .is_some_and(|word| word.as_str() == "time");
     let three = fill(rt.alloc(), 3)?;
     let made = make_certificate(rt.alloc(), &three, ENTRIES)?;
     let text = print_certificate(rt.alloc(), &made)?;
     let two = fill(rt.alloc(), 2)?;
-    if is_timed {
-        return measure::time(&rt, &text, &two);
+    match env::args(&rt)?.nth(1) {
+        None => {
+            tell(&rt, &text, &two)?;
+            tell_merged(&rt, &made, &text)?;
+            tell_record(&rt, made, &text)
+        }
+        Some(word) => match word.as_str() {
+            "time" => measure::time(&rt, &text, &two),
+            "write" => write(&rt, &text),
+            _ => bail!("no word of this program"),
+        },
     }
-    tell(&rt, &text, &two)?;
-    tell_merged(&rt, &made, &text)?;
-    tell_record(&rt, made, &text)
 }

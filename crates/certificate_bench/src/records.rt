@@ -2,7 +2,7 @@
 ghost use Rattle.bench_records.specs.Texts.{IsShown};
 
 use anyhow::{Context, Result, bail};
-use bench_records::{BenchRecord, CertificateList, decode, encode};
+use bench_records::{BenchRecord, CertificateList, Named, decode, encode};
 use std::alloc::Global;
 use strategy_certificate::Certificate;
 
@@ -15,8 +15,9 @@ pub fn through_record(alloc: Global, c: Certificate) -> Result<Certificate>
         position: c.position,
         shown: CertificateList::from_vec(vec![in alloc; c]?),
     };
-    let bytes = encode(alloc, &record)?;
-    let BenchRecord::Solve { shown, .. } = decode(alloc, bytes.as_slice(), 2)? else {
+    let none = Named::new(alloc);
+    let bytes = encode(alloc, &record, &none)?;
+    let BenchRecord::Solve { shown, .. } = decode(alloc, bytes.as_slice(), 2, &none)? else {
         bail!("a record of another kind");
     };
     shown

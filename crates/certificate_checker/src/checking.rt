@@ -1,4 +1,9 @@
 //! Checking a certificate.
+ghost use Rattle.std.specs.Prelude.{◌≡◌, OnOk, IfErr};
+ghost use Rattle.shared_words.specs.Answers.{IsExact};
+ghost use Rattle.strategy_certificate.specs.Certificates.{IsGoodBy, IsTrueOf};
+ghost use Rattle.certificate_checker.specs.Refusals.{IsRefusal, check_wants_memory};
+
 use crate::parts::{are_due, find_faulty_part};
 use crate::refusals::{CheckRefusal, refusal_at};
 use std::alloc::Global;
@@ -47,11 +52,6 @@ impl Proved {
         self.certificate
     }
 }
-
-ghost use Rattle.std.specs.Prelude.{◌≡◌, OnOk, IfErr};
-ghost use Rattle.shared_words.specs.Answers.{IsExact};
-ghost use Rattle.strategy_certificate.specs.Certificates.{IsGoodBy, IsTrueOf};
-ghost use Rattle.certificate_checker.specs.Refusals.{IsRefusal, check_wants_memory};
 
 /// Checks a certificate by the rules and the answers of an endgame table of as many pieces as it
 /// names.

@@ -27,5 +27,5 @@ mod wins;
 
 pub use checking::{Proved, check};
 pub use claimed::{told, told_by_all};
-pub use outcomes::{ChildList, Exhausted, Outcome, ProofList};
+pub use outcomes::{ChildList, Exhausted, MOST_DEPTH, Outcome, ProofList};
 pub use refusals::CheckRefusal;

@@ -11,6 +11,9 @@ use draughts_board::{Position, Side};
 use proof_numbers::Child;
 use shared_words::ItemList;
 
+/// No search looks further ahead, in plies.
+pub const MOST_DEPTH: u8 = 12;
+
 /// The positions after a position, in order, each with its facts at sight and its mobility.
 pub type ChildList = ItemList<Child>;
 

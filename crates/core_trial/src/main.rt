@@ -17,6 +17,7 @@
 
 ghost use Rattle.std.specs.Prelude.{◌≤◌};
 ghost use Rattle.bench_core.specs.declared.settings.TheConstants.{MOST_WORK, MOST_LEASE};
+ghost use Rattle.certificate_checker.specs.declared.outcomes.TheConstants.{MOST_DEPTH};
 
 mod followed;
 mod leasing;
@@ -42,28 +43,28 @@ const PLANS: [Plan; 4] = [
     Plan {
         seed: 1,
         events: 60,
-        lasts: 1,
+        lease: 1,
         depth: 1,
         budget: 40,
     },
     Plan {
         seed: 2,
         events: 60,
-        lasts: 2,
+        lease: 2,
         depth: 0,
         budget: 40,
     },
     Plan {
         seed: 3,
         events: 60,
-        lasts: 7,
+        lease: 7,
         depth: 1,
         budget: 4,
     },
     Plan {
         seed: 4,
         events: 100,
-        lasts: 7,
+        lease: 7,
         depth: 2,
         budget: 100,
     },
@@ -74,10 +75,10 @@ const LISTS: u64 = 500;
 
 /// Plays the lists of a plan, and prints what came of them.
 fn tell(rt: &(impl Print + Alloc<A = Global>), plan: &Plan, table: &Table) -> Result<()>
-    requires depth { plan.now.depth ≤ 12 }
+    requires depth { plan.now.depth ≤ MOST_DEPTH }
     requires budget { plan.now.budget ≤ MOST_WORK }
-    requires first { 1 ≤ plan.now.lasts }
-    requires last { plan.now.lasts ≤ MOST_LEASE }
+    requires first { 1 ≤ plan.now.lease }
+    requires last { plan.now.lease ≤ MOST_LEASE }
 {
     let mut total = Tally::default();
     for list in 0..LISTS {
@@ -86,12 +87,12 @@ fn tell(rt: &(impl Print + Alloc<A = Global>), plan: &Plan, table: &Table) -> Re
         total.add(&tally);
     }
     let Plan {
-        lasts,
+        lease,
         depth,
         budget,
         ..
     } = *plan;
-    println!(rt; "lease {lasts}, depth {depth}, budget {budget}: {LISTS} lists")?;
+    println!(rt; "lease {lease}, depth {depth}, budget {budget}: {LISTS} lists")?;
     total.print(rt)
 }
 

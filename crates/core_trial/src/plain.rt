@@ -23,8 +23,8 @@ struct Due {
 /// The leases that were given, what is staged, and what is applied.
 #[derive(Drop)]
 pub(crate) struct Plain {
-    /// For so many leases given one lasts.
-    pub(crate) lasts: u32,
+    /// For how many leases given a lease lasts.
+    pub(crate) lease: u32,
     pub(crate) depth: u8,
     pub(crate) pieces: u8,
     pub(crate) budget: u32,
@@ -65,9 +65,9 @@ fn are_settled(tree: &Tree) -> bool {
 
 impl Plain {
     /// Nothing was leased, staged or applied.
-    pub(crate) fn new(alloc: Global, lasts: u32, depth: u8, pieces: u8, budget: u32) -> Plain {
+    pub(crate) fn new(alloc: Global, lease: u32, depth: u8, pieces: u8, budget: u32) -> Plain {
         Plain {
-            lasts,
+            lease,
             depth,
             pieces,
             budget,
@@ -104,7 +104,7 @@ impl Plain {
             .lease
             .id
             .number()
-            .saturating_add(u128::from(self.lasts));
+            .saturating_add(u128::from(self.lease));
         !given.ended && (given.kept || now < last)
     }
 

@@ -1,6 +1,7 @@
 //! Events in an order that looks random, each answered by a bench and by a plain list.
 ghost use Rattle.std.specs.Prelude.{◌≤◌};
 ghost use Rattle.bench_core.specs.declared.settings.TheConstants.{MOST_WORK, MOST_LEASE};
+ghost use Rattle.certificate_checker.specs.declared.outcomes.TheConstants.{MOST_DEPTH};
 
 use crate::plain::Plain;
 use crate::tabled::TabledBench;
@@ -34,8 +35,8 @@ pub(crate) struct Plan {
     /// By this the events are rolled.
     pub(crate) seed: u64,
     pub(crate) events: u32,
-    /// For so many leases given one lasts.
-    pub(crate) lasts: u32,
+    /// For how many leases given a lease lasts.
+    pub(crate) lease: u32,
     pub(crate) depth: u8,
     pub(crate) budget: u32,
 }
@@ -218,21 +219,21 @@ pub(crate) fn count_settled(alloc: Global, bench: &TabledBench<'_>) -> Result<u3
 
 /// A bench, and what it is compared with, before the first event.
 fn begin_match<'a>(alloc: Global, plan: &Plan, table: &'a Table) -> Result<Match<'a>, AllocError>
-    requires depth { plan.now.depth ≤ 12 }
+    requires depth { plan.now.depth ≤ MOST_DEPTH }
     requires budget { plan.now.budget ≤ MOST_WORK }
-    requires first { 1 ≤ plan.now.lasts }
-    requires last { plan.now.lasts ≤ MOST_LEASE }
+    requires first { 1 ≤ plan.now.lease }
+    requires last { plan.now.lease ≤ MOST_LEASE }
 {
     let Plan {
         seed,
-        lasts,
+        lease,
         depth,
         budget,
         ..
     } = *plan;
     Ok(Match {
-        bench: TabledBench::new(alloc, table, depth, budget, lasts)?,
-        plain: Plain::new(alloc, lasts, depth, table.pieces(), budget),
+        bench: TabledBench::new(alloc, table, depth, budget, lease)?,
+        plain: Plain::new(alloc, lease, depth, table.pieces(), budget),
         dice: Pcg32::new(seed, 1),
         tally: Tally::default(),
     })
@@ -245,13 +246,13 @@ fn read_back<'a>(
     table: &'a Table,
     texts: &[Vec<u8>],
 ) -> Result<TabledBench<'a>>
-    requires depth { plan.now.depth ≤ 12 }
+    requires depth { plan.now.depth ≤ MOST_DEPTH }
     requires budget { plan.now.budget ≤ MOST_WORK }
-    requires first { 1 ≤ plan.now.lasts }
-    requires last { plan.now.lasts ≤ MOST_LEASE }
+    requires first { 1 ≤ plan.now.lease }
+    requires last { plan.now.lease ≤ MOST_LEASE }
 {
-    let mut bench = TabledBench::new(alloc, table, plan.depth, plan.budget, plan.lasts)?;
-    bench.replay_all(alloc, texts)?;
+    let mut bench = TabledBench::new(alloc, table, plan.depth, plan.budget, plan.lease)?;
+    bench.replay_all(texts)?;
     Ok(bench)
 }
 
@@ -278,10 +279,10 @@ fn happen_all(alloc: Global, events: u32, played: &mut Match<'_>) -> Result<()> 
 
 /// The events of a plan happen; the records that came of them are read back, and it is counted.
 fn play_on(alloc: Global, plan: &Plan, table: &Table, played: &mut Match<'_>) -> Result<Tally>
-    requires depth { plan.now.depth ≤ 12 }
+    requires depth { plan.now.depth ≤ MOST_DEPTH }
     requires budget { plan.now.budget ≤ MOST_WORK }
-    requires first { 1 ≤ plan.now.lasts }
-    requires last { plan.now.lasts ≤ MOST_LEASE }
+    requires first { 1 ≤ plan.now.lease }
+    requires last { plan.now.lease ≤ MOST_LEASE }
 {
     happen_all(alloc, plan.events, played)?;
     let again = read_back(alloc, plan, table, played.plain.applied())?;
@@ -290,10 +291,10 @@ fn play_on(alloc: Global, plan: &Plan, table: &Table, played: &mut Match<'_>) ->
 
 /// Plays a list of events, reads the records back that came of it, and counts.
 pub(crate) fn play(alloc: Global, plan: &Plan, table: &Table) -> Result<Tally>
-    requires depth { plan.now.depth ≤ 12 }
+    requires depth { plan.now.depth ≤ MOST_DEPTH }
     requires budget { plan.now.budget ≤ MOST_WORK }
-    requires first { 1 ≤ plan.now.lasts }
-    requires last { plan.now.lasts ≤ MOST_LEASE }
+    requires first { 1 ≤ plan.now.lease }
+    requires last { plan.now.lease ≤ MOST_LEASE }
 {
     let mut played = begin_match(alloc, plan, table)?;
     play_on(alloc, plan, table, &mut played)

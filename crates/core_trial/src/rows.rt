@@ -3,7 +3,7 @@ ghost use Rattle.core_trial.specs.Fresh.{IsFresh};
 
 use crate::tabled::TabledBench;
 use anyhow::{Result, bail};
-use bench_records::{BenchRecord, encode};
+use bench_records::{BenchRecord, Named, encode};
 use draughts_board::{Position, Side};
 use endgame_table::Table;
 use fen_text::read_fen;
@@ -105,7 +105,7 @@ fn tell_session(
 ) -> Result<()>
     requires { IsFresh bench.old }
 {
-    bench.replay_all(rt.alloc(), texts)?;
+    bench.replay_all(texts)?;
     let (work, budget) = (bench.bench().work(), bench.bench().budget());
     println!(rt; "read back: {work} records of the session, budget {budget}")?;
     tell_asked(rt, bench, 4)?;
@@ -227,9 +227,10 @@ fn tell_spent(rt: &(impl Print + Alloc<A = Global>), table: &Table) -> Result<()
 
 /// The texts of the root's record and of two that expand it.
 fn expanded_twice(alloc: Global) -> Result<[Vec<u8>; 3]> {
-    let begun = encode(alloc, &BenchRecord::Begin(read_fen(ROOT)?))?;
-    let first = encode(alloc, &BenchRecord::Expand { node: 0 })?;
-    let second = encode(alloc, &BenchRecord::Expand { node: 0 })?;
+    let none = Named::new(alloc);
+    let begun = encode(alloc, &BenchRecord::Begin(read_fen(ROOT)?), &none)?;
+    let first = encode(alloc, &BenchRecord::Expand { node: 0 }, &none)?;
+    let second = encode(alloc, &BenchRecord::Expand { node: 0 }, &none)?;
     Ok([begun, first, second])
 }
 
@@ -242,7 +243,7 @@ fn tell_expanded_once(
 ) -> Result<()>
     requires { IsFresh bench.old }
 {
-    if let Err(refusal) = bench.replay_all(rt.alloc(), texts) {
+    if let Err(refusal) = bench.replay_all(texts) {
         println!(rt; "{refusal}")?;
     }
     let nodes = bench.bench().tree().len();

@@ -2,7 +2,6 @@
 use crate::searching::outcome_of;
 use anyhow::Result;
 use bench_core::{Bench, LeaseRefusal, ReadyRefusal, Settings};
-use bench_records::decode;
 use certificate_checker::{Proved, check};
 use draughts_board::Position;
 use endgame_table::Table;
@@ -40,26 +39,27 @@ impl<'a> TabledBench<'a> {
     ghost use Rattle.std.specs.Prelude.{◌≡◌, ◌≤◌, [], IfOk, OnOk};
     ghost use Rattle.core_trial.specs.Fresh.{IsFresh};
     ghost use Rattle.bench_core.specs.declared.settings.TheConstants.{MOST_WORK, MOST_LEASE};
+    ghost use Rattle.certificate_checker.specs.declared.outcomes.TheConstants.{MOST_DEPTH};
 
-    /// A bench without roots. A lease lasts for `lasts` leases given.
+    /// A bench without roots. A lease lasts for `lease` leases given.
     pub(crate) fn new(
         alloc: Global,
         table: &'a Table,
         depth: u8,
         budget: u32,
-        lasts: u32,
+        lease: u32,
     ) -> Result<TabledBench<'a>, AllocError>
-        requires depth { depth ≤ 12 }
+        requires depth { depth ≤ MOST_DEPTH }
         requires budget { budget ≤ MOST_WORK }
-        requires first { 1 ≤ lasts }
-        requires last { lasts ≤ MOST_LEASE }
+        requires first { 1 ≤ lease }
+        requires last { lease ≤ MOST_LEASE }
         ensures { IfOk result IsFresh }
     {
         let settings = Settings {
             pieces: table.pieces(),
             depth,
             budget,
-            lease: lasts,
+            lease,
         };
         let bench = Bench::new(alloc, settings)?;
         Ok(TabledBench { table, bench })
@@ -154,20 +154,19 @@ impl<'a> TabledBench<'a> {
     }
 
     /// Applies the record of which this is the text, where nothing is leased or staged.
-    fn replay(&mut self, alloc: Global, text: &[u8]) -> Result<()>
+    fn replay(&mut self, text: &[u8]) -> Result<()>
         requires { IsFresh self.old }
         ensures { OnOk result (IsFresh self.new) }
     {
-        let record = decode(alloc, text, self.table.pieces())?;
-        Ok(self.bench.replay(record, self.table)?)
+        Ok(self.bench.replay(text, self.table)?)
     }
 
     /// Applies the records of which these are the texts, in order, and begins a session.
-    pub(crate) fn replay_all(&mut self, alloc: Global, texts: &[Vec<u8>]) -> Result<()>
+    pub(crate) fn replay_all(&mut self, texts: &[Vec<u8>]) -> Result<()>
         requires { IsFresh self.old }
     {
         for text in texts {
-            self.replay(alloc, text)?;
+            self.replay(text)?;
         }
         self.bench.start_session();
         Ok(())

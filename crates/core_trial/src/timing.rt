@@ -13,7 +13,7 @@ use std::alloc::Global;
 use std::rt::Clock;
 use std::time::Instant;
 
-/// A lease that is to be released lasts for so many leases given.
+/// A lease that is to be released lasts for this many leases given.
 const LONG: u32 = 1_000_000_000;
 
 /// So many leases are given between the first that are timed and the last.
@@ -36,8 +36,8 @@ struct Habit {
     settled: u32,
     /// So many leases are alive once one is given.
     alive: u32,
-    /// For so many leases given one lasts.
-    lasts: u32,
+    /// For how many leases given a lease lasts.
+    lease: u32,
     /// Each is released when so many more were given; none: they are abandoned, and run out.
     released: Option<u32>,
 }
@@ -232,10 +232,10 @@ fn time_habit(
     table: &Table,
     habit: &Habit,
 ) -> Result<()>
-    requires first { 1 ≤ habit.now.lasts }
-    requires last { habit.now.lasts ≤ MOST_LEASE }
+    requires first { 1 ≤ habit.now.lease }
+    requires last { habit.now.lease ≤ MOST_LEASE }
 {
-    let mut bench = TabledBench::new(rt.alloc(), table, 0, BUDGET, habit.lasts)?;
+    let mut bench = TabledBench::new(rt.alloc(), table, 0, BUDGET, habit.lease)?;
     time_bench(rt, &mut bench, habit)
 }
 
@@ -245,7 +245,7 @@ fn time_single(rt: &(impl Print + Clock + Alloc<A = Global>), table: &Table) -> 
         name: "1 lease alive, released",
         settled: 0,
         alive: 1,
-        lasts: LONG,
+        lease: LONG,
         released: Some(0),
     };
     time_habit(rt, table, &habit)
@@ -257,7 +257,7 @@ fn time_released(rt: &(impl Print + Clock + Alloc<A = Global>), table: &Table) -
         name: "64 leases alive, each released",
         settled: 0,
         alive: WORKERS,
-        lasts: LONG,
+        lease: LONG,
         released: Some(WORKERS - 1),
     };
     time_habit(rt, table, &habit)
@@ -273,7 +273,7 @@ fn time_abandoned(
         name: "64 leases alive, all abandoned",
         settled,
         alive: WORKERS,
-        lasts: WORKERS,
+        lease: WORKERS,
         released: None,
     };
     time_habit(rt, table, &habit)

@@ -1,11 +1,10 @@
 -- What is no body, and one payload more.
-use Rattle.std.specs.Prelude.{◌≡◌, ◌⊎◌, ℕ, ◌+◌, ◌^◌, ◌<◌, List, [], ◌∷◌, ◌++◌, All, length, take, get_or, refl}
-use Rattle.std.specs.Int.{from_be_bytes, w32}
-use Rattle.std.proofs.Common.{sym, ◌∙◌, ap, inl, inr, ⊎_elim, arith, append_assoc, length-append, length-take}
-use Rattle.std.proofs.lemmas.List.{nil_from_length, append-nil, get_or-take, get_or-append-add, get_or_past}
-use Rattle.std.proofs.lemmas.Bool.{cases_lt}
+use Rattle.std.specs.Prelude.{◌≡◌, ◌⊎◌, ℕ, ◌+◌, ◌^◌, ◌<◌, List, [], ◌∷◌, ◌++◌, All, length, refl}
+use Rattle.std.specs.Int.{from_be_bytes, to_be_bytes, w32}
+use Rattle.std.proofs.Common.{sym, ◌∙◌, ap, ⊎_elim, arith, append_assoc, length-append}
+use Rattle.std.proofs.lemmas.List.{nil_from_length, append-nil}
 use Rattle.std.proofs.lemmas.List.Elements.{All-head, All-tail}
-use Rattle.std.proofs.lemmas.Nat.{be_bytes_4, from_be_bytes-to_be_bytes_4}
+use Rattle.std.proofs.lemmas.Nat.{from_be_bytes-to_be_bytes_4}
 use Rattle.std.proofs.lemmas.Grind.{flat_map-append}
 use Rattle.disk_journal.specs.Refusals.{IsNoBody}
 use Rattle.disk_journal.specs.Format.{body, payload_length, payload_text, places_in_body, IsPayload}
@@ -29,38 +28,26 @@ number_of : (n : ℕ) → n < 2 ^ 32 → from_be_bytes w32 (payload_length n) �
 unfolding payload_length
 number_of n l = from_be_bytes-to_be_bytes_4 n l
 
-pub bad_length : (field behind rest : List ℕ) → length field ≡ 4 → rest ≡ field ++ behind → (from_be_bytes w32 field ≡ 0) ⊎ (length behind < from_be_bytes w32 field) → IsNoBody rest
-bad_length field behind rest four e bad [] each h = omega (arith, ap length (sym e ∙ h), length-append field behind)
-bad_length field behind rest four e bad (q ∷ qs) each h =
+-- payload_length, as a text that is split behind a number has it
+pub length_split : (rest behind : List ℕ) (n : ℕ) → rest ≡ to_be_bytes w32 n ++ behind → rest ≡ payload_length n ++ behind
+unfolding payload_length
+length_split rest behind n e = e
+
+pub bad_length : (n : ℕ) (behind rest : List ℕ) → n < 2 ^ 32 → rest ≡ payload_length n ++ behind → (n ≡ 0) ⊎ (length behind < n) → IsNoBody rest
+bad_length n behind rest fits e bad [] each h = omega (arith, ap length (sym e ∙ h), length-append (payload_length n) behind, length-payload_length n)
+bad_length n behind rest fits e bad (q ∷ qs) each h =
     let is = All-head IsPayload q qs each in
-    let parts = cut field (payload_length (length q)) behind (q ++ body qs) (four ∙ sym (length-payload_length (length q))) (sym e ∙ h ∙ append_assoc (payload_length (length q)) q (body qs)) in
-    let number : from_be_bytes w32 field ≡ length q = ap (from_be_bytes w32) parts.0 ∙ number_of (length q) is.fits in
+    let parts = cut (payload_length n) (payload_length (length q)) behind (q ++ body qs) (length-payload_length n ∙ sym (length-payload_length (length q))) (sym e ∙ h ∙ append_assoc (payload_length (length q)) q (body qs)) in
+    let number : n ≡ length q = sym (number_of n fits) ∙ ap (from_be_bytes w32) parts.0 ∙ number_of (length q) is.fits in
     ⊎_elim (λ zero. is.some (nil_from_length q (sym number ∙ zero))) (λ long. omega (arith, long, number, ap length parts.1, length-append q (body qs))) bad
 
-text_is : (field payload : List ℕ) → length field ≡ 4 → ((i : ℕ) → get_or field i 0 < 256) → from_be_bytes w32 field ≡ length payload → payload_text payload ≡ field ++ payload
-unfolding payload_length
-text_is field payload four bytes number = ap (λ (l : List ℕ). l ++ payload) (be_bytes_4 field (length payload) four bytes (sym number))
-
 -- one payload more
-pub body_more : (found : List (List ℕ)) (field payload more bytes rest : List ℕ) → length field ≡ 4 → ((i : ℕ) → get_or field i 0 < 256) → from_be_bytes w32 field ≡ length payload → rest ≡ field ++ (payload ++ more) → bytes ≡ body found ++ rest
+pub body_more : (found : List (List ℕ)) (payload more bytes rest : List ℕ) → rest ≡ payload_length (length payload) ++ (payload ++ more) → bytes ≡ body found ++ rest
     → bytes ≡ body (found ++ payload ∷ []) ++ more
-body_more found field payload more bytes rest four fits number e h =
-    h ∙ ap (λ (l : List ℕ). body found ++ l) (e ∙ sym (append_assoc field payload more) ∙ ap (λ (l : List ℕ). l ++ more) (sym (text_is field payload four fits number)))
+body_more found payload more bytes rest e h =
+    h ∙ ap (λ (l : List ℕ). body found ++ l) (e ∙ sym (append_assoc (payload_length (length payload)) payload more))
     ∙ sym (append_assoc (body found) (payload_text payload) more)
     ∙ ap (λ (l : List ℕ). l ++ more) (ap (λ (l : List ℕ). body found ++ l) (sym (append-nil (payload_text payload))) ∙ sym (flat_map-append payload_text found (payload ∷ [])))
-
-abbrev IsBytes : List ℕ → Type 0
-IsBytes bytes = (i : ℕ) → get_or bytes i 0 < 256
-
--- a front of a rest of bytes is bytes
-pub bytes_in : (a rest bytes : List ℕ) (n : ℕ) → IsBytes bytes → bytes ≡ a ++ rest → IsBytes (take n rest)
-bytes_in a rest bytes n fits e i = elim (cases_lt i n) [
-  | inl below ↦
-      let at : get_or (take n rest) i 0 ≡ get_or bytes (length a + i) 0 =
-      get_or-take n rest i 0 below ∙ sym (get_or-append-add a rest i 0) ∙ ap (λ (l : List ℕ). get_or l (length a + i) 0) (sym e) in
-      omega (arith, at, fits (length a + i))
-  | inr past ↦ omega (arith, get_or_past (take n rest) i 0 (omega (arith, length-take n rest)))
-]
 
 -- the place of one payload more
 pub places_more : (at : ℕ) (found : List (List ℕ)) (payload : List ℕ) → places_in_body at (found ++ payload ∷ []) ≡ places_in_body at found ++ (at + length (body found)) ∷ []

@@ -1,10 +1,15 @@
 -- What stands where a gate is due, by the first nine bytes there.
-use Rattle.std.specs.Prelude.{◌≡◌, ◌⊎◌, ℕ, ◌-◌, ◌<◌, ◌≤◌, List, [], ◌∷◌, get_or, length, take, drop}
-use Rattle.std.specs.Int.{from_be_bytes, w64}
+use Rattle.std.specs.Prelude.{◌≡◌, ◌⊎◌, ℕ, ◌-◌, ◌^◌, ◌<◌, ◌≤◌, List, [], ◌∷◌, ◌++◌, get_or, length, take, drop}
+use Rattle.std.specs.Int.{from_be_bytes, to_be_bytes, w64}
+use Rattle.std.proofs.lemmas.Nat.{from_be_bytes-to_be_bytes_8}
 use Rattle.std.proofs.Common.{sym, ◌∙◌, ap, subst, inl, inr, ⊎_elim, arith, length-take, length-drop, take-append-drop}
 use Rattle.disk_journal.specs.Refusals.{IsBroken}
 use Rattle.disk_journal.specs.Rest.{IsOpen}
 use Rattle.disk_journal.proofs.FrameLemmas.{bad_frame, field_is, short_frame}
+
+-- the number that a field begins with
+pub number_in : (field behind : List ℕ) (n : ℕ) → n < 2 ^ 64 → field ≡ to_be_bytes w64 n ++ behind → n ≡ from_be_bytes w64 field
+number_in field behind n fits e = sym (ap (from_be_bytes w64) e ∙ from_be_bytes-to_be_bytes_8 n fits)
 
 first_is : (gate : ℕ) (more start : List ℕ) → start ≡ take 9 (gate ∷ more) → get_or start 0 0 ≡ 1 → gate ≡ 1
 first_is gate more start e one = sym (ap (λ (l : List ℕ). get_or l 0 0) e) ∙ one

@@ -4,6 +4,7 @@ ghost use Rattle.disk_journal.specs.Format.{IsPayload, body, places_in_body};
 ghost use Rattle.disk_journal.specs.Refusals.{IsNoBody};
 
 use crate::payload::Payload;
+use shared_words::split_u32;
 use std::alloc::{AllocError, Global};
 
 /// Adds the payloads of a body, which stands at that place, and tells whether it is exactly filled
@@ -26,11 +27,10 @@ pub fn read_body(
     let mut rest = bytes;
     let mut place = at;
     while !rest.is_empty() {
-        if rest.len() < 4 {
+        let Some((len, behind)) = split_u32(rest) else {
             return Ok(false);
-        }
-        let (field, behind) = rest.split_at(4);
-        let len = u32::from_be_bytes([field[0], field[1], field[2], field[3]]) as usize;
+        };
+        let len = len as usize;
         if len == 0 || behind.len() < len {
             return Ok(false);
         }

@@ -2,6 +2,8 @@
 ghost use Rattle.std.specs.Prelude.{◌≡◌, ◌+◌, ◌≤◌, ◌<◌, ◌^◌, ◌∷◌, List, ℕ, length, take, IfNone, IfSome};
 ghost use Rattle.disk_journal.specs.Format.{IsPieceCount, body_length, file_head};
 
+use shared_words::split_u64;
+
 /// What stands where a gate is due.
 #[derive(Clone, Copy)]
 pub enum Gate {
@@ -44,13 +46,13 @@ impl Gate {
         if start[0] != 1 {
             return Gate::Closed;
         }
-        if start.len() < 9 || left < 9 {
+        if left < 9 {
             return Gate::Broken;
         }
         let (_, field) = start.split_at(1);
-        let len = u64::from_be_bytes([
-            field[0], field[1], field[2], field[3], field[4], field[5], field[6], field[7],
-        ]);
+        let Some((len, _)) = split_u64(field) else {
+            return Gate::Broken;
+        };
         if len == 0 || len > left - 9 {
             return Gate::Broken;
         }

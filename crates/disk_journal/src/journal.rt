@@ -17,7 +17,7 @@ use bench_disk::{Disk, DiskFault};
 use std::alloc::{AllocError, Global};
 use std::marker::Model;
 
-const MAX_PAYLOAD: usize = (1 << 32) - 1;
+const MOST_PAYLOAD: usize = (1 << 32) - 1;
 
 /// So many payloads stand in the journal, acknowledged at that moment of the disk.
 #[derive(Clone, Copy, Debug, PartialEq, Eq)]
@@ -158,7 +158,7 @@ impl<D: Disk> Journal<D> {
             { staged = self.old.staged ++ payload.now ∷ [] }) }
         ensures err { OnErr result (self.new ≡ self.old) }
     {
-        if payload.len() > MAX_PAYLOAD {
+        if payload.len() > MOST_PAYLOAD {
             return Err(AllocError);
         }
         self.frame.push(payload)

@@ -19,7 +19,7 @@ use crate::refusal::JournalRefusal;
 use bench_disk::{Disk, DiskFault};
 use std::alloc::Global;
 
-const MAX_FRESH: u64 = 9;
+const MOST_FRESH: u64 = 9;
 
 /// Reads a journal on a disk without writing to it, and tells the pieces of its tables and its
 /// payloads, in order. A fresh disk, of at most 9 bytes, gives 2 and no payload.
@@ -35,7 +35,7 @@ pub fn read_journal<D: Disk>(
     ensures reads { OnlyReads D.Disk disk.old disk.new (result ≡ Err JournalRefusal.DiskFault) }
 {
     let len = measure(disk)?;
-    if len <= MAX_FRESH {
+    if len <= MOST_FRESH {
         return Ok((2, Vec::new(alloc)));
     }
     let pieces = read_head(disk)?;
@@ -121,7 +121,7 @@ pub fn load<D: Disk>(alloc: Global, disk: &mut D, pieces: u8) -> Result<Frames, 
         Rose (D.faults disk.old) (D.faults disk.new) }
 {
     let len = measure(disk)?;
-    if len <= MAX_FRESH {
+    if len <= MOST_FRESH {
         begin(disk, pieces)?;
         return Ok(Frames {
             gate: 8,

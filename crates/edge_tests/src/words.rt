@@ -1,5 +1,7 @@
 //! The words of the command line, by the grammar of the manual.
-use bench_edges::{Command, Options, WordsRefusal, read_words};
+use bench_edges::{
+    COMMAND_NAMES, Command, Options, SOLVE_OPTIONS, SolveOption, WordsRefusal, read_words,
+};
 use std::process::Abort;
 
 /// The options of `solve` where no number is given.
@@ -367,4 +369,31 @@ fn words_near_a_table_are_refused(rt: HostRuntime) {
 #[test]
 fn a_path_and_a_command_are_due(rt: HostRuntime) {
     expect_refused(&rt, FRONTS);
+}
+
+/// The first name of the list at which the words are refused.
+fn first_unknown() -> Option<&'static str> {
+    for name in COMMAND_NAMES {
+        if read_words(&["-", name]) == Err(WordsRefusal { at: 1 }) {
+            return Some(name);
+        }
+    }
+    None
+}
+
+/// Whether each option of the list has its own name, with which it takes its least number and its
+/// most.
+fn are_options() -> bool {
+    for option in SOLVE_OPTIONS {
+        if SolveOption::named(option.name()) != Some(option) || option.least() > option.most() {
+            return false;
+        }
+    }
+    true
+}
+
+#[test]
+fn names_are_those_that_are_read(rt: HostRuntime) {
+    assert_eq!(rt; first_unknown(), None);
+    assert!(rt; are_options());
 }

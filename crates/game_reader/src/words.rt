@@ -2,8 +2,8 @@
 use shared_words::number;
 use thiserror::Error;
 
-/// The most plies that the opening of a game has. So many are taken where no number is given.
-const MOST_PLIES: u64 = 200;
+/// The most plies that the opening of a game has, as `opening_bench solve` takes them. They are taken if no number is given.
+const MOST_PLIES: u64 = bench_edges::MOST_PLIES as u64;
 
 /// The number of the first part.
 const FIRST_PART: u64 = 1;

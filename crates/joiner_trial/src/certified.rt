@@ -42,7 +42,7 @@ impl<'a> Model for CertifiedTree<'a> {
 
 impl<'a> CertifiedTree<'a> {
     ghost use Rattle.std.specs.Prelude.{◌≡◌, ◌≤◌, All, IfSome, IsSomeAnd, OnOk};
-    ghost use Rattle.leaf_search.specs.declared.leaf.TheConstants.{MOST_DEPTH};
+    ghost use Rattle.certificate_checker.specs.declared.outcomes.TheConstants.{MOST_DEPTH};
     ghost use Rattle.certificate_checker.specs.Answers.{IsFinding};
     ghost use Rattle.proof_tree.specs.Forest.{node_at};
     ghost use Rattle.proof_tree.specs.Sound.{IsSoundForest};

@@ -6,11 +6,10 @@ ghost use Rattle.std.specs.Prelude.{◌≡◌, IfSome, IsSomeAnd};
 ghost use Rattle.proof_tree.specs.Forest.{node_at};
 
 use crate::certified::CertifiedTree;
-use certificate_checker::Proved;
+use certificate_checker::{MOST_DEPTH, Proved};
 use draughts_board::{Position, Side};
 use endgame_table::fill;
 use fen_text::read_fen;
-use leaf_search::MOST_DEPTH;
 use proof_tree::{Mark, NodeId, Tree};
 use std::alloc::Global;
 use std::test::Fail;

@@ -4,6 +4,7 @@ use Rattle.std.specs.Prelude.{All, false, ◌||◌, Option, Some}
 use Rattle.std.specs.Option.{option_map_or}
 use Rattle.std.proofs.lemmas.List.Folds.{list_any-append}
 use Rattle.std.proofs.lemmas.List.Elements.{All-nil, All-cons}
+use Rattle.certificate_checker.specs.declared.outcomes.TheConstants.{MOST_DEPTH}
 use Rattle.bench_core.specs.States.{SessionSettings}
 use Rattle.bench_core.specs.Cores.{Core}
 use Rattle.turn_lock.specs.Growth.{GrowsTo}
@@ -20,7 +21,7 @@ use Rattle.journal_runs.specs.Ends.{GoesOnFrom, IsIdle}
 
 -- ---- the settings of a session
 
-attached_more : (line rest : List Entry) (a : Attachment) → attachment_of line ≡ Some a → attachment_of (line ++ rest) ≡ Some a
+pub attached_more : (line rest : List Entry) (a : Attachment) → attachment_of line ≡ Some a → attachment_of (line ++ rest) ≡ Some a
 attached_more [] rest a is = absurd (cc is)
 attached_more (Put r ∷ line) rest a is = attached_more line rest a is
 attached_more (Attached b ∷ line) rest a is = is
@@ -30,24 +31,24 @@ attached_more (Acked m ∷ line) rest a is = attached_more line rest a is
 attached_more (Broken f ∷ line) rest a is = attached_more line rest a is
 
 -- of a line that goes on from one that stands for this core
-pub searches_on : (k : ℕ) (old new : List Entry) (core : Core) → IsCoreOf old core → k ≡ core.state.settings.pieces → core.state.settings.depth ≤ 12 → GoesOnFrom old new → CanSearch k new
+pub searches_on : (k : ℕ) (old new : List Entry) (core : Core) → IsCoreOf old core → k ≡ core.state.settings.pieces → core.state.settings.depth ≤ MOST_DEPTH → GoesOnFrom old new → CanSearch k new
 searches_on k old new core stands pieces depth went =
     let attached : attachment_of new ≡ Some stands.state.attachment = ap attachment_of went.1 ∙ attached_more old went.0 stands.state.attachment stands.state.attached in
     record {
       tables = pieces ∙ (ap (λ (s : SessionSettings). s.pieces) stands.state.settings ∙ sym (ap (λ (o : Option Attachment). option_map_or (λ a. a.pieces) o 0) attached));
-      depth = subst (λ n. n ≤ 12) (ap (λ (s : SessionSettings). s.depth) stands.state.settings ∙ sym (ap (λ (o : Option Attachment). option_map_or (λ a. a.depth) o 0) attached)) depth;
+      depth = subst (λ n. n ≤ MOST_DEPTH) (ap (λ (s : SessionSettings). s.depth) stands.state.settings ∙ sym (ap (λ (o : Option Attachment). option_map_or (λ a. a.depth) o 0) attached)) depth;
     }
 
 pub searches_grown : (k : ℕ) (old new : List Entry) → CanSearch k old → GrowsTo MayAddInTurn old new → CanSearch k new
-searches_grown k old new h grows = record { tables = h.tables ∙ sym (pieces_stay old new grows); depth = subst (λ n. n ≤ 12) (sym (depth_stays old new grows)) h.depth }
+searches_grown k old new h grows = record { tables = h.tables ∙ sym (pieces_stay old new grows); depth = subst (λ n. n ≤ MOST_DEPTH) (sym (depth_stays old new grows)) h.depth }
 
 module _ (k : ℕ) (line : List Entry) (core : Core) (searches : CanSearch k line) (stands : IsCoreOf line core) where
   pub tables_there : k ≡ core.state.settings.pieces
   tables_there = searches.tables ∙ (ap (λ (o : Option Attachment). option_map_or (λ a. a.pieces) o 0) stands.state.attached ∙ sym (ap (λ (s : SessionSettings). s.pieces) stands.state.settings))
 
-  pub depth_there : core.state.settings.depth ≤ 12
+  pub depth_there : core.state.settings.depth ≤ MOST_DEPTH
   depth_there =
-      subst (λ n. n ≤ 12) (ap (λ (o : Option Attachment). option_map_or (λ a. a.depth) o 0) stands.state.attached ∙ sym (ap (λ (s : SessionSettings). s.depth) stands.state.settings)) searches.depth
+      subst (λ n. n ≤ MOST_DEPTH) (ap (λ (o : Option Attachment). option_map_or (λ a. a.depth) o 0) stands.state.attached ∙ sym (ap (λ (s : SessionSettings). s.depth) stands.state.settings)) searches.depth
 
 -- ---- leases that are ended
 

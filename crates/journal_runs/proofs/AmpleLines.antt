@@ -33,7 +33,8 @@ use Rattle.tree_manager.specs.Sessions.{SessionState, HasBegun, MayAddInTurn, se
 use Rattle.tree_manager.proofs.CoreLemmas.{IsGrownState, grows_append, run_grown}
 use Rattle.tree_manager.proofs.HistoryLaws.{begun_cut, lines_tell_cores, split_last}
 use Rattle.journal_runs.specs.Ample.{IsAmple, IsWithinReach}
-use Rattle.journal_runs.proofs.AmpleRoots.{IsUnsettledRoot, left, left_is}
+use Rattle.journal_runs.specs.FirstPass.{IsUnsettledRoot}
+use Rattle.journal_runs.proofs.AmpleRoots.{left, left_is}
 use Rattle.journal_runs.proofs.AmpleStates.{IsWithin, event_within, run_within}
 use Rattle.journal_runs.proofs.AttachedLines.{begun_append}
 
@@ -48,14 +49,14 @@ same_lease : (b : Bool) (row : Row) → (cond b (record row { kept = true }) row
 same_lease true row = refl
 same_lease false row = refl
 
-keep_lease : (r : BenchRecord) (row : Row) → (keep_for true r row).lease ≡ row.lease
+pub keep_lease : (r : BenchRecord) (row : Row) → (keep_for true r row).lease ≡ row.lease
 keep_lease r row = same_lease (is_work_on row.lease.node r) row
 
 lives_kept : (b : Bool) (limit now : ℕ) (row : Row) → is_live_row limit now row ≡ true → is_live_row limit now (cond b (record row { kept = true }) row) ≡ true
 lives_kept true limit now row h = refl
 lives_kept false limit now row h = h
 
-begins_none : (r : BenchRecord) → is_work r ≡ true → begun (r ∷ []) ≡ []
+pub begins_none : (r : BenchRecord) → is_work r ≡ true → begun (r ∷ []) ≡ []
 begins_none (records.Begin p) h = absurd (false≢true h)
 begins_none (records.Solve n p shown) h = refl
 begins_none (records.Expand n) h = refl
@@ -75,7 +76,7 @@ module _ (s : CoreState) (r : BenchRecord) where
         pieces = subst (λ (l : Lease). l.pieces ≡ s.settings.pieces) (sym e) h.pieces;
       }
 
-  kept_sound : IsSoundState s → IsSoundState (with_lease_rows s kept_rows)
+  pub kept_sound : IsSoundState s → IsSoundState (with_lease_rows s kept_rows)
   kept_sound sound = (
     sound.0,
     record {
@@ -126,25 +127,27 @@ each_last : {X : Type 0} (P : X → Type 0) (xs : List X) (y : X) → Each P (xs
 each_last P [] y each = each.0
 each_last P (x ∷ xs) y each = each_last P xs y each.1
 
-module _ (first : List Entry) (b : Attachment) (attached : attachment_of first ≡ Some b) (start : (core : Core) → IsHistory first core → IsWithinCore core) where
-  opens_within : (core : Core) (replayed : List BenchRecord) (a : Attachment) (line rest : List Entry) → line ≡ map Put replayed ++ Attached a ∷ [] → IsHistory line core → line ≡ first ++ rest → IsWithinCore core
-  opens_within core replayed a line [] is history cut = start core (subst (λ l. IsHistory l core) (cut ∙ append-nil first) history)
-  opens_within core replayed a line (x ∷ rest) is history cut = absurd (begun_cut replayed a b first rest x (sym is ∙ cut) attached)
+-- what each entry keeps, a line keeps
+module _ (P : Core → Type 0) (keeps : (old new : Core) (e : Entry) → MayAddInTurn e → Enters old e new → P old → P new)
+    (first : List Entry) (b : Attachment) (attached : attachment_of first ≡ Some b) (start : (core : Core) → IsHistory first core → P core) where
+  opens_kept : (core : Core) (replayed : List BenchRecord) (a : Attachment) (line rest : List Entry) → line ≡ map Put replayed ++ Attached a ∷ [] → IsHistory line core → line ≡ first ++ rest → P core
+  opens_kept core replayed a line [] is history cut = start core (subst (λ l. IsHistory l core) (cut ∙ append-nil first) history)
+  opens_kept core replayed a line (x ∷ rest) is history cut = absurd (begun_cut replayed a b first rest x (sym is ∙ cut) attached)
 
-  pub line_within : (line : List Entry) (core : Core) (rest : List Entry) → IsHistory line core → line ≡ first ++ rest → Each MayAddInTurn rest → IsWithinCore core
-  line_within _ _ rest (Opens line core replayed a is new) cut may = opens_within core replayed a line rest is (Opens line core replayed a is new) cut
-  line_within _ _ rest (Follows line core before old e is history whole enters) cut may = ⊎_elim
+  pub line_keeps : (line : List Entry) (core : Core) (rest : List Entry) → IsHistory line core → line ≡ first ++ rest → Each MayAddInTurn rest → P core
+  line_keeps _ _ rest (Opens line core replayed a is new) cut may = opens_kept core replayed a line rest is (Opens line core replayed a is new) cut
+  line_keeps _ _ rest (Follows line core before old e is history whole enters) cut may = ⊎_elim
       (λ none. start core (subst (λ l. IsHistory l core) (cut ∙ (ap (λ l. first ++ l) none ∙ append-nil first)) (Follows line core before old e is history whole enters)))
       (λ more.
       let same = same_from_push before (first ++ more.0) e more.1 (sym is ∙ (cut ∙ (ap (λ l. first ++ l) more.2 ∙ sym (append_assoc first more.0 (more.1 ∷ []))))) in
       let all : Each MayAddInTurn (more.0 ++ more.1 ∷ []) = subst (Each MayAddInTurn) more.2 may in
-      entry_within old core e (subst MayAddInTurn (sym same.1) (each_last MayAddInTurn more.0 more.1 all)) enters
-      (line_within before old more.0 history same.0 (each_front MayAddInTurn more.0 (more.1 ∷ []) all)))
+      keeps old core e (subst MayAddInTurn (sym same.1) (each_last MayAddInTurn more.0 more.1 all)) enters
+      (line_keeps before old more.0 history same.0 (each_front MayAddInTurn more.0 (more.1 ∷ []) all)))
       (split_last rest)
 
 -- ---- one line stands for one core
 
-one_core : (line : List Entry) (one other : Core) → IsCoreOf line one → IsCoreOf line other → (one.state ≡ other.state) × (one.staged ≡ other.staged)
+pub one_core : (line : List Entry) (one other : Core) → IsCoreOf line one → IsCoreOf line other → (one.state ≡ other.state) × (one.staged ≡ other.staged)
 one_core line one other p q =
     let some_is : (x y : Attachment) → Some x ≡ Some y → x ≡ y = λ x y e. cc e in
     let same : p.state.attachment ≡ q.state.attachment = some_is p.state.attachment q.state.attachment (sym p.state.attached ∙ q.state.attached) in
@@ -227,6 +230,7 @@ module _ {D : Type 0} (replayed : List BenchRecord) (a : Attachment) (old mid : 
   -- what the roots leave of a session that applied nothing
   pub record IsJustBegun : Type 0 where
     pub settings : mid.core.state.settings ≡ settings_of a
+    pub limit : mid.core.state.leases.limit ≡ a.limit
     pub lasts : 1 ≤ mid.core.state.leases.limit
     pub rows : mid.core.state.leases.rows ≡ []
     pub work : mid.core.state.work ≡ 0
@@ -238,6 +242,7 @@ module _ {D : Type 0} (replayed : List BenchRecord) (a : Attachment) (old mid : 
       let state : mid.core.state ≡ old.core.state = ap (λ (c : Core). c.state) same in
       record {
         settings = ap (λ (s : CoreState). s.settings) state ∙ new_core.settings;
+        limit = ap (λ (s : CoreState). s.leases.limit) state ∙ ap (λ (t : LeaseRows). t.limit) new_core.leases;
         lasts = subst (λ n. 1 ≤ n) (sym (ap (λ (s : CoreState). s.leases.limit) state ∙ ap (λ (t : LeaseRows). t.limit) new_core.leases)) new_core.lasts;
         rows = ap (λ (s : CoreState). s.leases.rows) state ∙ ap (λ (t : LeaseRows). t.rows) new_core.leases;
         work = ap (λ (s : CoreState). s.work) state ∙ new_core.work;
@@ -253,6 +258,7 @@ module _ {D : Type 0} (replayed : List BenchRecord) (a : Attachment) (old mid : 
       let pieces : old.core.state.settings.pieces ≡ a.pieces = ap (λ (t : SessionSettings). t.pieces) new_core.settings in
       record {
         settings = grown.settings ∙ new_core.settings;
+        limit = grown.limit ∙ ap (λ (t : LeaseRows). t.limit) new_core.leases;
         lasts = subst (λ n. 1 ≤ n) (sym (grown.limit ∙ ap (λ (t : LeaseRows). t.limit) new_core.leases)) new_core.lasts;
         rows = committed.ended ∙ ap (λ (t : LeaseRows). filter (λ row. not row.kept) t.rows) new_core.leases;
         work = grown.work ∙ (λ i. new_core.work i + no_work begins.roots.added i);
@@ -260,7 +266,7 @@ module _ {D : Type 0} (replayed : List BenchRecord) (a : Attachment) (old mid : 
             (subst (λ k. GrowsWithAll k old.core.state.forest (map records.Begin begins.roots.added) mid.core.state.forest) pieces grown.forest);
       }
 
-  just_begun : IsJustBegun
+  pub just_begun : IsJustBegun
   just_begun = ⊎_elim staged_nothing applied_roots begins.applied
 
   begun_within : (budget : ℕ) → a.budget ≡ session_budget budget replayed → IsAmple a.pieces a.depth budget positions replayed → IsWithin mid.core.state
@@ -292,5 +298,5 @@ module _ {D : Type 0} (replayed : List BenchRecord) (a : Attachment) (old mid : 
       let start : (core : Core) → IsHistory mid.line core → IsWithinCore core = λ core here.
       let same = one_core mid.line mid.core core stands (lines_tell_cores mid.line core here) in
       record { state = subst IsWithin same.0 within; rootless = ap begun (sym same.1 ∙ begins.none_staged) } in
-      let ended = line_within mid.line stands.state.attachment stands.state.attached start new.line new.core grows.added history (sym grows.whole) (recursion_from_All MayAddInTurn grows.added grows.allowed) in
+      let ended = line_keeps IsWithinCore entry_within mid.line stands.state.attachment stands.state.attached start new.line new.core grows.added history (sym grows.whole) (recursion_from_All MayAddInTurn grows.added grows.allowed) in
       settled_by new.core.state settled settled_is spent ended.state.few

@@ -24,22 +24,17 @@ use Rattle.proof_tree.specs.Sound.{occurrences}
 use Rattle.proof_tree.proofs.EachNode.{found_occurs, found_where, test_true}
 use Rattle.draughts_board.specs.Board.{same_side}
 use Rattle.journal_runs.specs.Ample.{ShowsValue, unsettled_roots}
+use Rattle.journal_runs.specs.FirstPass.{IsUnsettledRoot}
 
 -- ---- an unsettled root
 
--- a root with this number has no value
-abbrev pub IsUnsettledRoot : ℕ → Forest → Type 0
-IsUnsettledRoot n no_node = ⊥
-IsUnsettledRoot n (node own children others) =
-    ((own.number ≡ n) × (value_of (record { own = own; children = children }) ≡ None)) ⊎ IsUnsettledRoot n others
-
-counted : (b : Bool) (k l : ℕ) → b ≡ true → 1 ≤ cond b 1 0 + (k + l)
-counted true k l e = omega arith
-counted false k l e = absurd (false≢true e)
+counts_one : (b : Bool) (k l : ℕ) → b ≡ true → 1 ≤ cond b 1 0 + (k + l)
+counts_one true k l e = omega arith
+counts_one false k l e = absurd (false≢true e)
 
 root_occurs : (n : ℕ) (t : Forest) → IsUnsettledRoot n t → 1 ≤ occurrences n t
 root_occurs n no_node h = absurd h
-root_occurs n (node own children others) (inl h) = counted (eqb own.number n) (occurrences n children) (occurrences n others) (test_true own.number n h.0)
+root_occurs n (node own children others) (inl h) = counts_one (eqb own.number n) (occurrences n children) (occurrences n others) (test_true own.number n h.0)
 root_occurs n (node own children others) (inr h) = let r = root_occurs n others h in omega (arith, r)
 
 -- the counts of a node whose number is counted once at most

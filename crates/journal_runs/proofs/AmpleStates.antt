@@ -26,8 +26,9 @@ use Rattle.bench_core.proofs.Lists.{Each-append, Each-contains, Each-filter, Eac
 use Rattle.bench_core.proofs.EventLaws.{events_keep_sound}
 use Rattle.bench_core.proofs.RowsApart.{apart_one}
 use Rattle.journal_runs.specs.Ample.{ShowsValue, IsWithinReach}
+use Rattle.journal_runs.specs.FirstPass.{IsUnsettledRoot}
 use Rattle.journal_runs.proofs.AttachedLines.{begun_append}
-use Rattle.journal_runs.proofs.AmpleRoots.{IsUnsettledRoot, IsLeafOrSettled, IsSettledOne, left, number_named, picked_root, settled_one, shown_for, shown_settles, the_root}
+use Rattle.journal_runs.proofs.AmpleRoots.{IsLeafOrSettled, IsSettledOne, left, number_named, picked_root, settled_one, shown_for, shown_settles, the_root}
 
 abbrev NamesRoot : Forest → Row → Type 0
 NamesRoot roots row = IsUnsettledRoot row.lease.node roots
@@ -80,13 +81,13 @@ module _ (s : CoreState) (h : IsWithin s) where
   within_from : (new : CoreState) → IsSoundState new → IsWithinRows new → IsWithin new
   within_from new sound all = record { sound = sound; within = all.0; rows = all.1.0; few = all.1.1 }
 
-  asked : (worker : ℕ) (new : CoreState) → Happens s (AsksLease worker) new → IsWithin new
-  asked worker new happens = within_from new (sound_after (AsksLease worker) new happens) (subst IsWithinRows (sym happens) (with_answer worker))
+  within_asked : (worker : ℕ) (new : CoreState) → Happens s (AsksLease worker) new → IsWithin new
+  within_asked worker new happens = within_from new (sound_after (AsksLease worker) new happens) (subst IsWithinRows (sym happens) (with_answer worker))
 
   -- ---- a lease that ends
 
-  released : (id : ℕ) (new : CoreState) → Happens s (Releases id) new → IsWithin new
-  released id new happens =
+  within_released : (id : ℕ) (new : CoreState) → Happens s (Releases id) new → IsWithin new
+  within_released id new happens =
       within_from new (sound_after (Releases id) new happens)
       (subst IsWithinRows (sym happens.rest)
       (h.within, (Each-filter (NamesRoot s.forest) (NamesRoot s.forest) (λ row. not (has_id id row)) (λ row names passes. names) s.leases.rows h.rows, h.few)))
@@ -100,8 +101,8 @@ module _ (s : CoreState) (h : IsWithin s) where
   depth = s.settings.depth
 
   -- the root that a row names
-  named : (row : Row) → Contains s.leases.rows row → (x : Node) → node_at row.lease.node s.forest ≡ Some x → ShowsValue k depth x.own.position
-  named row there x at =
+  named_shows : (row : Row) → Contains s.leases.rows row → (x : Node) → node_at row.lease.node s.forest ≡ Some x → ShowsValue k depth x.own.position
+  named_shows row there x at =
       let root = Each-contains (NamesRoot s.forest) s.leases.rows row h.rows there in
       let its = the_root (IsWithinReach k depth) row.lease.node s.forest x (at_most_once row.lease.node s.forest h.sound.1.numbered.numbered) root at h.within in
       ⊎_elim (λ settled. absurd (false≢true (sym (ap is_some its.0) ∙ settled))) (λ reach. reach.1) its.1
@@ -109,14 +110,14 @@ module _ (s : CoreState) (h : IsWithin s) where
   learnt_own : (n : ℕ) (facts : Known) (own : Own) → own.number ≡ n → learn n facts own ≡ record own { facts = joined own.facts facts }
   learnt_own n facts own is = ap (λ b. cond b (record own { facts = joined own.facts facts }) own) (eq-eqb own.number n is)
 
-  solves : (id n : ℕ) (p : Board) (shown : List Certificate) (new : CoreState) → IsAfterResult s id (records.Solve n p shown) new → IsWithinRows new
-  solves id n p shown new happens =
+  within_solved : (id n : ℕ) (p : Board) (shown : List Certificate) (new : CoreState) → IsAfterResult s id (records.Solve n p shown) new → IsWithinRows new
+  within_solved id n p shown new happens =
       let row = happens.row.row in
       let facts = facts_shown shown in
       let same : n ≡ row.lease.node = eqb-true n row.lease.node happens.row.holds.own in
       let found = happens.row.holds.found in
       let x = found.leaf in
-      let shows : ShowsValue k depth x.own.position = named row happens.row.there x found.there in
+      let shows : ShowsValue k depth x.own.position = named_shows row happens.row.there x found.there in
       let at : node_at n s.forest ≡ Some x = ap (λ m. node_at m s.forest) same ∙ found.there in
       let own_is = learnt_own n facts x.own (number_named n s.forest x at) in
       let settles : is_some (value_of (record { own = learn n facts x.own; children = changed (learn n facts) x.children })) ≡ true =
@@ -142,22 +143,22 @@ module _ (s : CoreState) (h : IsWithin s) where
   never_expands id n new happens =
       let row = happens.row.row in
       let found = happens.row.holds.found in
-      ⊎_elim found.holds.no_win found.holds.no_hold (shown_for k depth row.lease.goal found.leaf.own.position (named row happens.row.there found.leaf found.there))
+      ⊎_elim found.holds.no_win found.holds.no_hold (shown_for k depth row.lease.goal found.leaf.own.position (named_shows row happens.row.there found.leaf found.there))
 
-  finds : (id : ℕ) (r : BenchRecord) (new : CoreState) → IsAfterResult s id r new → IsWithinRows new
-  finds id (records.Begin p) new happens = absurd (false≢true happens.row.holds.own)
-  finds id (records.Solve n p shown) new happens = solves id n p shown new happens
-  finds id (records.Expand n) new happens = absurd (never_expands id n new happens)
+  within_found : (id : ℕ) (r : BenchRecord) (new : CoreState) → IsAfterResult s id r new → IsWithinRows new
+  within_found id (records.Begin p) new happens = absurd (false≢true happens.row.holds.own)
+  within_found id (records.Solve n p shown) new happens = within_solved id n p shown new happens
+  within_found id (records.Expand n) new happens = absurd (never_expands id n new happens)
 
   -- ---- any event that begins no root
 
   pub event_within : (e : Event) (new : CoreState) → begun (applied_by e) ≡ [] → Happens s e new → IsWithin new
-  event_within (AsksLease worker) new none happens = asked worker new happens
-  event_within (Finds id r) new none happens = within_from new (sound_after (Finds id r) new happens) (finds id r new happens)
+  event_within (AsksLease worker) new none happens = within_asked worker new happens
+  event_within (Finds id r) new none happens = within_from new (sound_after (Finds id r) new happens) (within_found id r new happens)
   event_within (BeginsRoot p) new none happens = absurd (cc none)
-  event_within (Releases id) new none happens = released id new happens
+  event_within (Releases id) new none happens = within_released id new happens
 
-none_of_two : {X : Type 0} (xs ys : List X) → xs ++ ys ≡ [] → (xs ≡ []) × (ys ≡ [])
+pub none_of_two : {X : Type 0} (xs ys : List X) → xs ++ ys ≡ [] → (xs ≡ []) × (ys ≡ [])
 none_of_two [] ys e = (refl, e)
 none_of_two (x ∷ xs) ys e = absurd (cc e)
 

@@ -62,33 +62,33 @@ module _ (P : Acknowledgement → Type 0) where
   abbrev Finds : List Entry → Type 0
   Finds line = (done : List BenchRecord) → list_any acknowledges line ≡ true → Each P (acknowledged_by done line) → Found done line
 
-  moved : (done rs : List BenchRecord) (line : List Entry) → Found (done ++ rs) line → (m : ℕ) × P (acked m (done ++ (rs ++ applied_in line)))
-  moved done rs line found = (found.0, subst (λ (qs : List BenchRecord). P (acked found.0 qs)) (append_assoc done rs (applied_in line)) found.1)
+  found_behind : (done rs : List BenchRecord) (line : List Entry) → Found (done ++ rs) line → (m : ℕ) × P (acked m (done ++ (rs ++ applied_in line)))
+  found_behind done rs line found = (found.0, subst (λ (qs : List BenchRecord). P (acked found.0 qs)) (append_assoc done rs (applied_in line)) found.1)
 
-  later : (done : List BenchRecord) (e : Entry) (line : List Entry) → list_any acknowledges line ≡ true → Found (done ++ record_put e) line → Found done (e ∷ line)
-  later done e line h found = rw h (moved done (record_put e) line found)
+  found_later : (done : List BenchRecord) (e : Entry) (line : List Entry) → list_any acknowledges line ≡ true → Found (done ++ record_put e) line → Found done (e ∷ line)
+  found_later done e line h found = rw h (found_behind done (record_put e) line found)
 
-  here : (done : List BenchRecord) (e : Entry) (line : List Entry) (m : ℕ) → list_any acknowledges line ≡ false → P (acked m done) → Found done (e ∷ line)
-  here done e line m h p = (m, rw h (subst (λ (qs : List BenchRecord). P (acked m qs)) (sym (append-nil done)) p))
+  found_here : (done : List BenchRecord) (e : Entry) (line : List Entry) (m : ℕ) → list_any acknowledges line ≡ false → P (acked m done) → Found done (e ∷ line)
+  found_here done e line m h p = (m, rw h (subst (λ (qs : List BenchRecord). P (acked m qs)) (sym (append-nil done)) p))
 
   -- .. and of the last, which has all that is applied
-  last : (done : List BenchRecord) (e : Entry) (line : List Entry) (b : Bool) → list_any acknowledges line ≡ b → Finds line → list_any acknowledges (e ∷ line) ≡ true → Each P (acknowledged_by done (e ∷ line)) → Found done (e ∷ line)
-  last done (Put r) line true h ih any each = later done (Put r) line h (ih (done ++ r ∷ []) h each)
-  last done (Put r) line false h ih any each = absurd (true≢false (sym any ∙ h))
-  last done (Attached a) line true h ih any each = later done (Attached a) line h (ih (done ++ []) h each.1)
-  last done (Attached a) line false h ih any each = here done (Attached a) line a.opened h each.0
-  last done (Leased l) line true h ih any each = later done (Leased l) line h (ih (done ++ []) h each)
-  last done (Leased l) line false h ih any each = absurd (true≢false (sym any ∙ h))
-  last done (Released id) line true h ih any each = later done (Released id) line h (ih (done ++ []) h each)
-  last done (Released id) line false h ih any each = absurd (true≢false (sym any ∙ h))
-  last done (Acked m) line true h ih any each = later done (Acked m) line h (ih (done ++ []) h each.1)
-  last done (Acked m) line false h ih any each = here done (Acked m) line m h each.0
-  last done (Broken f) line true h ih any each = later done (Broken f) line h (ih (done ++ []) h each)
-  last done (Broken f) line false h ih any each = absurd (true≢false (sym any ∙ h))
+  found_at_last : (done : List BenchRecord) (e : Entry) (line : List Entry) (b : Bool) → list_any acknowledges line ≡ b → Finds line → list_any acknowledges (e ∷ line) ≡ true → Each P (acknowledged_by done (e ∷ line)) → Found done (e ∷ line)
+  found_at_last done (Put r) line true h ih any each = found_later done (Put r) line h (ih (done ++ r ∷ []) h each)
+  found_at_last done (Put r) line false h ih any each = absurd (true≢false (sym any ∙ h))
+  found_at_last done (Attached a) line true h ih any each = found_later done (Attached a) line h (ih (done ++ []) h each.1)
+  found_at_last done (Attached a) line false h ih any each = found_here done (Attached a) line a.opened h each.0
+  found_at_last done (Leased l) line true h ih any each = found_later done (Leased l) line h (ih (done ++ []) h each)
+  found_at_last done (Leased l) line false h ih any each = absurd (true≢false (sym any ∙ h))
+  found_at_last done (Released id) line true h ih any each = found_later done (Released id) line h (ih (done ++ []) h each)
+  found_at_last done (Released id) line false h ih any each = absurd (true≢false (sym any ∙ h))
+  found_at_last done (Acked m) line true h ih any each = found_later done (Acked m) line h (ih (done ++ []) h each.1)
+  found_at_last done (Acked m) line false h ih any each = found_here done (Acked m) line m h each.0
+  found_at_last done (Broken f) line true h ih any each = found_later done (Broken f) line h (ih (done ++ []) h each)
+  found_at_last done (Broken f) line false h ih any each = absurd (true≢false (sym any ∙ h))
 
   pub at_last : (line : List Entry) → Finds line
   at_last [] done any each = absurd (true≢false (sym any))
-  at_last (e ∷ line) done any each = last done e line (list_any acknowledges line) refl (at_last line) any each
+  at_last (e ∷ line) done any each = found_at_last done e line (list_any acknowledges line) refl (at_last line) any each
 
 -- ---- the roots of a list of records
 

@@ -1,6 +1,6 @@
 -- While roots wait in the first pass no root grows: what is put is no expansion.
-use Rattle.std.proofs.Common.{◌≡◌, ℕ, List, [], ◌∷◌, ◌++◌, refl, sym, ◌∙◌, subst}
-use Rattle.std.specs.Prelude.{All, true, Result, Ok, Err}
+use Rattle.std.proofs.Common.{◌≡◌, ℕ, List, [], ◌∷◌, ◌++◌, refl, sym, ◌∙◌, subst, inl, inr}
+use Rattle.std.specs.Prelude.{All, true, ◌⊎◌, Result, Ok, Err}
 use Rattle.std.proofs.lemmas.Bool.{false≢true}
 use Rattle.std.proofs.lemmas.List.Elements.{All-weaker}
 use Rattle.certificate_checker.specs.declared.outcomes.Outcome.{Outcome}
@@ -21,11 +21,14 @@ use Rattle.tree_manager.specs.declared.refusals.CommitRefusal.TheVariants as com
 use Rattle.tree_manager.specs.declared.refusals.StageRefusal.{StageRefusal}
 use Rattle.tree_manager.specs.declared.refusals.StageRefusal.TheVariants as stage
 use Rattle.tree_manager.specs.Lines.{unapplied_in}
-use Rattle.tree_manager.specs.Sessions.{MayAddInTurn}
+use Rattle.tree_manager.specs.Sessions.{MayAddInTurn, SessionState}
 use Rattle.tree_manager.specs.Turns.{GrowsByTurns, AllAcknowledged, AsksForSearch, Commits, Leases, StagesNumbered}
 use Rattle.tree_manager.proofs.SearchLemmas.{pieces_stay, depth_stays}
 use Rattle.worker_gate.specs.Work.{is_value_told}
-use Rattle.journal_runs.specs.FirstPass.{MayAddUngrown, GrowsNoRoot}
+use Rattle.worker_gate.specs.declared.worker.Ended.{Ended}
+use Rattle.worker_gate.specs.declared.worker.Ended.TheVariants as end
+use Rattle.journal_runs.specs.Ends.{IsEndedBy}
+use Rattle.journal_runs.specs.FirstPass.{MayAddUngrown, GrowsNoRoot, IsStoppedBy}
 
 may_add : (e : Entry) → MayAddUngrown e → MayAddInTurn e
 may_add (Put (Begin p)) may = absurd may
@@ -55,12 +58,12 @@ pub told_ungrown : (lease : Lease) (outcome : Outcome) → is_value_told outcome
 told_ungrown lease (Solved found) told = tt
 told_ungrown lease (Exhausted e) told = absurd (false≢true told)
 
-acknowledged : (old new : List Entry) (receipt : Receipt) (unapplied : List BenchRecord) → unapplied_in old ≡ unapplied → AllAcknowledged old new receipt → GrowsNoRoot old new
-acknowledged old new receipt [] none all = ungrown_same old new (all.idle none)
-acknowledged old new receipt (r ∷ rs) some all = ungrown_one old new (Acked receipt.moment) tt (all.acked (λ none. let no : r ∷ rs ≡ [] = sym some ∙ none in cc no))
+ungrown_acknowledged : (old new : List Entry) (receipt : Receipt) (unapplied : List BenchRecord) → unapplied_in old ≡ unapplied → AllAcknowledged old new receipt → GrowsNoRoot old new
+ungrown_acknowledged old new receipt [] none all = ungrown_same old new (all.idle none)
+ungrown_acknowledged old new receipt (r ∷ rs) some all = ungrown_one old new (Acked receipt.moment) tt (all.acked (λ none. let no : r ∷ rs ≡ [] = sym some ∙ none in cc no))
 
 pub commit_ungrown : (old new : List Entry) (answer : Result Receipt CommitRefusal) → Commits old new answer → GrowsNoRoot old new
-commit_ungrown old new (Ok receipt) all = acknowledged old new receipt (unapplied_in old) refl all
+commit_ungrown old new (Ok receipt) all = ungrown_acknowledged old new receipt (unapplied_in old) refl all
 commit_ungrown old new (Err commit.Failed) failed = ungrown_same old new failed.0
 commit_ungrown old new (Err commit.Disk) broke = ungrown_one old new (Broken broke.0.0) tt broke.0.1
 
@@ -84,3 +87,15 @@ asks_still old new given grows all =
     let turns = by_turns old new grows in
     All-weaker (AsksForSearch old) (AsksForSearch new)
     (λ lease asks. record { pieces = asks.pieces ∙ sym (pieces_stay old new turns); depth = asks.depth ∙ sym (depth_stays old new turns); undecided = asks.undecided }) given all
+
+-- ---- the end
+
+pub stopped_ended : {D : Type 0} (ended : Ended) (s : SessionState D) → IsStoppedBy ended s → IsEndedBy ended s
+stopped_ended end.Done s stopped = absurd stopped
+stopped_ended end.Spent s stopped = absurd stopped
+stopped_ended end.Failed s stopped = stopped
+stopped_ended end.Memory s stopped = tt
+
+pub stopped_not : {D : Type 0} (ended : Ended) (s : SessionState D) → IsStoppedBy ended s → (ended ≡ end.Done) ⊎ (ended ≡ end.Spent) → ⊥
+stopped_not ended s stopped (inl is) = subst (λ (e : Ended). IsStoppedBy e s) is stopped
+stopped_not ended s stopped (inr is) = subst (λ (e : Ended). IsStoppedBy e s) is stopped

@@ -1,4 +1,11 @@
 pub mod AttachedLines
+pub mod FirstRoots
+pub mod FirstReached
+pub mod FirstStates
+pub mod FirstLeases
+pub mod FirstRuns
+pub mod FirstStaging
+pub mod FirstLines
 pub mod FirstPassLemmas
 pub mod FreshLemmas
 pub mod AmpleRoots

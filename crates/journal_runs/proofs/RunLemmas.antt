@@ -10,7 +10,7 @@ use Rattle.bench_disk.specs.Disk.{IsHonest, NothingPending}
 use Rattle.bench_disk.specs.Runs.{Leaves}
 use Rattle.shared_words.specs.Counts.{Rose}
 use Rattle.draughts_board.specs.Board.{Board}
-use Rattle.proof_tree.specs.Forest.{Forest, no_node}
+use Rattle.proof_tree.specs.Forest.{Forest, no_node, nodes}
 use Rattle.proof_tree.specs.Sound.{root_positions}
 use Rattle.disk_journal.specs.Format.{IsFresh, IsPrefixOf}
 use Rattle.disk_journal.specs.Log.{StaysOrFresh}
@@ -38,7 +38,7 @@ use Rattle.tree_manager.proofs.ExactLemmas.{files_read_as_one_list, refused_file
 use Rattle.tree_manager.proofs.HistoryLaws.{replayed_whole}
 use Rattle.journal_runs.specs.declared.refusals.RunRefusal.{RunRefusal}
 use Rattle.journal_runs.specs.declared.refusals.RunRefusal.TheVariants as refusal
-use Rattle.journal_runs.specs.Ample.{IsAmple}
+use Rattle.journal_runs.specs.Ample.{IsAmple, IsReached, IsRoomForEach}
 use Rattle.journal_runs.specs.Ends.{GoesOnFrom, HasWorked, IsIdle, IsWorkRefusal}
 use Rattle.journal_runs.specs.Journals.{IsCaused, IsUnreadFor, KeepsJournal, MayLeave, Recovers, Resumes, SettlesOrSpends}
 use Rattle.journal_runs.proofs.AttachedLines.{line_from, all_applied, any_from, at_attached, at_last, attached_from, behind_from, recorded_from, unapplied_from}
@@ -121,11 +121,11 @@ module _ {D : Type 0} (g : Ghosts D) where
     ends_from budget added roots true is spent = sym is
     ends_from budget added roots false is spent = (sym is, spent refl)
 
-    pub resumes_from : (text_of : Forest → List ℕ) (depth budget : ℕ) (positions : List Board) (first last : SessionState D) (text : List ℕ) (settled : Bool)
-        → ReadsRecords pieces (g.reads old) before → a.opened ≡ g.moment old + 1 → a.budget ≡ session_budget budget before → a.pieces ≡ pieces → a.depth ≡ depth → IsNewCore before a first.core
-        → root_positions first.core.state.forest ≡ begun before → last.line ≡ line → HasWorked text_of first positions last text settled
-        → g.images new (g.reads new) → Resumes g text_of pieces depth budget positions old new text settled
-    resumes_from text_of depth budget positions first last text settled read opened budget_is pieces_are depth_is new_core first_roots is worked here =
+    pub resumes_from : (text_of : Forest → List ℕ) (depth budget lease : ℕ) (positions : List Board) (first last : SessionState D) (text : List ℕ) (settled : Bool)
+        → ReadsRecords pieces (g.reads old) before → a.opened ≡ g.moment old + 1 → a.budget ≡ session_budget budget before → a.pieces ≡ pieces → a.depth ≡ depth → a.limit ≡ lease → IsNewCore before a first.core
+        → root_positions first.core.state.forest ≡ begun before → last.line ≡ line → HasWorked text_of lease first positions last text settled
+        → g.images new (g.reads new) → Resumes g text_of pieces depth budget lease positions old new text settled
+    resumes_from text_of depth budget lease positions first last text settled read opened budget_is pieces_are depth_is limit_is new_core first_roots is worked here =
         let core = last.core in
         let whole : is_failed line ≡ false = sym (ap is_failed is) ∙ worked.idle.unfailed in
         let none : unapplied_in line ≡ [] = sym (ap unapplied_in is) ∙ (sym worked.stands.staged ∙ worked.idle.none_staged) in
@@ -154,6 +154,10 @@ module _ {D : Type 0} (g : Ghosts D) where
               (λ unsettled. subst (λ n. n ≤ count_by is_work (recorded rest)) budget_last (subst (λ n. core.state.settings.budget ≤ n) work_is (worked.spent unsettled)));
           ample = λ ample. worked.ample before a budget new_core budget_is
               (subst (λ k. IsAmple k a.depth budget positions before) (sym pieces_are) (subst (λ d. IsAmple pieces d budget positions before) (sym depth_is) ample));
+          reached = λ room.
+              subst (λ k. Each (IsReached k depth) (nodes core.state.forest)) pieces_are
+              (subst (λ d. Each (IsReached a.pieces d) (nodes core.state.forest)) depth_is
+              (worked.reached before a budget new_core budget_is limit_is (subst (λ k. IsRoomForEach k budget lease positions before) (sym pieces_are) room)));
         }
 
   -- ---- one that was refused
@@ -253,11 +257,11 @@ module _ {D : Type 0} (g : Ghosts D) where
       rose_begun new no_fewer rose = rose_from (g.faults old) begins.attachment.faults (g.faults new) (subst (λ n. g.faults old ≤ n) (sym faults_are) no_fewer) (rose_is new rose)
 
     pub resumes_begun : (text_of : Forest → List ℕ) (positions : List Board) (last : SessionState D) (new : D) (text : List ℕ) (settled : Bool) (went : GoesOnFrom first.line last.line) → IsHonest g.TELLS
-        → HasWorked text_of first positions last text settled → IfSome (attachment_of last.line) (λ a. Keeps a.pieces last.line new) → g.images new (g.reads new) → NowCounts new
-        → Resumes g text_of s.pieces s.depth s.budget positions old new text settled
+        → HasWorked text_of s.lease first positions last text settled → IfSome (attachment_of last.line) (λ a. Keeps a.pieces last.line new) → g.images new (g.reads new) → NowCounts new
+        → Resumes g text_of s.pieces s.depth s.budget s.lease positions old new text settled
     resumes_begun text_of positions last new text settled went honest worked keeps here now_counts =
-        resumes_from s.pieces begins.replayed begins.attachment went.0 old new (kept_is last.line went new keeps) now_counts text_of s.depth s.budget positions first last text settled
-        (begins.read honest) opened_is budget_is pieces_are (ap (λ (a : Attachment). a.depth) begins.is) begins.core first_roots (line_is last.line went) worked here
+        resumes_from s.pieces begins.replayed begins.attachment went.0 old new (kept_is last.line went new keeps) now_counts text_of s.depth s.budget s.lease positions first last text settled
+        (begins.read honest) opened_is budget_is pieces_are (ap (λ (a : Attachment). a.depth) begins.is) (ap (λ (a : Attachment). a.limit) begins.is) begins.core first_roots (line_is last.line went) worked here
 
     pub caused_begun : (positions : List Board) (r : RunRefusal) → IsHonest g.TELLS → IsWorkRefusal first positions r → IsCaused s.pieces positions (g.reads old) r
     caused_begun positions (refusal.Journal cause) honest h = subst (λ (b : Bool). OnFalse b (IsUnreadFor s.pieces (g.reads old) cause)) (sym h) tt

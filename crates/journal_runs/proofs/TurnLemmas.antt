@@ -75,11 +75,11 @@ outcome_works lease (Solved found) = refl
 outcome_works lease (Exhausted e) = refl
 
 module _ (one two three : Core) (lease : Lease) (outcome : Outcome) where
-  grown : IsCommitted two three → IsGrownState two.state three.state two.staged
-  grown committed = subst (IsGrownState two.state three.state) committed.in_order (run_grown two.state three.state committed.events committed.run)
+  committed_grows : IsCommitted two three → IsGrownState two.state three.state two.staged
+  committed_grows committed = subst (IsGrownState two.state three.state) committed.in_order (run_grown two.state three.state committed.events committed.run)
 
   pub settings_stay : two ≡ with_staged one (record_of lease outcome) → IsCommitted two three → three.state.settings ≡ one.state.settings
-  settings_stay staged committed = (grown committed).settings ∙ ap (λ (c : Core). c.state.settings) staged
+  settings_stay staged committed = (committed_grows committed).settings ∙ ap (λ (c : Core). c.state.settings) staged
 
   one_work : (r : BenchRecord) (n : ℕ) → is_work r ≡ true → n + count_by is_work (r ∷ []) ≡ n + 1
   one_work r n h = ap (λ b. n + (0 + cond b 1 0)) h ∙ omega arith
@@ -87,7 +87,7 @@ module _ (one two three : Core) (lease : Lease) (outcome : Outcome) where
   pub work_rises : one.staged ≡ [] → two ≡ with_staged one (record_of lease outcome) → IsCommitted two three → three.state.work ≡ one.state.work + 1
   work_rises none staged committed =
       let r = record_of lease outcome in
-      (grown committed).work
+      (committed_grows committed).work
       ∙ (ap (λ (c : Core). c.state.work + count_by is_work c.staged) staged
       ∙ (ap (λ (rs : List BenchRecord). one.state.work + count_by is_work (rs ++ r ∷ [])) none
       ∙ one_work r one.state.work (outcome_works lease outcome)))

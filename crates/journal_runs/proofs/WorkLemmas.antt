@@ -2,6 +2,7 @@
 use Rattle.std.proofs.Common.{length, ◌≡◌, ◌≤◌, ◌⊎◌, inl, inr, ⊎_elim, ℕ, List, [], ◌∷◌, ◌++◌, refl, ap, sym, ◌∙◌, subst, map, append_assoc, append-nil}
 use Rattle.std.specs.Prelude.{All, Contains, Bool, true, false, cond}
 use Rattle.std.specs.List.{list_any}
+use Rattle.std.specs.declared.alloc.AllocError.{AllocError}
 use Rattle.std.proofs.lemmas.Bool.{true≢false, or_cases}
 use Rattle.std.proofs.lemmas.List.Elements.{All-head, All-tail, Contains-append_left, Contains-push, Contains-push_cases}
 use Rattle.draughts_board.specs.Board.{Board, same_board}
@@ -33,8 +34,10 @@ use Rattle.tree_manager.proofs.CoreLemmas.{contains_nothing}
 use Rattle.worker_gate.specs.declared.worker.Ended.TheVariants.{Done, Spent}
 use Rattle.journal_runs.specs.Ends.{IsIdle, IsEndedBy, GoesOnFrom, HasRun, HasWorked}
 use Rattle.journal_runs.specs.Journals.{CountsRoots, ReportsTruth}
+use Rattle.journal_runs.specs.FirstPass.{HasSearched}
 use Rattle.journal_runs.proofs.AmpleLines.{ample_settles}
 use Rattle.journal_runs.proofs.AttachedLines.{all_applied, begun_append}
+use Rattle.journal_runs.proofs.FirstLines.{reached_ends}
 
 -- ---- no position is two of them
 
@@ -196,9 +199,10 @@ module _ {D : Type 0} (old mid : SessionState D) (positions : List Board) (m : �
         ∙ (mid_roots
         ∙ (ap (λ (ps : List Board). ps ++ begins.roots.added) (sym (idle_roots old was stood)) ∙ begins.roots.all))))))
 
-    worked_from : (text_of : Forest → List ℕ) (text : List ℕ) (settled : Bool) → text ≡ text_of new.core.state.forest → settled ≡ are_settled new.core.state.forest
-        → (settled ≡ false → new.core.state.settings.budget ≤ new.core.state.work) → IsCoreOf mid.line mid.core → IsHistory new.line new.core → HasWorked text_of old positions new text settled
-    worked_from text_of text settled text_is settled_is spent stood history = record {
+    worked_from : (text_of : Forest → List ℕ) (lease : ℕ) (text : List ℕ) (settled : Bool) → text ≡ text_of new.core.state.forest → settled ≡ are_settled new.core.state.forest
+        → (settled ≡ false → new.core.state.settings.budget ≤ new.core.state.work) → IsCoreOf mid.line mid.core → HasSearched lease mid.core new.line → IsHistory new.line new.core
+        → HasWorked text_of lease old positions new text settled
+    worked_from text_of lease text settled text_is settled_is spent stood searched history = record {
       idle = idle;
       stands = stands;
       text_is = text_is;
@@ -206,6 +210,7 @@ module _ {D : Type 0} (old mid : SessionState D) (positions : List Board) (m : �
       settled_is = settled_is;
       spent = spent;
       ample = λ replayed a budget core budget_is ample. ample_settles replayed a old mid positions m core begins budget new settled budget_is ample stood grows history settled_is spent;
+      reached = λ replayed a budget core budget_is limit_is room. reached_ends replayed a old mid positions m core begins budget lease new budget_is limit_is room stood grows searched history;
     }
 
     truth_after : (text : List ℕ) → AreTrueRoots (forest_roots new.core.state.forest) → length (forest_roots new.core.state.forest) ≤ 65536 → text ≡ report_of (forest_roots new.core.state.forest) → ReportsTruth positions text
@@ -216,36 +221,39 @@ module _ {D : Type 0} (old mid : SessionState D) (positions : List Board) (m : �
     count_after text line is = counts_roots new.core.state.settings.pieces (applied_in new.line) new.core.state.forest (root_positions old.core.state.forest) positions stands.state.forest roots_after text line is
 
 -- by how the work ended
-module _ {D : Type 0} (old mid new : SessionState D) (positions : List Board) (m : ℕ) (begins : HasBegun old positions m mid) (stood : IsCoreOf mid.line mid.core) (grows : GrowsTo MayAddInTurn mid.line new.line) where
-  pub run_done : IsEndedBy Done new → HasRun old positions new true
+module _ {D : Type 0} (old mid new : SessionState D) (positions : List Board) (m : ℕ) (begins : HasBegun old positions m mid) (stood : IsCoreOf mid.line mid.core) (grows : GrowsTo MayAddInTurn mid.line new.line)
+    (lease : ℕ) (searched : HasSearched lease mid.core new.line) where
+  pub run_done : IsEndedBy Done new → HasRun lease old positions new true
   run_done done = record {
     begun = mid;
     moment = m;
     begins = begins;
     stood = stood;
     grows = grows;
+    searched = searched;
     idle = done.0;
     settled_is = sym done.1;
     spent = λ h. absurd (true≢false h);
   }
 
-  pub run_spent : IsEndedBy Spent new → HasRun old positions new false
+  pub run_spent : IsEndedBy Spent new → HasRun lease old positions new false
   run_spent spent = record {
     begun = mid;
     moment = m;
     begins = begins;
     stood = stood;
     grows = grows;
+    searched = searched;
     idle = spent.0;
     settled_is = sym spent.1.0;
     spent = λ h. spent.1.1;
   }
 
 -- and then written
-module _ {D : Type 0} (old new : SessionState D) (positions : List Board) (settled : Bool) (run : HasRun old positions new settled) (was : IsIdle old) (stood : IsCoreOf old.line old.core) (stands : IsCoreOf new.line new.core) where
-  pub worked_run : (text_of : Forest → List ℕ) (text : List ℕ) (told : Bool) → text ≡ text_of new.core.state.forest → told ≡ settled → IsHistory new.line new.core → HasWorked text_of old positions new text told
+module _ {D : Type 0} (lease : ℕ) (old new : SessionState D) (positions : List Board) (settled : Bool) (run : HasRun lease old positions new settled) (was : IsIdle old) (stood : IsCoreOf old.line old.core) (stands : IsCoreOf new.line new.core) where
+  pub worked_run : (text_of : Forest → List ℕ) (text : List ℕ) (told : Bool) → text ≡ text_of new.core.state.forest → told ≡ settled → IsHistory new.line new.core → HasWorked text_of lease old positions new text told
   worked_run text_of text told text_is told_is history =
-      worked_from old run.begun positions run.moment run.begins new was stood run.grows run.idle stands text_of text told text_is (told_is ∙ run.settled_is) (λ h. run.spent (sym told_is ∙ h)) run.stood history
+      worked_from old run.begun positions run.moment run.begins new was stood run.grows run.idle stands text_of lease text told text_is (told_is ∙ run.settled_is) (λ h. run.spent (sym told_is ∙ h)) run.stood run.searched history
 
   pub truth_run : (text : List ℕ) → AreTrueRoots (forest_roots new.core.state.forest) → length (forest_roots new.core.state.forest) ≤ 65536 → text ≡ report_of (forest_roots new.core.state.forest) → ReportsTruth positions text
   truth_run text values few is = truth_after old run.begun positions run.moment run.begins new was stood run.grows run.idle stands text values few is
@@ -263,7 +271,16 @@ pub begin_failed : {D : Type 0} (faults : D → ℕ) (old new : SessionState D) 
 begin_failed faults old new positions refusal h is =
     let broken = subst (RefusesBegin faults old positions new) is h in broken_fails old new positions (faults new.disk) broken.1.0
 
--- a session that had failed stays as it was
-pub failed_goes_on : {D : Type 0} (faults : D → ℕ) (old new : SessionState D) (positions : List Board) (refusal : BeginRefusal) → RefusesBegin faults old positions new refusal → refusal ≡ begin.Failed → GoesOnFrom old.line new.line
-failed_goes_on faults old new positions refusal h is =
-    let failed = subst (RefusesBegin faults old positions new) is h in ([], ap (λ (s : SessionState _). s.line) failed.1 ∙ sym (append-nil old.line))
+-- what stays as it was goes on from itself
+same_goes_on : {D : Type 0} (old new : SessionState D) → new ≡ old → GoesOnFrom old.line new.line
+same_goes_on old new is = ([], ap (λ (s : SessionState _). s.line) is ∙ sym (append-nil old.line))
+
+module _ {D : Type 0} (faults : D → ℕ) (old new : SessionState D) (positions : List Board) (refusal : BeginRefusal) (refuses : RefusesBegin faults old positions new refusal) where
+  pub failed_goes_on : refusal ≡ begin.Failed → GoesOnFrom old.line new.line
+  failed_goes_on is = let failed = subst (RefusesBegin faults old positions new) is refuses in same_goes_on old new failed.1
+
+  pub too_many_go_on : refusal ≡ begin.TooManyRoots → GoesOnFrom old.line new.line
+  too_many_go_on is = let many = subst (RefusesBegin faults old positions new) is refuses in same_goes_on old new many.1
+
+  pub memory_goes_on : (error : AllocError) → refusal ≡ begin.Memory error → GoesOnFrom old.line new.line
+  memory_goes_on error is = same_goes_on old new (subst (RefusesBegin faults old positions new) is refuses)

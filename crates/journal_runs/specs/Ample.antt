@@ -1,5 +1,5 @@
 -- A budget that is enough to settle every root: looking ahead decides each root that has no value yet,
--- and there is a work record for each of them.
+-- and there is a work record for each of them. And one that is enough for a search of each root.
 use Rattle.std.specs.Prelude.{◌≡◌, ◌≤◌, ◌⊎◌, ℕ, not, List, [], ◌++◌, map, count_by, is_some, IsSome}
 use Rattle.std.specs.List.{AllByRecursion as Each}
 use Rattle.draughts_board.specs.Board.{Board}
@@ -13,6 +13,7 @@ use Rattle.bench_records.specs.declared.records.BenchRecord.TheVariants.{Begin}
 use Rattle.bench_core.specs.Records.{begun}
 use Rattle.bench_core.specs.Growing.{IsForestOf}
 use Rattle.tree_manager.specs.Sessions.{session_budget, with_roots}
+use Rattle.journal_runs.specs.declared.first_pass.TheConstants.{MOST_FIRST}
 
 -- with tables of k pieces, looking so far ahead shows a win of one side, or that both hold
 abbrev pub ShowsValue : ℕ → ℕ → Board → Type 0
@@ -50,3 +51,17 @@ pub record IsAmple (k depth budget : ℕ) (positions : List Board) (before : Lis
   pub begins : IsForestOf k (before ++ map Begin added) roots
   pub within : Each (IsWithinReach k depth) (nodes roots)
   pub enough : unsettled_roots roots ≤ session_budget budget before
+
+-- Of the records as which a journal reads, and of the positions at which roots are begun: each root of
+-- their forest that has no value is unexpanded. The session's budget is no lower than the number of
+-- these, and neither is the number of leases that live at one time, nor that of a first pass.
+pub record IsRoomForEach (k budget lease : ℕ) (positions : List Board) (before : List BenchRecord)
+    : Type 0 where
+  pub added : List Board
+  pub all : begun before ++ added ≡ with_roots (begun before) positions
+  pub roots : Forest
+  pub begins : IsForestOf k (before ++ map Begin added) roots
+  pub fresh : Each IsSettledOrFresh (nodes roots)
+  pub enough : unsettled_roots roots ≤ session_budget budget before
+  pub together : unsettled_roots roots ≤ lease
+  pub few : unsettled_roots roots ≤ MOST_FIRST

@@ -2,13 +2,14 @@
 -- pieces.
 use Rattle.std.specs.Prelude.{◌≡◌, ◌≤◌, ◌<◌, ◌⊎◌, ◌+◌, ℕ, Bool, true, false, List, ◌++◌, count_by, length, Contains}
 use Rattle.std.specs.Bool.{OnFalse}
+use Rattle.std.specs.List.{AllByRecursion as Each}
 use Rattle.bench_disk.specs.declared.disk.Disk.{Ghosts}
 use Rattle.bench_disk.specs.Disk.{IsHonest, NothingPending, Stays}
 use Rattle.shared_words.specs.Counts.{Rose}
 use Rattle.disk_journal.specs.Refusals.{Explains, says_nothing_of_file}
 use Rattle.disk_journal.specs.declared.refusal.JournalRefusal.{JournalRefusal}
 use Rattle.draughts_board.specs.Board.{Board}
-use Rattle.proof_tree.specs.Forest.{Forest}
+use Rattle.proof_tree.specs.Forest.{Forest, nodes}
 use Rattle.proof_tree.specs.Sound.{root_positions}
 use Rattle.bench_records.specs.declared.records.BenchRecord.{BenchRecord}
 use Rattle.bench_core.specs.Records.{is_work, begun}
@@ -24,7 +25,7 @@ use Rattle.journal_runs.specs.declared.refusals.RunRefusal.{RunRefusal}
 use Rattle.journal_runs.specs.declared.refusals.RunRefusal.TheVariants as refusal
 use Rattle.journal_runs.specs.declared.runs.Account.{Account}
 use Rattle.journal_runs.specs.declared.runs.Account.TheVariants.{Report, Summary}
-use Rattle.journal_runs.specs.Ample.{IsAmple}
+use Rattle.journal_runs.specs.Ample.{IsAmple, IsReached, IsRoomForEach}
 use Rattle.proof_tree.specs.declared.tree.TheConstants.{MOST_ROOTS}
 
 -- ---- what is left of the disk
@@ -67,8 +68,9 @@ module _ {D : Type 0} (g : Ghosts D) where
 
   -- The run went on from the records of before, and the journal reads as these and those that it
   -- added. The text is that of their forest, whose roots are the old ones and then the positions
-  -- that were none. An ample budget settles every root.
-  pub record Resumes (text_of : Forest → List ℕ) (pieces depth budget : ℕ)
+  -- that were none. An ample budget settles every root. With room for a search of each root, each that
+  -- looking ahead shows has its value, whatever the others are.
+  pub record Resumes (text_of : Forest → List ℕ) (pieces depth budget lease : ℕ)
       (positions : List Board) (old new : D) (text : List ℕ) (is_settled : Bool) : Type 0 where
     pub before : List BenchRecord
     pub added : List BenchRecord
@@ -81,6 +83,8 @@ module _ {D : Type 0} (g : Ghosts D) where
     pub crash : Recovers pieces before (before ++ added) old new
     pub ends : SettlesOrSpends budget before added roots is_settled
     pub ample : IsAmple pieces depth budget positions before → is_settled ≡ true
+    pub reached : IsRoomForEach pieces budget lease positions before
+        → Each (IsReached pieces depth) (nodes roots)
 
 -- The text is the report of roots, each with no value but the true one. Each of the positions is
 -- one of them, and no position is two of them.

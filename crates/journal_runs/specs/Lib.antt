@@ -3,4 +3,3 @@ pub mod Conversions
 pub mod Ends
 pub mod FirstPass
 pub mod Journals
-pub mod Limits

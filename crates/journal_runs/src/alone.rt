@@ -6,11 +6,12 @@ ghost use Rattle.journal_runs.specs.Ends.{IsEndedBy, IsIdle};
 
 use bench_core::LeaseRefusal;
 use bench_disk::Disk;
-use leaf_search::{MOST_DEPTH, Memo, search};
+use certificate_checker::MOST_DEPTH;
+use leaf_search::Memo;
 use std::alloc::{AllocError, Global};
 use strategy_certificate::Oracle;
 use tree_manager::{Session, StageRefusal};
-use worker_gate::Ended;
+use worker_gate::{Ended, search_lease};
 
 /// How many positions are remembered in which looking ahead shows no win.
 const REMEMBERED: usize = 65_536;
@@ -19,6 +20,7 @@ const REMEMBERED: usize = 65_536;
 pub(crate) const ONLY_WORKER: u32 = 1;
 
 /// Searches the leaf that is next, and commits what was found: one work record more is applied. Else it answers why not.
+#[tactic(auto, using(worker_gate::proofs::SearchingLemmas::leased_can_be))]
 fn settle_leaf<D: Disk, O: Oracle>(
     alloc: Global,
     session: &mut Session<D>,
@@ -47,14 +49,7 @@ fn settle_leaf<D: Disk, O: Oracle>(
         Err(LeaseRefusal::Memory(_)) => return Some(Ended::Memory),
         Err(LeaseRefusal::NoLeaf { .. }) => unreachable!(),
     };
-    let outcome = match search(
-        alloc,
-        &lease.position,
-        lease.goal,
-        lease.depth,
-        oracle,
-        memo,
-    ) {
+    let outcome = match search_lease(alloc, &lease, oracle, memo) {
         Ok(outcome) => outcome,
         Err(AllocError) => return Some(Ended::Memory),
     };

@@ -1,12 +1,18 @@
 //! The first pass of a run: one search for each root, before there is a second one for any.
-ghost use Rattle.std.specs.Prelude.{◌≡◌, ◌≤◌, ◌+◌, ◌-◌, true, length, All, IfOk, IfErr, IfSome};
+ghost use Rattle.std.specs.Prelude.{◌≡◌, ◌≤◌, ◌+◌, ◌-◌, ◌++◌, [], ℕ, List, true, length, All, Contains, IfOk, IfErr, IfSome, IfNone, OnOk};
 ghost use Rattle.std.specs.List.{AllByRecursion as Each};
 ghost use Rattle.proof_tree.specs.Forest.{nodes};
-ghost use Rattle.tree_manager.specs.Turns.{GrowsByTurns, AreRootCounts, AsksForSearch};
+ghost use Rattle.bench_core.specs.Answers.{unkept};
+ghost use Rattle.bench_core.specs.Cores.{record_of};
+ghost use Rattle.bench_core.specs.States.{IsSoundState};
+ghost use Rattle.lease_table.specs.declared.leases.Lease.{Lease as GivenLease};
+ghost use Rattle.tree_manager.specs.declared.entries.Entry.TheVariants as entry;
+ghost use Rattle.tree_manager.specs.Histories.{IsCoreOf};
+ghost use Rattle.tree_manager.specs.Sessions.{Appends};
+ghost use Rattle.tree_manager.specs.Turns.{GrowsByTurns, AsksForSearch};
 ghost use Rattle.worker_gate.specs.Work.{CanSearch, is_value_told};
 ghost use Rattle.journal_runs.specs.Ample.{IsSettledOrFresh, unsettled_roots};
-ghost use Rattle.journal_runs.specs.Ends.{IsEndedBy};
-ghost use Rattle.journal_runs.specs.FirstPass.{GrowsNoRoot};
+ghost use Rattle.journal_runs.specs.FirstPass.{Applies, GrowsNoRoot, HasRoomForEach, IsAllLeased, IsPassingWith, IsSearched, IsStoppedBy, LeasesNext, leases_found, leases_waiting};
 ghost use Rattle.journal_runs.specs.declared.first_pass.TheConstants.{MOST_FIRST};
 
 use crate::alone::ONLY_WORKER;
@@ -43,7 +49,10 @@ pub(crate) fn first_pass<R: Threads + Sync, D: Disk, O: Oracle + Sync, G: Gate +
 ) -> Result<(), Ended>
     requires { CanSearch (O.piece_limit oracle.now) session.old.line }
     ensures grows { GrowsByTurns session.old.line session.new.line }
-    ensures ended { IfErr result (λ ended. IsEndedBy ended session.new) }
+    ensures stands { OnOk result (IsCoreOf session.new.line session.new.core) }
+    ensures searched { HasRoomForEach session.old.core lease
+        → OnOk result (IsSearched session.new.core) }
+    ensures stopped { IfErr result (λ ended. IsStoppedBy ended session.new) }
 {
     let most = most_first(session, lease);
     let waiting = search_roots(rt, alloc, session, workers, most, oracle, gate)?;
@@ -64,7 +73,9 @@ fn search_roots<R: Threads + Sync, D: Disk, O: Oracle + Sync, G: Gate + Sync>(
 ) -> Result<VecDeque<LeaseResult>, Ended>
     requires { CanSearch (O.piece_limit oracle.now) session.old.line }
     ensures ungrown { GrowsNoRoot session.old.line session.new.line }
-    ensures ended { IfErr result (λ ended. IsEndedBy ended session.new) }
+    ensures all { IsPassingWith session.old.core [] most → IfOk result (λ waiting.
+        IsAllLeased session.new.core (leases_waiting waiting.items)) }
+    ensures stopped { IfErr result (λ ended. IsStoppedBy ended session.new) }
 {
     let mut waiting = VecDeque::new(alloc);
     let mut left = most;
@@ -75,7 +86,7 @@ fn search_roots<R: Threads + Sync, D: Disk, O: Oracle + Sync, G: Gate + Sync>(
             break;
         }
         left -= roots.len();
-        let counts = count_roots(session.bench().tree());
+        let counts = RootCounts::of(session.bench().tree());
         let found = match search_together(rt, alloc, &roots, workers, oracle, gate, counts) {
             Ok(found) => found,
             Err(AllocError) => return Err(Ended::Memory),
@@ -97,6 +108,7 @@ fn most_first<D: Disk>(session: &Session<D>, lease: u32) -> usize
         ≤ session.now.core.state.settings.budget
         → unsettled_roots session.now.core.state.forest ≤ lease
         → result ≡ unsettled_roots session.now.core.state.forest }
+    ensures sound { IsSoundState session.now.core.state }
 {
     let bench = session.bench();
     let records_left = u64::from(bench.budget()).saturating_sub(bench.work()) as usize;
@@ -124,20 +136,6 @@ fn fresh_roots(tree: &Tree) -> usize
     fresh
 }
 
-/// How many roots there are, and how many of them are settled.
-fn count_roots(tree: &Tree) -> RootCounts
-    ensures { AreRootCounts result tree.now.forest }
-{
-    let all = tree.roots();
-    let mut settled = 0;
-    for place in 0..all {
-        if tree.settled(place + 1).is_some() {
-            settled += 1;
-        }
-    }
-    RootCounts { all, settled }
-}
-
 /// Leases at most `most` roots, as long as the pick gives one.
 #[tactic(auto, using(crate::proofs::FirstPassLemmas::ungrown_then))]
 fn lease_roots<D: Disk>(
@@ -148,7 +146,13 @@ fn lease_roots<D: Disk>(
     ensures ungrown { GrowsNoRoot session.old.line session.new.line }
     ensures leases { IfOk result (λ roots. All (AsksForSearch session.new.line) roots.items) }
     ensures few { IfOk result (λ roots. length roots.items ≤ most) }
-    ensures ended { IfErr result (λ ended. IsEndedBy ended session.new) }
+    ensures passes { (leased : List GivenLease) (rest : ℕ) → most ≤ rest
+        → IsPassingWith session.old.core leased rest → IfOk result (λ roots.
+        IsPassingWith session.new.core (leased ++ roots.items) (rest - length roots.items)) }
+    ensures all { (leased : List GivenLease) (rest : ℕ) → 1 ≤ most → most ≤ rest
+        → IsPassingWith session.old.core leased rest → IfOk result (λ roots.
+        roots.items ≡ [] → IsAllLeased session.new.core leased) }
+    ensures stopped { IfErr result (λ ended. IsStoppedBy ended session.new) }
 {
     let mut roots = Vec::new(alloc);
     while roots.len() < most {
@@ -168,7 +172,11 @@ fn lease_roots<D: Disk>(
 fn lease_root<D: Disk>(session: &mut Session<D>) -> Result<Option<Lease>, Ended>
     ensures ungrown { GrowsNoRoot session.old.line session.new.line }
     ensures lease { IfOk result (λ next. IfSome next (AsksForSearch session.new.line)) }
-    ensures ended { IfErr result (λ ended. IsEndedBy ended session.new) }
+    ensures next { (leased : List GivenLease) (rest : ℕ)
+        → IsPassingWith session.old.core leased (rest + 1)
+        → IfOk result (LeasesNext session.new.core leased rest) }
+    ensures unchanged { IfOk result (λ next. IfNone next (session.new ≡ session.old)) }
+    ensures stopped { IfErr result (λ ended. IsStoppedBy ended session.new) }
 {
     match session.lease(ONLY_WORKER) {
         Ok(lease) => Ok(Some(lease)),
@@ -188,7 +196,11 @@ fn record_values<D: Disk>(
     waiting: &mut VecDeque<LeaseResult>,
 ) -> Result<(), Ended>
     ensures ungrown { GrowsNoRoot session.old.line session.new.line }
-    ensures ended { IfErr result (λ ended. IsEndedBy ended session.new) }
+    ensures passes { (rest : ℕ) → IsPassingWith session.old.core
+        (leases_waiting waiting.old.items ++ leases_found found.items) rest
+        → OnOk result (IsPassingWith session.new.core
+        (leases_waiting waiting.new.items) rest) }
+    ensures stopped { IfErr result (λ ended. IsStoppedBy ended session.new) }
 {
     while let Some(
         LeafFound {
@@ -216,7 +228,10 @@ fn record_rest<D: Disk>(
     mut waiting: VecDeque<LeaseResult>,
 ) -> Result<(), Ended>
     ensures grows { GrowsByTurns session.old.line session.new.line }
-    ensures ended { IfErr result (λ ended. IsEndedBy ended session.new) }
+    ensures stands { OnOk result (IsCoreOf session.new.line session.new.core) }
+    ensures searched { IsAllLeased session.old.core (leases_waiting waiting.items)
+        → OnOk result (IsSearched session.new.core) }
+    ensures stopped { IfErr result (λ ended. IsStoppedBy ended session.new) }
 {
     while let Some(result) = waiting.pop_front() {
         stage(session, result)?;
@@ -230,7 +245,10 @@ fn stage<D: Disk>(session: &mut Session<D>, found: LeaseResult) -> Result<(), En
     ensures grows { GrowsByTurns session.old.line session.new.line }
     ensures ungrown { is_value_told found.outcome ≡ true
         → GrowsNoRoot session.old.line session.new.line }
-    ensures ended { IfErr result (λ ended. IsEndedBy ended session.new) }
+    ensures staged { Contains session.old.core.state.leases.rows (unkept found.lease)
+        → OnOk result (Appends session.old
+        (entry.Put (record_of found.lease found.outcome)) session.new) }
+    ensures stopped { IfErr result (λ ended. IsStoppedBy ended session.new) }
 {
     match session.stage_numbered(found) {
         Ok(_) | Err(StageRefusal::Stale(_)) => Ok(()),
@@ -243,7 +261,10 @@ fn stage<D: Disk>(session: &mut Session<D>, found: LeaseResult) -> Result<(), En
 #[tactic(auto, using(crate::proofs::FirstPassLemmas::commit_ungrown))]
 fn commit<D: Disk>(session: &mut Session<D>) -> Result<(), Ended>
     ensures ungrown { GrowsNoRoot session.old.line session.new.line }
-    ensures ended { IfErr result (λ ended. IsEndedBy ended session.new) }
+    ensures applies { OnOk result (Applies session.old.core session.new.core) }
+    ensures none_staged { OnOk result (session.new.core.staged ≡ []) }
+    ensures stands { OnOk result (IsCoreOf session.new.line session.new.core) }
+    ensures stopped { IfErr result (λ ended. IsStoppedBy ended session.new) }
 {
     match session.commit() {
         Ok(_) => Ok(()),

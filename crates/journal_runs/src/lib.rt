@@ -20,7 +20,9 @@
 //! added ones, and the report is that of their forest. Its roots are the old ones and then the new
 //! openings. A root is unsettled only if the run added as many work records as the session's
 //! budget. None is unsettled where the budget was ample: looking ahead shows a value at each root
-//! without one, and there is a record for each.
+//! without one, and there is a record for each. And root by root: where each root without a value
+//! is unexpanded, and a record and a lease are there for each of at most 4,096, each of them has
+//! its value in the end of which looking ahead shows one, whatever the others are.
 //!
 //! Tests: session_tests/src/runs.rt
 #![tactic(auto)]

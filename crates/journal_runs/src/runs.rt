@@ -9,7 +9,7 @@ ghost use Rattle.tree_manager.specs.Histories.{IsCoreOf, IsHistory};
 ghost use Rattle.tree_manager.specs.Lines.{is_failed};
 ghost use Rattle.worker_gate.specs.Work.{CanSearch};
 ghost use Rattle.journal_runs.specs.Ends.{GoesOnFrom, HasRun, HasWorked, IsIdle, IsWorkRefusal, out_of_memory};
-ghost use Rattle.journal_runs.specs.Limits.{AreWithinLimits};
+ghost use Rattle.strategy_certificate.specs.Tables.{IsTableSize};
 ghost use Rattle.journal_runs.specs.Journals.{IsCaused, IsTrueAccount, LeavesJournal, Resumes, account_of};
 ghost use Rattle.journal_runs.specs.declared.refusals.RunRefusal.TheVariants as refusal;
 ghost use Rattle.proof_tree.specs.declared.tree.TheConstants.{MOST_ROOTS};
@@ -18,10 +18,10 @@ use crate::refusals::RunRefusal;
 use crate::together::work_together;
 use bench_core::Settings;
 use bench_disk::Disk;
+use certificate_checker::MOST_DEPTH;
 use disk_journal::JournalRefusal;
 use draughts_board::Position;
 use endgame_table::fill;
-use leaf_search::MOST_DEPTH;
 use opening_report::{Written, report_text, summary_text};
 use std::alloc::{AllocError, Global};
 use std::sync::Wait;
@@ -65,13 +65,13 @@ pub fn solve<R: Threads + Wait + Sync, D: Disk + Send, G: Gate + Sync>(
     positions: &[Position],
     gate: &G,
 ) -> (D, Result<Written, RunRefusal>)
-    requires { AreWithinLimits plan.now.settings }
+    requires { IsTableSize plan.now.settings.pieces }
     ensures leaves { LeavesJournal D.Disk plan.now.settings.pieces disk result.0 }
     ensures does { IsHonest D.TELLS → IfOk result.1 (λ written.
         Resumes D.Disk
         (account_of plan.now.account) plan.now.settings.pieces plan.now.settings.depth
-        plan.now.settings.budget positions.now disk result.0 written.text.items
-        written.is_settled) }
+        plan.now.settings.budget plan.now.settings.lease positions.now disk result.0
+        written.text.items written.is_settled) }
     ensures shows { IfOk result.1
         (λ written. IsTrueAccount plan.now.account positions.now written.text.items) }
     ensures fault { IfErr result.1
@@ -108,7 +108,7 @@ fn run_session<R: Threads + Wait + Sync, D: Disk + Send, O: Oracle + Sync, G: Ga
     requires stands { IsCoreOf session.line session.core }
     ensures goes_on { GoesOnFrom session.line result.0.line }
     ensures worked { IfOk result.1 (λ written. HasWorked
-        (account_of plan.now.account) session positions.now result.0
+        (account_of plan.now.account) plan.now.settings.lease session positions.now result.0
         written.text.items written.is_settled) }
     ensures shows { IfOk result.1
         (λ written. IsTrueAccount plan.now.account positions.now written.text.items) }
@@ -197,7 +197,7 @@ fn work_on<R: Threads + Wait + Sync, D: Disk + Send, O: Oracle + Sync, G: Gate +
     requires depth { session.core.state.settings.depth ≤ MOST_DEPTH }
     requires stands { IsCoreOf session.line session.core }
     ensures goes_on { GoesOnFrom session.line result.0.line }
-    ensures worked { IfOk result.1 (HasRun session positions.now result.0) }
+    ensures worked { IfOk result.1 (HasRun lease session positions.now result.0) }
     ensures fault { IfErr result.1
         (λ r. r ≡ refusal.Journal journal.DiskFault → is_failed result.0.line ≡ true) }
     ensures refused { IfErr result.1 (IsWorkRefusal session positions.now) }

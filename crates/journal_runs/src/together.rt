@@ -1,14 +1,15 @@
 //! Work on a session by many workers, and what follows it.
-ghost use Rattle.std.specs.Prelude.{◌≡◌, ◌≤◌};
+ghost use Rattle.std.specs.Prelude.{◌≡◌, ◌≤◌, ◌⊎◌};
 ghost use Rattle.tree_manager.specs.Lines.{session_pieces, session_depth};
 ghost use Rattle.tree_manager.specs.Turns.{GrowsByTurns};
 ghost use Rattle.worker_gate.specs.Work.{CanSearch};
 ghost use Rattle.journal_runs.specs.Ends.{IsEndedBy};
+ghost use Rattle.journal_runs.specs.FirstPass.{HasSearched};
 
 use crate::alone::work_alone;
 use crate::first_pass::first_pass;
 use bench_disk::Disk;
-use leaf_search::MOST_DEPTH;
+use certificate_checker::MOST_DEPTH;
 use std::alloc::{AllocError, Global};
 use std::sync::Wait;
 use std::thread::Threads;
@@ -73,6 +74,8 @@ pub fn work_together<R: Threads + Wait + Sync, D: Disk + Send, O: Oracle + Sync,
     requires tables { O.piece_limit oracle.now ≡ session_pieces session.line }
     requires depth { session_depth session.line ≤ MOST_DEPTH }
     ensures grows { GrowsByTurns session.line result.0.line }
+    ensures searched { (result.1 ≡ Ended.Done) ⊎ (result.1 ≡ Ended.Spent)
+        → HasSearched lease session.core result.0.line }
     ensures ended { IsEndedBy result.1 result.0 }
 {
     let mut session = session;

@@ -14,14 +14,11 @@ use crate::fortress::prove_fortress;
 use crate::holds::find_hold;
 use crate::memo::Memo;
 use crate::wins::find_win;
-use certificate_checker::{CheckRefusal, Exhausted, Outcome, ProofList, Proved, check};
+use certificate_checker::{CheckRefusal, Exhausted, MOST_DEPTH, Outcome, ProofList, Proved, check};
 use draughts_board::{Position, Side};
 use std::alloc::{AllocError, Global};
 use strategy_certificate::{Certificate, HoldPart, Oracle, Part, PartList, WinPart};
 use swift_sight::children_at_sight;
-
-/// No search looks further ahead.
-pub const MOST_DEPTH: u8 = 12;
 
 /// The want of memory that a refusal is.
 fn want_of_memory(refusal: &CheckRefusal) -> AllocError

@@ -28,6 +28,6 @@ mod sight;
 mod wins;
 
 pub use fortress::prove_fortress;
-pub use leaf::{MOST_DEPTH, search};
+pub use leaf::search;
 pub use memo::Memo;
 pub use sight::is_undecided;

@@ -1,5 +1,10 @@
 //! The table of leases.
-ghost use Rattle.std.specs.Prelude.{◌≡◌};
+ghost use Rattle.std.specs.Prelude.{◌≡◌, ℕ, ◌≤◌, ◌<◌, ◌+◌, ◌⊎◌, false, Some, None, IsSome, OnOk, is_some, eqb, if◌then◌else◌, count_by, filter, find, map, length, slice_get};
+ghost use Rattle.std.specs.List.{IsDistinct};
+ghost use Rattle.std.specs.Map.{lookup, keys_of};
+ghost use Rattle.std.specs.Option.{option_flatten, option_map, option_map_or};
+ghost use Rattle.indexmap.specs.IndexMap.{insert_entry, spare};
+ghost use Rattle.lease_table.specs.Rows.{is_of, is_live_row, is_waiting_row};
 
 use crate::leases::{Lease, LeaseId, Row, Stale};
 use indexmap::IndexMap;
@@ -231,13 +236,6 @@ impl Leases {
         self.rows.retain(|_, row| lives(row, limit, now));
     }
 }
-
-ghost use Rattle.std.specs.Prelude.{ℕ, ◌≤◌, ◌<◌, ◌+◌, ◌⊎◌, false, Some, None, IsSome, OnOk, is_some, eqb, if◌then◌else◌, count_by, filter, find, map, length, slice_get};
-ghost use Rattle.std.specs.List.{IsDistinct};
-ghost use Rattle.std.specs.Map.{lookup, keys_of};
-ghost use Rattle.std.specs.Option.{option_flatten, option_map, option_map_or};
-ghost use Rattle.indexmap.specs.IndexMap.{insert_entry, spare};
-ghost use Rattle.lease_table.specs.Rows.{is_of, is_live_row, is_waiting_row};
 
 /// Whether there is a row that lives at this number, in a table of this limit.
 fn lives(row: &Option<Row>, limit: u32, now: u128) -> bool

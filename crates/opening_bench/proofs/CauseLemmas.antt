@@ -41,7 +41,7 @@ use Rattle.opening_bench.specs.Bench.{IsCommandRefusal, ReadsSource}
 use Rattle.opening_bench.specs.Commands.{HasFault, source_limit}
 use Rattle.opening_bench.specs.Disks.{HasDiskFault, IsRefusedRun}
 use Rattle.opening_bench.specs.Steps.{AnswersBytes, RefusesBytes}
-use Rattle.opening_bench.specs.declared.commands.generate.TheConstants.{GENERATE_DEPTH, GENERATE_PIECES}
+use Rattle.opening_bench.specs.declared.commands.generate.TheConstants.{GENERATE_DEPTH, GENERATE_LEASE, GENERATE_PIECES}
 
 -- ---- what a status shows
 
@@ -192,25 +192,25 @@ module _ {D : Type 0} (g : Ghosts D) where
       inr (inr (record { input = bytes; is_input = is_input; fault = fault; end = end; counted = counted }))
 
   -- a look that gives no certificate
-  pub uncertified : (X : Type 0) (root : ℕ) (old new : D) (fault : LookRefusal) (r : Refusal) → r ≡ of_look fault
+  pub uncertified_is_caused : (X : Type 0) (root : ℕ) (old new : D) (fault : LookRefusal) (r : Refusal) → r ≡ of_look fault
       → (◌≡◌ {A = Result X LookRefusal} (Err fault) (Err (look.Journal journal.DiskFault)) → Rose (g.faults old) (g.faults new))
       → (IsHonest g.TELLS → ExplainsNoCertificate (g.reads old) root fault)
       → RefusesBytes g (Certify root) [] old new r
-  uncertified X root old new fault r is cause explained =
+  uncertified_is_caused X root old new fault r is cause explained =
       inr (record { fault = fault; is = is; disk = (λ e. cause (ap (λ (q : LookRefusal). Err q) e)); explained = explained })
 
   -- ---- openings that are made from a seed
 
   pub counts_answer : {X : Type 0} (seed count : ℕ) (positions seen : List Board) (old new : D) (answer : Result X Refusal) (text : X → List ℕ) (settled : X → Bool)
       → positions ≡ openings_from seed count → seen ≡ positions
-      → (IsHonest g.TELLS → IfOk answer (λ x. Resumes g (λ roots. summary_line (forest_roots roots)) GENERATE_PIECES GENERATE_DEPTH count seen old new (text x) (settled x)))
+      → (IsHonest g.TELLS → IfOk answer (λ x. Resumes g (λ roots. summary_line (forest_roots roots)) GENERATE_PIECES GENERATE_DEPTH count GENERATE_LEASE seen old new (text x) (settled x)))
       → IfOk answer (λ x. CountsRoots seen (text x))
       → IfOk answer (λ x. AnswersBytes g (Generate seed count) [] old new (text x) (settled x))
   counts_answer seed count positions seen old new (Ok x) text settled is same resumes counts =
       let all : seen ≡ openings_from seed count = same ∙ is in
       record {
         answers = subst (λ (ps : List Board). CountsRoots ps (text x)) all counts;
-        shows = λ honest. subst (λ (ps : List Board). Resumes g (λ roots. summary_line (forest_roots roots)) GENERATE_PIECES GENERATE_DEPTH count ps old new (text x) (settled x)) all (resumes honest);
+        shows = λ honest. subst (λ (ps : List Board). Resumes g (λ roots. summary_line (forest_roots roots)) GENERATE_PIECES GENERATE_DEPTH count GENERATE_LEASE ps old new (text x) (settled x)) all (resumes honest);
       }
   counts_answer seed count positions seen old new (Err e) text settled is same resumes counts = tt
 

@@ -64,8 +64,8 @@ without_r (x ∷ line) h =
 
 -- ---- the lines of a certificate
 
-small : (n : ℕ) → n < 2 ^ 64 → Lacks 114 (decimal n)
-small n few = Lacks-decimal 114 n refl few
+decimal_lacks_r : (n : ℕ) → n < 2 ^ 64 → Lacks 114 (decimal n)
+decimal_lacks_r n few = Lacks-decimal 114 n refl few
 
 side_lacks : (side : Side) → Lacks 114 (side_word side)
 side_lacks Black = refl
@@ -75,7 +75,7 @@ further_lacks : (sep : ℕ) (squares : List ℕ) → sep ≢ 114 → All IsSquar
 further_lacks sep [] apart all = refl
 further_lacks sep (n ∷ squares) apart all =
     let one = All-head IsSquare n squares all in
-    Lacks-append 114 (sep ∷ decimal n) (further_squares sep squares) (Lacks-cons 114 sep (decimal n) apart (small n (omega arith))) (further_lacks sep squares apart (All-tail IsSquare n squares all))
+    Lacks-append 114 (sep ∷ decimal n) (further_squares sep squares) (Lacks-cons 114 sep (decimal n) apart (decimal_lacks_r n (omega arith))) (further_lacks sep squares apart (All-tail IsSquare n squares all))
 
 sep_is_no_r : (path : List ℕ) → separator path ≢ 114
 sep_is_no_r [] e = omega (arith, e)
@@ -90,7 +90,7 @@ squares_lack : (sep : ℕ) (path : List ℕ) → sep ≢ 114 → All IsSquare pa
 squares_lack sep [] apart all = refl
 squares_lack sep (a ∷ squares) apart all =
     let one = All-head IsSquare a squares all in
-    Lacks-append 114 (decimal a) (further_squares sep squares) (small a (omega arith)) (further_lacks sep squares apart (All-tail IsSquare a squares all))
+    Lacks-append 114 (decimal a) (further_squares sep squares) (decimal_lacks_r a (omega arith)) (further_lacks sep squares apart (All-tail IsSquare a squares all))
 
 choice_lacks : (chosen : Option (List ℕ)) → IfSome chosen IsPath → Lacks 114 (choice_text chosen)
 choice_lacks None path = refl
@@ -111,11 +111,11 @@ safe_append : (front back : List Line) → Safe front → Safe back → Safe (fr
 safe_append [] back one two = two
 safe_append (l ∷ front) back one two = (one.0, safe_append front back one.1 two)
 
-counted : (word : List ℕ) (side : Side) (count : ℕ) → Lacks 114 word → count < 2 ^ 32 → no_ro ((word ++ (side_word side ++ 32 ∷ decimal count)) ++ 10 ∷ []) ≡ true
-counted word side count lacks few =
+count_line_safe : (word : List ℕ) (side : Side) (count : ℕ) → Lacks 114 word → count < 2 ^ 32 → no_ro ((word ++ (side_word side ++ 32 ∷ decimal count)) ++ 10 ∷ []) ≡ true
+count_line_safe word side count lacks few =
     without_r (word ++ (side_word side ++ 32 ∷ decimal count))
     (Lacks-append 114 word (side_word side ++ 32 ∷ decimal count) lacks
-    (Lacks-append 114 (side_word side) (32 ∷ decimal count) (side_lacks side) (Lacks-cons 114 32 (decimal count) (λ e. omega (arith, e)) (small count (omega (arith, few))))))
+    (Lacks-append 114 (side_word side) (32 ∷ decimal count) (side_lacks side) (Lacks-cons 114 32 (decimal count) (λ e. omega (arith, e)) (decimal_lacks_r count (omega (arith, few))))))
 
 win_rows : (rows : List (Board × WinEntry)) → All IsWinRow rows → Safe (map win_line rows)
 win_rows [] all = tt
@@ -124,7 +124,7 @@ win_rows (row ∷ rows) all =
       without_r (line_text (win_line row))
           (Lacks-append 114 (fen_of row.0) (32 ∷ (decimal row.1.rank ++ choice_text row.1.chosen)) (Lacks-fen 114 row.0 refl one.0)
           (Lacks-cons 114 32 (decimal row.1.rank ++ choice_text row.1.chosen) (λ e. omega (arith, e))
-          (Lacks-append 114 (decimal row.1.rank) (choice_text row.1.chosen) (small row.1.rank (let r = one.1.0 in omega (arith, r))) (choice_lacks row.1.chosen one.1.1)))),
+          (Lacks-append 114 (decimal row.1.rank) (choice_text row.1.chosen) (decimal_lacks_r row.1.rank (let r = one.1.0 in omega (arith, r))) (choice_lacks row.1.chosen one.1.1)))),
       win_rows rows (All-tail IsWinRow row rows all),
     )
 
@@ -137,8 +137,8 @@ hold_rows (row ∷ rows) all =
     )
 
 part_safe : (part : Part) → IsPrintedPart part → Safe (part_lines part)
-part_safe (parts.Win part) is = (counted (codes "win ") part.side _ refl is.1, win_rows part.entries is.0.rows)
-part_safe (parts.Hold part) is = (counted (codes "hold ") part.side _ refl is.1, hold_rows part.entries is.0.rows)
+part_safe (parts.Win part) is = (count_line_safe (codes "win ") part.side _ refl is.1, win_rows part.entries is.0.rows)
+part_safe (parts.Hold part) is = (count_line_safe (codes "hold ") part.side _ refl is.1, hold_rows part.entries is.0.rows)
 
 parts_safe : (all : List Part) → All IsPrintedPart all → Safe (flat_map part_lines all)
 parts_safe [] is = tt
@@ -172,7 +172,7 @@ lines_safe c is =
     head = (
       title_safe,
       (
-        without_r (codes "table " ++ decimal c.pieces) (Lacks-append 114 (codes "table ") (decimal c.pieces) refl (small c.pieces (let some = is.pieces in omega arith))),
+        without_r (codes "table " ++ decimal c.pieces) (Lacks-append 114 (codes "table ") (decimal c.pieces) refl (decimal_lacks_r c.pieces (let some = is.pieces in omega arith))),
         (without_r (codes "position " ++ fen_of c.position) (Lacks-append 114 (codes "position ") (fen_of c.position) refl (Lacks-fen 114 c.position refl is.lawful)), (claim_safe c.claim, tt)),
       ),
     )

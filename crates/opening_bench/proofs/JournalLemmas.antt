@@ -51,9 +51,9 @@ silent_unrefused refusal.Memory silent = ((λ e. absurd cc), (λ e. absurd cc))
 silent_unrefused r silent = absurd (false≢true silent)
 
 module _ {D : Type 0} (g : Ghosts D) where
-  moved : (pieces : ℕ) (seen positions : List Board) (old new : D) (r : Refusal) → seen ≡ positions
+  refused_of_same : (pieces : ℕ) (seen positions : List Board) (old new : D) (r : Refusal) → seen ≡ positions
       → IsRefusedRun g pieces seen old new r → IsRefusedRun g pieces positions old new r
-  moved pieces seen positions old new r same h = subst (λ ps. IsRefusedRun g pieces ps old new r) same h
+  refused_of_same pieces seen positions old new r same h = subst (λ ps. IsRefusedRun g pieces ps old new r) same h
 
   -- a journal that has room is not refused
   pub room_silent : (pieces : ℕ) (positions : List Board) (old new : D) (r : Refusal) (fault : RunRefusal) → r ≡ of_run fault → HasRoom g pieces positions old
@@ -71,7 +71,7 @@ module _ {D : Type 0} (g : Ghosts D) where
       → AcceptsBytes g (Solve options) text old r
   run_accepts options text positions seen old new r roots same h good room =
       let all = roots_of_openings roots.openings in
-      let k = moved options.pieces seen all old new r (same ∙ roots.all) h in
+      let k = refused_of_same options.pieces seen all old new r (same ∙ roots.all) h in
       let there = room roots.openings roots.read in
       silent_unrefused r (room_silent options.pieces all old new r k.fault k.is there (k.caused there.honest))
 

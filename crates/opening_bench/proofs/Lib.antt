@@ -13,3 +13,4 @@ pub mod OnePlyLemmas
 pub mod NewJournalLemmas
 pub mod RunLemmas
 pub mod WordsLemmas
+pub mod ReachedLemmas

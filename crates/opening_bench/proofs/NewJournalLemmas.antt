@@ -121,22 +121,22 @@ begin_each (p ∷ ps) f roots is room shown = elim (cases_Bool (list_any (same_b
 
 -- ---- the openings that a seed gives
 
-taken : (n : ℕ) (xs : List Board) (x : Board) → Contains (take n xs) x → Contains xs x
-taken zero xs x there = absurd (Contains-nil x there)
-taken (suc n) [] x there = there
-taken (suc n) (y ∷ xs) x there = elim (Contains-cons_cases y (take n xs) x there) [
+contains_taken : (n : ℕ) (xs : List Board) (x : Board) → Contains (take n xs) x → Contains xs x
+contains_taken zero xs x there = absurd (Contains-nil x there)
+contains_taken (suc n) [] x there = there
+contains_taken (suc n) (y ∷ xs) x there = elim (Contains-cons_cases y (take n xs) x there) [
   | inl same ↦ subst (λ (z : Board). Contains (y ∷ xs) z) same (Contains-head y xs)
-  | inr later ↦ Contains-tail y x xs (taken n xs x later)
+  | inr later ↦ Contains-tail y x xs (contains_taken n xs x later)
 ]
 
 opening_shown : (seed count : ℕ) (p : Board) → Contains (openings_from seed count) p → IsShown p
 opening_shown seed count p there =
     let met = Contains-from_map (λ k. numbered_position (index_of_step seed k)) (range_with_len 0 4176) p
-    (Contains-from_first_places (walk seed 4176) p (taken count (first_places (walk seed 4176)) p there)) in
+    (Contains-from_first_places (walk seed 4176) p (contains_taken count (first_places (walk seed 4176)) p there)) in
     subst IsShown met.1.1 (numbered_shown (index_of_step seed met.0) (omega arith))
 
-least : (k n m : ℕ) → k ≡ min n m → k ≤ n
-least k n m is = grind (arith, common_steps)
+min_at_most : (k n m : ℕ) → k ≡ min n m → k ≤ n
+min_at_most k n m is = grind (arith, common_steps)
 
 budget_of : (k n : ℕ) → k ≤ n → n ≤ 2000 → k ≤ min n (1000000 - 0)
 budget_of k n few most = grind (arith, common_steps)
@@ -159,7 +159,7 @@ ample_from count ps short most shown =
     }
 
 short_front : (n : ℕ) (xs : List Board) → length (take n xs) ≤ n
-short_front n xs = least (length (take n xs)) n (length xs) (length-take n xs)
+short_front n xs = min_at_most (length (take n xs)) n (length xs) (length-take n xs)
 
 -- ---- a new journal
 

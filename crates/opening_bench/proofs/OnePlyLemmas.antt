@@ -108,18 +108,18 @@ module _ (x : Board) (qs : List Board) where
   one_more Draw value (inr (inr all)) =
       inr (inl ((x, (Contains-head x qs, value.0)), for_each (Holds draughts White) value.1 (λ q there. Wins-holds draughts White q (all q there))))
 
-ways : (qs : List Board) → ((q : Board) → Contains qs q → (v : Value) × HasValue draughts q v) → Ways qs
-ways [] valued = inr (inr (λ q here. absurd (Contains-nil q here)))
-ways (x ∷ qs) valued =
+find_way : (qs : List Board) → ((q : Board) → Contains qs q → (v : Value) × HasValue draughts q v) → Ways qs
+find_way [] valued = inr (inr (λ q here. absurd (Contains-nil q here)))
+find_way (x ∷ qs) valued =
     let first = valued x (Contains-head x qs) in
-    one_more x qs first.0 first.1 (ways qs (λ q there. valued q (Contains-tail x q qs there)))
+    one_more x qs first.0 first.1 (find_way qs (λ q there. valued q (Contains-tail x q qs there)))
 
 module _ (p : Board) (black : p.to_move ≡ Black) (unseen : is_at_sight draughts 2 p ≡ false) (seen : (q : Board) → Contains (successors_of p) q → is_at_sight draughts 2 q ≡ true) where
-  shows : Ways (successors_of p) → ShowsValue 2 1 p
-  shows (inl found) = inl (inr (unseen, by_move found.0 black found.1.0 (seen found.0 found.1.0, found.1.1)))
-  shows (inr (inl both)) =
+  one_ply_shows : Ways (successors_of p) → ShowsValue 2 1 p
+  one_ply_shows (inl found) = inl (inr (unseen, by_move found.0 black found.1.0 (seen found.0 found.1.0, found.1.1)))
+  one_ply_shows (inr (inl both)) =
       inr (inr (inr (unseen, by_move both.0.0 black both.0.1.0 (inr (seen both.0.0 both.0.1.0, both.0.1.1))), inr (unseen, by_every_reply black (λ q there. inr (seen q there, both.1 q there)))))
-  shows (inr (inr all)) = inr (inl (inr (unseen, by_every_reply black (λ q there. (seen q there, all q there)))))
+  one_ply_shows (inr (inr all)) = inr (inl (inr (unseen, by_every_reply black (λ q there. (seen q there, all q there)))))
 
 -- ---- each numbered position
 
@@ -149,7 +149,7 @@ by_one p black take =
     record {
       lawful = lawful;
       unseen = unseen;
-      shown = shows p black unseen (λ q next. or_true (is_nil (successors_of q)) (nat_le (piece_count q) 2) (few_each (successors_of p) few q next)) (ways (successors_of p) value);
+      shown = one_ply_shows p black unseen (λ q next. or_true (is_nil (successors_of q)) (nat_le (piece_count q) 2) (few_each (successors_of p) few q next)) (find_way (successors_of p) value);
     }
 
 pub numbered_shown : (i : ℕ) → i < 4176 → IsShown (numbered_position i)

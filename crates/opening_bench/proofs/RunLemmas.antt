@@ -33,11 +33,11 @@ use Rattle.opening_bench.proofs.WritingLemmas.{line_values, output_has}
 
 -- ---- what a status says
 
-reported : (text : List ℕ) (settled : Bool) (before after : Option (List ℕ)) (status : Status) → TakesOutput status text settled before after → Reports status
-reported text settled before after Done h = tt
-reported text settled before after Unsolved h = tt
-reported text settled before after Write h = tt
-reported text settled before after status h = absurd h
+output_reports : (text : List ℕ) (settled : Bool) (before after : Option (List ℕ)) (status : Status) → TakesOutput status text settled before after → Reports status
+output_reports text settled before after Done h = tt
+output_reports text settled before after Unsolved h = tt
+output_reports text settled before after Write h = tt
+output_reports text settled before after status h = absurd h
 
 finished_reports : (status : Status) → Finishes status → Reports status
 finished_reports Done h = tt
@@ -207,7 +207,7 @@ module _ {D : Type 0} {g : Ghosts D}
       × HandsOut (IsCommandRefusal g command source rest read_before read_after old new) old new before after written_before written_after status handed
   answered_run {answer = Ok output} same is_seen input end front left counted a taken is line said write none some =
       let there : IsInput (source_limit command) source seen = input_seen command limit source bytes seen same is_seen input in
-      let reports : Reports status = reported output.text.items output.is_settled before after status taken in
+      let reports : Reports status = output_reports output.text.items output.is_settled before after status taken in
       let unrefused : IsUnrefused status = ((λ e. subst Reports e reports), (λ e. subst Reports e reports)) in (
         record {
           values = output_has ValuesAreTrue output.text.items output.is_settled before after a.says status taken;

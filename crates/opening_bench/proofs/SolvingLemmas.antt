@@ -33,7 +33,7 @@ use Rattle.opening_report.specs.declared.roots.Root.{Root}
 use Rattle.opening_report.specs.Report.{report_of, StandsOnce}
 use Rattle.opening_report.proofs.ReportLemmas.{report-is_true, roots_stand_once}
 use Rattle.opening_bench.specs.Accepted.{Accepts, HasAmpleBudget, HasRoom, IsUnrefused}
-use Rattle.opening_bench.specs.declared.commands.generate.TheConstants.{GENERATE_DEPTH, GENERATE_PIECES}
+use Rattle.opening_bench.specs.declared.commands.generate.TheConstants.{GENERATE_DEPTH, GENERATE_LEASE, GENERATE_PIECES}
 use Rattle.opening_bench.specs.declared.commands.solve.TheConstants.{GAMES_LIMIT}
 use Rattle.program_edges.specs.Answers.{TakesOutput}
 use Rattle.program_edges.specs.Sources.{IsInput}
@@ -120,9 +120,9 @@ settled_solves text settled before after status all taken is =
     true≢false (sym all ∙ output.0)
 
 module _ {D : Type 0} (g : Ghosts D) where
-  ample_settles : (text_of : Forest → List ℕ) (pieces depth budget : ℕ) (positions : List Board) (old new : D) (text : List ℕ) (settled : Bool) → HasAmpleBudget g pieces depth budget positions old
-      → Resumes g text_of pieces depth budget positions old new text settled → settled ≡ true
-  ample_settles text_of pieces depth budget positions old new text settled ample resumed =
+  ample_settles : (text_of : Forest → List ℕ) (pieces depth budget lease : ℕ) (positions : List Board) (old new : D) (text : List ℕ) (settled : Bool) → HasAmpleBudget g pieces depth budget positions old
+      → Resumes g text_of pieces depth budget lease positions old new text settled → settled ≡ true
+  ample_settles text_of pieces depth budget lease positions old new text settled ample resumed =
       resumed.ample (subst (IsAmple pieces depth budget positions) (files_read_as_one_list pieces (g.reads old) ample.records resumed.before ample.read resumed.read_then) ample.ample)
 
   -- a run for which the budget is ample leaves no root unsettled
@@ -137,7 +137,7 @@ module _ {D : Type 0} (g : Ghosts D) where
       let openings : done.shows.openings ≡ all = one_list_of options.plies told done.shows.openings all (subst (λ t. OpeningsOf options.plies t done.shows.openings) same done.shows.read) read in
       let enough = subst (λ (os : List Opening). HasAmpleBudget g options.pieces options.depth options.budget (roots_of_openings os) old) (sym openings) ample in
       settled_solves done.text done.settled before after status
-      (ample_settles _ options.pieces options.depth options.budget (roots_of_openings done.shows.openings) old new done.text done.settled enough (done.shows.resumed ample.honest))
+      (ample_settles _ options.pieces options.depth options.budget options.lease (roots_of_openings done.shows.openings) old new done.text done.settled enough (done.shows.resumed ample.honest))
       done.taken is
 
   -- .. of `generate`
@@ -147,7 +147,7 @@ module _ {D : Type 0} (g : Ghosts D) where
   ample_generates seed count source before after old new status does ample is =
       let done = does (subst Reports (sym is) tt) in
       settled_solves done.text done.settled before after status
-      (ample_settles _ GENERATE_PIECES GENERATE_DEPTH count (openings_from seed count) old new done.text done.settled ample (done.shows ample.honest))
+      (ample_settles _ GENERATE_PIECES GENERATE_DEPTH count GENERATE_LEASE (openings_from seed count) old new done.text done.settled ample (done.shows ample.honest))
       done.taken is
 
 -- ---- each opening's position once
@@ -157,19 +157,19 @@ of_source : (options : Options) (source : Option (List ℕ)) (input text : List 
 of_source options None input text same p = tt
 of_source options (Some told) input text same p = λ all reads. once_each options input text p all (subst (λ t. OpeningsOf options.plies t all) (sym same) reads)
 
-holds : (command : Command) (source : Option (List ℕ)) (input text : List ℕ) (settled : Bool) → IsInput (source_limit command) source input → Answers command input text settled → HoldsOpenings command source text
-holds (Solve options) source input text settled is_input answers = λ other said.
+answers_hold : (command : Command) (source : Option (List ℕ)) (input text : List ℕ) (settled : Bool) → IsInput (source_limit command) source input → Answers command input text settled → HoldsOpenings command source text
+answers_hold (Solve options) source input text settled is_input answers = λ other said.
     let same : options ≡ other = cc in
     subst (λ (o : Options). IfSome source (λ told. (openings : List Opening) → OpeningsOf o.plies told openings → (opening : Opening) → Contains openings opening → StandsOnce text opening.position))
     same (of_source options source input text (is_input.same refl) answers)
-holds Report source input text settled is_input answers = λ options said. absurd cc
-holds (Certify root) source input text settled is_input answers = λ options said. absurd cc
-holds Verify source input text settled is_input answers = λ options said. absurd cc
-holds (MakeTable pieces) source input text settled is_input answers = λ options said. absurd cc
-holds TableCheck source input text settled is_input answers = λ options said. absurd cc
-holds (Generate seed count) source input text settled is_input answers = λ options said. absurd cc
+answers_hold Report source input text settled is_input answers = λ options said. absurd cc
+answers_hold (Certify root) source input text settled is_input answers = λ options said. absurd cc
+answers_hold Verify source input text settled is_input answers = λ options said. absurd cc
+answers_hold (MakeTable pieces) source input text settled is_input answers = λ options said. absurd cc
+answers_hold TableCheck source input text settled is_input answers = λ options said. absurd cc
+answers_hold (Generate seed count) source input text settled is_input answers = λ options said. absurd cc
 
 pub output_holds : (command : Command) (source : Option (List ℕ)) (input text : List ℕ) (settled : Bool) (before after : Option (List ℕ)) (status : Status) → Finishes status
     → IsInput (source_limit command) source input → Answers command input text settled → TakesOutput status text settled before after
     → WritesOnly before after (HoldsOpenings command source)
-output_holds command source input text settled before after status finished is_input answers taken = (text, (output_whole text settled before after status finished taken, holds command source input text settled is_input answers))
+output_holds command source input text settled before after status finished is_input answers taken = (text, (output_whole text settled before after status finished taken, answers_hold command source input text settled is_input answers))

@@ -23,6 +23,7 @@ use Rattle.opening_bench.specs.Steps.{IsLineOf}
 use Rattle.opening_bench.specs.declared.commands.generate.TheConstants.{GENERATE_DEPTH, GENERATE_PIECES}
 use Rattle.opening_bench.proofs.NewJournalLemmas.{new_has_ample_budget, new_has_room}
 use Rattle.opening_bench.proofs.RefusalLemmas.{certificates_accepted, tables_accepted}
+use Rattle.opening_bench.proofs.ReachedLemmas.{reached_solves}
 use Rattle.opening_bench.proofs.SolvingLemmas.{ample_generates, ample_solves, openings_accepted}
 use Rattle.opening_bench.proofs.WritingLemmas.{line_values}
 
@@ -49,14 +50,14 @@ module _ {S K D : Type 0} (s : SourceGhosts S) (k : SinkGhosts K) (g : Ghosts D)
     (says : Says words command) (once : (other : Command) → Says words other → command ≡ other)
     (runs : RunsCommand g command (s.left source) (s.left rest) (s.faults source) (s.faults rest) (k.taken before) (k.taken after) (k.faults before) (k.faults after) old new status)
     (unread : source_limit command ≡ None → rest ≡ source) where
-  accepts : (other : Command) → Says words other → Accepts g other (s.left source) old status
-  accepts other said = subst (λ (c : Command). Accepts g c (s.left source) old status) (once other said) runs.accepted
+  accepts_of : (other : Command) → Says words other → Accepts g other (s.left source) old status
+  accepts_of other said = subst (λ (c : Command). Accepts g c (s.left source) old status) (once other said) runs.accepted
 
-  asked : (other : Command) → Says words other → HasAsked g other old → IsUnrefused status
-  asked other said has = runs.asked (subst (λ (c : Command). HasAsked g c old) (sym (once other said)) has)
+  unrefused_of : (other : Command) → Says words other → HasAsked g other old → IsUnrefused status
+  unrefused_of other said has = runs.asked (subst (λ (c : Command). HasAsked g c old) (sym (once other said)) has)
 
-  ample : (seed count : ℕ) → Says words (Generate seed count) → HasAmpleBudget g GENERATE_PIECES GENERATE_DEPTH count (openings_from seed count) old → status ≢ Unsolved
-  ample seed count said = ample_generates g seed count (s.left source) (k.taken before) (k.taken after) old new status
+  ample_of : (seed count : ℕ) → Says words (Generate seed count) → HasAmpleBudget g GENERATE_PIECES GENERATE_DEPTH count (openings_from seed count) old → status ≢ Unsolved
+  ample_of seed count said = ample_generates g seed count (s.left source) (k.taken before) (k.taken after) old new status
       (λ reports. subst (λ (c : Command). Does g c (s.left source) (k.taken before) (k.taken after) old new status) (once (Generate seed count) said) (runs.does reports))
 
   pub runs_by : RunsWords s k g words source rest before after old new status
@@ -69,20 +70,22 @@ module _ {S K D : Type 0} (s : SourceGhosts S) (k : SinkGhosts K) (g : Ghosts D)
     leaves = λ other said. subst (λ (c : Command). LeavesDisk g c old new) (once other said) runs.leaves;
     unused = λ is. absurd (runs.words is);
     words = ((λ is. absurd (runs.words is)), (λ none. absurd (none command says)));
-    accepted = λ options said. openings_accepted g options (s.left source) old status (accepts (Solve options) said);
+    accepted = λ options said. openings_accepted g options (s.left source) old status (accepts_of (Solve options) said);
     ample = λ options said. ample_solves g options (s.left source) (k.taken before) (k.taken after) old new status
         (λ reports. subst (λ (c : Command). Does g c (s.left source) (k.taken before) (k.taken after) old new status) (once (Solve options) said) (runs.does reports));
-    accepted_generated = λ seed count said room. asked (Generate seed count) said room;
-    ample_generated = ample;
+    reached = λ options said. reached_solves g options (s.left source) (k.taken before) (k.taken after) old new status
+        (λ reports. subst (λ (c : Command). Does g c (s.left source) (k.taken before) (k.taken after) old new status) (once (Solve options) said) (runs.does reports));
+    accepted_generated = λ seed count said room. unrefused_of (Generate seed count) said room;
+    ample_generated = ample_of;
     settled_generated = λ seed count said honest read. (
-      asked (Generate seed count) said (new_has_room g seed count old said.1.1.1 honest read),
-      ample seed count said (new_has_ample_budget g seed count old said.1.1.1 honest read),
+      unrefused_of (Generate seed count) said (new_has_room g seed count old said.1.1.1 honest read),
+      ample_of seed count said (new_has_ample_budget g seed count old said.1.1.1 honest read),
     );
-    accepted_certificates = λ said. certificates_accepted g (s.left source) old status (accepts Verify said);
-    accepted_tables = λ said. tables_accepted g (s.left source) old status (accepts TableCheck said);
-    accepted_reports = λ said honest pieces records read. asked Report said (honest, (pieces, (records, read)));
-    accepted_roots = λ root said honest there. asked (Certify root) said (honest, there);
-    accepted_pieces = λ pieces said. asked (MakeTable pieces) said tt;
+    accepted_certificates = λ said. certificates_accepted g (s.left source) old status (accepts_of Verify said);
+    accepted_tables = λ said. tables_accepted g (s.left source) old status (accepts_of TableCheck said);
+    accepted_reports = λ said honest pieces records read. unrefused_of Report said (honest, (pieces, (records, read)));
+    accepted_roots = λ root said honest there. unrefused_of (Certify root) said (honest, there);
+    accepted_pieces = λ pieces said. unrefused_of (MakeTable pieces) said tt;
     looked = λ honest other said cause stands. runs.looked honest cause (subst (λ (c : Command). HasLookCause c (g.reads old) cause) (sym (once other said)) stands);
     read = runs.read;
     write = runs.write;
@@ -130,6 +133,7 @@ module _ {S K D : Type 0} (s : SourceGhosts S) (k : SinkGhosts K) (g : Ghosts D)
     words = ((λ is. wrong.no_command), (λ none. refl));
     accepted = λ options says. absurd (wrong.no_command (Solve options) says);
     ample = λ options says. absurd (wrong.no_command (Solve options) says);
+    reached = λ options says. absurd (wrong.no_command (Solve options) says);
     accepted_generated = λ seed count says room. absurd (wrong.no_command (Generate seed count) says);
     ample_generated = λ seed count says ample. absurd (wrong.no_command (Generate seed count) says);
     settled_generated = λ seed count says honest read. absurd (wrong.no_command (Generate seed count) says);

@@ -15,7 +15,7 @@ use Rattle.endgame_table.specs.Bytes.{bytes_of}
 use Rattle.endgame_table.specs.Entries.{IsTable}
 use Rattle.journal_looks.specs.Looks.{HasNoCertificate, HasNoReport, HasSettledRoot}
 use Rattle.journal_looks.specs.declared.refusals.LookRefusal.{LookRefusal}
-use Rattle.journal_runs.specs.Ample.{IsAmple}
+use Rattle.journal_runs.specs.Ample.{IsAmple, IsRoomForEach}
 use Rattle.opening_report.specs.declared.refusals.Refusal.{Refusal}
 use Rattle.pdn_openings.specs.declared.opening.Opening.{Opening}
 use Rattle.strategy_certificate.specs.Certificates.{IsGood}
@@ -63,6 +63,15 @@ pub record HasAmpleBudget {D : Type 0} (g : Ghosts D)
   pub records : List BenchRecord
   pub read : ReadsRecords pieces (g.reads disk) records
   pub ample : IsAmple pieces depth budget positions records
+
+-- The disk reads as a journal for the table, and of the roots that it has and those that these positions
+-- begin there is room to search each that has no value.
+pub record HasRoomToSearch {D : Type 0} (g : Ghosts D)
+    (pieces budget lease : ℕ) (positions : List Board) (disk : D) : Type 0 where
+  pub honest : IsHonest g.TELLS
+  pub records : List BenchRecord
+  pub read : ReadsRecords pieces (g.reads disk) records
+  pub room : IsRoomForEach pieces budget lease positions records
 
 -- The journal has room for the roots of the source's openings.
 abbrev pub HasRoomFor : {D : Type 0} → Ghosts D → Command → List ℕ → D → Type 0

@@ -1,7 +1,8 @@
 -- How a run ends, for which cause, and what it leaves.
-use Rattle.std.specs.Prelude.{◌≡◌, ℕ, ◌+◌, ◌⊎◌, Bool, List, Option, IfSome, IsSome, Contains}
+use Rattle.std.specs.Prelude.{◌≡◌, ◌<◌, ℕ, ◌+◌, ◌^◌, ◌⊎◌, Bool, List, Option, None, IfSome, IsSome, Contains}
 use Rattle.std.specs.Io.KnownBytes.{Appends, IsAtEnd}
 use Rattle.bench_disk.specs.declared.disk.Disk.{Ghosts}
+use Rattle.draughts_board.specs.Board.{Board, IsLawful}
 use Rattle.bench_edges.specs.KnownBytes.{ConsumesAtMost}
 use Rattle.bench_edges.specs.Words.{Says, IsRefusedAt}
 use Rattle.bench_edges.specs.declared.status.Status.{Status}
@@ -12,7 +13,9 @@ use Rattle.bench_edges.specs.declared.words.Options.{Options}
 use Rattle.pdn_openings.specs.declared.opening.Opening.{Opening}
 use Rattle.opening_report.specs.declared.refusals.Refusal.{Refusal}
 use Rattle.opening_report.specs.declared.refusals.Refusal.TheVariants as refusal
-use Rattle.opening_report.specs.Report.{StandsOnce}
+use Rattle.journal_runs.specs.Ample.{ShowsValue}
+use Rattle.opening_report.specs.Lines.{HasLine}
+use Rattle.opening_report.specs.Report.{StandsOnce, root_line}
 use Rattle.opening_report.specs.Refusals.{refusal_text}
 use Rattle.program_edges.specs.Answers.{TakesLine, TakesOutput}
 use Rattle.program_edges.specs.Sources.{IsCutShort, IsInput}
@@ -82,6 +85,13 @@ HoldsOpenings command source written =
     (options : Options) → command ≡ Solve options
     → IfSome source (λ text. (openings : List Opening) → OpeningsOf options.plies text openings
     → (opening : Opening) → Contains openings opening → StandsOnce written opening.position)
+
+-- Where looking so far ahead with tables of k pieces shows a value of a position, no whole line of the
+-- text says `root N F unsolved` of it.
+abbrev pub SettlesAllShown : ℕ → ℕ → List ℕ → Type 0
+SettlesAllShown k depth text =
+    (n : ℕ) (p : Board) → n < 2 ^ 64 → IsLawful p → HasLine text (root_line n p None)
+    → ¬ ShowsValue k depth p
 
 -- ---- why a run is refused
 

@@ -24,7 +24,7 @@ use Rattle.journal_runs.specs.Journals.{LeavesJournal, Resumes, IsCaused}
 use Rattle.journal_runs.specs.declared.refusals.RunRefusal.{RunRefusal}
 use Rattle.journal_runs.specs.declared.refusals.RunRefusal.TheVariants as run
 use Rattle.opening_bench.specs.Solving.{OpeningsOf, roots_of_openings}
-use Rattle.opening_bench.specs.declared.commands.generate.TheConstants.{GENERATE_DEPTH, GENERATE_PIECES}
+use Rattle.opening_bench.specs.declared.commands.generate.TheConstants.{GENERATE_DEPTH, GENERATE_LEASE, GENERATE_PIECES}
 
 -- ---- of the disk at entry, and of the disk that is handed back
 
@@ -47,8 +47,8 @@ module _ {D : Type 0} (g : Ghosts D) where
     pub read : OpeningsOf options.plies source openings
     pub resumed : IsHonest g.TELLS →
         Resumes g (λ roots. report_of (forest_roots roots))
-        options.pieces options.depth options.budget (roots_of_openings openings) old new text
-        settled
+        options.pieces options.depth options.budget options.lease (roots_of_openings openings)
+        old new text settled
 
   -- the text is that of the certificate of a root that the disk reads as
   abbrev pub HasCertified : ℕ → D → List ℕ → Type 0
@@ -68,7 +68,8 @@ module _ {D : Type 0} (g : Ghosts D) where
   ShowsDisk (Generate seed count) source old new text settled =
       IsHonest g.TELLS →
       Resumes g (λ roots. summary_line (forest_roots roots))
-      GENERATE_PIECES GENERATE_DEPTH count (openings_from seed count) old new text settled
+      GENERATE_PIECES GENERATE_DEPTH count GENERATE_LEASE (openings_from seed count) old new text
+      settled
 
   -- A run with these positions is refused: the faults of the disk rose, its bytes are no such
   -- journal, there would be too many roots, or memory ran out.

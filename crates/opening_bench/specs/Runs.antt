@@ -27,8 +27,8 @@ use Rattle.strategy_certificate.specs.declared.certificates.Certificate.{Certifi
 use Rattle.tree_manager.specs.Receipts.{ReadsRecords}
 use Rattle.opening_report.specs.Report.{ValuesAreTrue}
 use Rattle.opening_report.specs.declared.refusals.Refusal.{Refusal}
-use Rattle.opening_bench.specs.Accepted.{Accepts, HasAmpleBudget, HasAsked, HasLookCause, HasRoom, IsRefusedFor, IsUnrefused}
-use Rattle.opening_bench.specs.Bench.{ComesToDisk, Does, Finishes, HoldsOpenings, IsCommandRefusal, IsRefusalByWords, IsRefused, ReadsSource, Refuses, Reports, TakesAtMost, WritesOnly}
+use Rattle.opening_bench.specs.Accepted.{Accepts, HasAmpleBudget, HasAsked, HasLookCause, HasRoom, HasRoomToSearch, IsRefusedFor, IsUnrefused}
+use Rattle.opening_bench.specs.Bench.{ComesToDisk, Does, Finishes, HoldsOpenings, IsCommandRefusal, IsRefusalByWords, IsRefused, ReadsSource, Refuses, Reports, SettlesAllShown, TakesAtMost, WritesOnly}
 use Rattle.opening_bench.specs.Commands.{source_limit}
 use Rattle.opening_bench.specs.Disks.{LeavesDisk}
 use Rattle.opening_bench.specs.Solving.{OpeningsOf, roots_of_openings}
@@ -104,6 +104,11 @@ module _ {S K D : Type 0} (s : SourceGhosts S) (k : SinkGhosts K) (g : Ghosts D)
         → IfSome (s.left source) (λ text. (all : List Opening) → OpeningsOf options.plies text all
         → HasAmpleBudget g options.pieces options.depth options.budget
         (roots_of_openings all) old → status ≢ Unsolved)
+    pub reached : (options : Options) → Says command_line (Solve options)
+        → IfSome (s.left source) (λ text. (all : List Opening) → OpeningsOf options.plies text all
+        → HasRoomToSearch g options.pieces options.budget options.lease (roots_of_openings all) old
+        → Finishes status → WritesOnly (k.taken before) (k.taken after)
+        (SettlesAllShown options.pieces options.depth))
     pub accepted_generated : (seed count : ℕ) → Says command_line (Generate seed count)
         → HasRoom g GENERATE_PIECES (openings_from seed count) old → IsUnrefused status
     pub ample_generated : (seed count : ℕ) → Says command_line (Generate seed count)

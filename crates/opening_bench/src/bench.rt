@@ -19,8 +19,8 @@ ghost use Rattle.strategy_certificate.specs.Certificates.{IsGood};
 ghost use Rattle.strategy_certificate.specs.declared.certificates.Certificate.{Certificate};
 ghost use Rattle.tree_manager.specs.Receipts.{ReadsRecords};
 ghost use Rattle.opening_report.specs.Report.{ValuesAreTrue};
-ghost use Rattle.opening_bench.specs.Accepted.{HasAmpleBudget, HasLookCause, HasRoom, IsRefusedFor, IsUnrefused};
-ghost use Rattle.opening_bench.specs.Bench.{ComesToDisk, Does, Finishes, HoldsOpenings, IsRefusalByWords, IsRefused, ReadsSource, Refuses, Reports, TakesAtMost, WritesOnly};
+ghost use Rattle.opening_bench.specs.Accepted.{HasAmpleBudget, HasLookCause, HasRoom, HasRoomToSearch, IsRefusedFor, IsUnrefused};
+ghost use Rattle.opening_bench.specs.Bench.{ComesToDisk, Does, Finishes, HoldsOpenings, IsRefusalByWords, IsRefused, ReadsSource, Refuses, Reports, SettlesAllShown, TakesAtMost, WritesOnly};
 ghost use Rattle.opening_bench.specs.Commands.{source_limit};
 ghost use Rattle.opening_bench.specs.Disks.{LeavesDisk};
 ghost use Rattle.opening_bench.specs.Solving.{OpeningsOf, roots_of_openings};
@@ -112,7 +112,16 @@ pub fn bench<R: Threads + Wait + Sync, S: Source, K: Sink, D: Disk + Send, G: Ga
         → OpeningsOf options.plies text all
         → HasAmpleBudget D.Disk options.pieces options.depth options.budget
         (roots_of_openings all) disk → result.0 ≢ Status.Unsolved) }
-    // The same of `generate`, with the openings that the seed gives and a budget of COUNT.
+    // Where these roots are unexpanded, and their number is no more than the budget, `--lease` and
+    // 4,096, each of them of which looking ahead shows a value has one, whatever the others are.
+    ensures reached { (options : Options) → Says (texts words.now) (Command.Solve options)
+        → IfSome (S.left source.old) (λ text. (all : List Opening)
+        → OpeningsOf options.plies text all
+        → HasRoomToSearch D.Disk options.pieces options.budget options.lease
+        (roots_of_openings all) disk → Finishes result.0
+        → WritesOnly (K.taken sink.old) (K.taken sink.new)
+        (SettlesAllShown options.pieces options.depth)) }
+    // Of `generate`, with the openings that the seed gives and a budget of COUNT.
     ensures accepted_generated { (seed count : ℕ)
         → Says (texts words.now) (Command.Generate seed count)
         → HasRoom D.Disk GENERATE_PIECES (openings_from seed count) disk

@@ -22,11 +22,25 @@ const WHOLE: &str = "root 1 W:W16,23:B12 white-wins\nroot 2 B:W21:B10,17 black-w
 
 /// A journal of one root, in which Black is blocked: a head, a frame, and a closed gate.
 const BLOCKED: &[u8] = &[
+    0x44, 0x52, 0x42, 0x45, 0x4e, 0x43, 0x48, 2, 1, 0, 0, 0, 0, 0, 0, 0, 26, 0, 0, 0, 22, 4, 0, 0,
+    0, 0, 0, 0, 0, 8, 0, 0, 0, 0, 0, 0, 4, 0x80, 0, 0, 0, 0, 0, 0,
+];
+
+/// The same root as a record of version 1.
+const BLOCKED_BEFORE: &[u8] = &[
     0x44, 0x52, 0x42, 0x45, 0x4e, 0x43, 0x48, 2, 1, 0, 0, 0, 0, 0, 0, 0, 22, 0, 0, 0, 18, 1, 0, 0,
     0, 8, 0, 0, 0, 0, 0, 0, 4, 0x80, 0, 0, 0, 0, 0, 0,
 ];
 
-/// The roots of `TWO`, begun in one frame, and a record that 23-19 wins the first. The frames are of
+/// .. and behind it a second root, W:W16,23:B12. Its position is new, so it stands behind the number
+/// 1.
+const GONE_ON_WITH: &[u8] = &[
+    0x44, 0x52, 0x42, 0x45, 0x4e, 0x43, 0x48, 2, 1, 0, 0, 0, 0, 0, 0, 0, 22, 0, 0, 0, 18, 1, 0, 0,
+    0, 8, 0, 0, 0, 0, 0, 0, 4, 0x80, 0, 0, 0, 0, 0, 1, 0, 0, 0, 0, 0, 0, 0, 26, 0, 0, 0, 22, 4, 0,
+    0, 0, 1, 1, 0, 0, 8, 0, 0, 0, 0, 0, 0, 0x40, 0x80, 0, 0, 0, 0, 0,
+];
+
+/// Records of version 1: the roots of `TWO` in one frame, and that 23-19 wins the first. The frames are of
 /// 44 and of 90 bytes, with their gates at 8 and 61; the closed gate stands at 160.
 const HALF_SOLVED: &[u8] = &[
     0x44, 0x52, 0x42, 0x45, 0x4e, 0x43, 0x48, 2, // the head
@@ -96,6 +110,30 @@ const SETTLED_AT_SIGHT: &[Run] = &[
         ..RUN
     },
 ];
+
+/// A journal of before, which is read and gone on with.
+const GOES_ON: &[Run] = &[
+    REPORT_OF_BLOCKED,
+    Run {
+        words: &["-", "solve", "--depth", "1"],
+        source: "[FEN \"W:W16,23:B12\"] *",
+        written: "root 1 B:W16,19:B12 white-wins\nroot 2 W:W16,23:B12 white-wins\n\
+            roots 2 settled 2 unsolved 0\n",
+        leaves: Leaves::Front(GONE_ON_WITH),
+        ..RUN
+    },
+    Run {
+        written: "root 1 B:W16,19:B12 white-wins\nroot 2 W:W16,23:B12 white-wins\n\
+            roots 2 settled 2 unsolved 0\n",
+        ..REPORT
+    },
+];
+
+/// The report of the one root in which Black is blocked.
+const REPORT_OF_BLOCKED: Run = Run {
+    written: "root 1 B:W16,19:B12 white-wins\nroots 1 settled 1 unsolved 0\n",
+    ..REPORT
+};
 
 /// A win that is found by looking ahead.
 const WON_BY_SEARCH: &[Run] = &[Run {
@@ -177,6 +215,12 @@ fn runs_go_on_where_those_before_ended(rt: HostRuntime) -> Result<(), Fail> {
     for runs in [SETTLED_AT_SIGHT, DRAWN_AT_SIGHT, SECOND_RUN] {
         expect_runs(&rt, rt.alloc(), &[], runs)?;
     }
+    Ok(())
+}
+
+#[test]
+fn a_journal_of_before_is_gone_on_with(rt: HostRuntime) -> Result<(), Fail> {
+    expect_runs(&rt, rt.alloc(), BLOCKED_BEFORE, GOES_ON)?;
     Ok(())
 }
 

@@ -16,11 +16,13 @@ mod by_command;
 #[cfg(test)]
 mod certificate_tests;
 mod commands;
+mod deeper;
 mod ended;
 #[cfg(test)]
 mod handing_back_tests;
 #[cfg(test)]
 mod journal_tests;
+mod odd_journals;
 mod progress;
 #[cfg(test)]
 mod progress_tests;
@@ -39,7 +41,7 @@ mod usage;
 use bench_disk::FileDisk;
 use bench_edges::{StdSink, StdSource};
 pub use ended::Ended;
-use program_edges::{KeepingSource, PathDisk, Standards, args, print, told, words_of};
+use program_edges::{KeepingSink, KeepingSource, PathDisk, Standards, args, print, told, words_of};
 use progress::ProgressGate;
 pub use quiet::bench_quiet;
 pub use running::run;
@@ -62,7 +64,7 @@ fn run_on<R: Threads + Wait + Sync>(
     disk: PathDisk<FileDisk<&HostRuntime>>,
 ) -> u8 {
     let mut source = KeepingSource::new(StdSource::new(rt.reader()));
-    let mut sink = StdSink::new(io::writer(rt));
+    let mut sink = KeepingSink::new(rt.alloc(), StdSink::new(io::writer(rt)));
     let (ended, _disk) = run(
         threads,
         rt.alloc(),
@@ -72,7 +74,7 @@ fn run_on<R: Threads + Wait + Sync>(
         disk,
         &ProgressGate::new(rt),
     );
-    tell_of(rt, words, &ended, source.kept());
+    tell_of(rt, words, &ended, source.kept(), sink.kept());
     ended.status.number()
 }
 

@@ -40,6 +40,8 @@ pub(crate) enum Leaves {
     Same,
     /// They are these.
     Bytes(&'static [u8]),
+    /// They begin with these.
+    Front(&'static [u8]),
 }
 
 /// A run, and what is due of it.
@@ -111,6 +113,10 @@ fn due<'a>(leaves: Leaves, before: &'a [u8], behind: &'a [u8]) -> &'a [u8] {
         Leaves::Anything => behind,
         Leaves::Same => before,
         Leaves::Bytes(bytes) => bytes,
+        Leaves::Front(bytes) => match behind.starts_with(bytes) {
+            true => behind,
+            false => bytes,
+        },
     }
 }
 

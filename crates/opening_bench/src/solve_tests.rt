@@ -78,6 +78,68 @@ const SEARCHES: &[Run] = &[
     },
 ];
 
+/// Six kings stand in front of two wins. Looking one ply ahead shows no value of the first, and those
+/// of the others: each of the three has one record of work.
+const HARD_ROOT_FIRST: Run = Run {
+    source: "[FEN \"W:WK1,K2,K3:BK30,K31,K32\"] * [FEN \"W:W16,23:B12\"] *\n\
+        [FEN \"B:W21:B10,17\"] *\n",
+    status: Status::Unsolved,
+    written: "root 1 W:WK1,K2,K3:BK30,K31,K32 unsolved\nroot 2 W:W16,23:B12 white-wins\n\
+        root 3 B:W21:B10,17 black-wins\nroots 3 settled 2 unsolved 1\n",
+    ..RUN
+};
+
+/// The same with 1, 4 and 64 workers, each on a disk of its own.
+const NO_ROOT_STARVED: &[Run] = &[
+    Run {
+        words: &[
+            "-",
+            "solve",
+            "--depth",
+            "1",
+            "--budget",
+            "3",
+            "--workers",
+            "1",
+        ],
+        ..HARD_ROOT_FIRST
+    },
+    Run {
+        words: &[
+            "-",
+            "solve",
+            "--depth",
+            "1",
+            "--budget",
+            "3",
+            "--workers",
+            "4",
+        ],
+        ..HARD_ROOT_FIRST
+    },
+    Run {
+        words: &[
+            "-",
+            "solve",
+            "--depth",
+            "1",
+            "--budget",
+            "3",
+            "--workers",
+            "64",
+        ],
+        ..HARD_ROOT_FIRST
+    },
+];
+
+#[test]
+fn no_root_is_starved(rt: HostRuntime) -> Result<(), Fail> {
+    for runs in NO_ROOT_STARVED.chunks(1) {
+        expect_runs(&rt, rt.alloc(), &[], runs)?;
+    }
+    Ok(())
+}
+
 /// Each of these is a run on a disk of its own.
 const OPENINGS: &[Run] = &[
     // A capture that ends where it began.

@@ -1,21 +1,30 @@
 //! What a person at a terminal is told on standard error, behind what the run itself wrote.
+use crate::deeper::deeper_text;
 use crate::ended::Ended;
-use bench_edges::{Command, Options, Status};
+use crate::odd_journals::journal_text;
+use bench_edges::{Command, MOST_PLIES, Options, Status};
+use opening_report::Refusal;
 use program_edges::tell;
 use refusal_hints::hint;
 use source_warnings::warnings_text;
 use std::alloc::{AllocError, Global};
 use std::io::IsTerminal;
 
-/// The number of `--plies` that takes all moves of a game. It stands if none is given.
-const ALL_PLIES: u8 = 200;
-
-/// How many plies of each game were asked, and 0 where all were.
+/// How many plies of each game were asked, and 0 where all were, as if no number is given.
 fn plies_asked(options: &Options) -> usize {
-    if options.plies == ALL_PLIES {
+    if u32::from(options.plies) == MOST_PLIES {
         return 0;
     }
     usize::from(options.plies)
+}
+
+/// The warnings on the games of a source; none on an empty one, with which a run goes on with its
+/// journal.
+fn warned_text(alloc: Global, options: &Options, source: &[u8]) -> Result<Vec<u8>, AllocError> {
+    if source.is_empty() {
+        return Ok(Vec::new(alloc));
+    }
+    warnings_text(alloc, source, plies_asked(options))
 }
 
 /// How the bytes of a table that went to a terminal come into a file.
@@ -29,24 +38,61 @@ fn table_text(alloc: Global, pieces: u8) -> Result<Vec<u8>, AllocError> {
     Ok(text)
 }
 
+/// The source was not read to its end where a run was refused for this.
+fn leaves_source(refusal: Refusal) -> bool {
+    matches!(refusal, Refusal::TooLong | Refusal::Read | Refusal::Memory)
+}
+
+/// The text for a person on a refusal: what can be done about it, and behind that the warnings on
+/// the games that were read.
+fn refusal_text(
+    alloc: Global,
+    words: &[&str],
+    refusal: Refusal,
+    command: Option<Command>,
+    source: &[u8],
+) -> Result<Vec<u8>, AllocError> {
+    let mut text = hint(alloc, words, &refusal, source)?;
+    if let Some(Command::Solve(options)) = command
+        && !leaves_source(refusal)
+    {
+        let warnings = warned_text(alloc, &options, source)?;
+        text.extend_from_slice(&warnings)?;
+    }
+    Ok(text)
+}
+
+/// What is told of games that were read: warnings, and which depth tries more where roots are
+/// unsolved in the report.
+fn solved_text(
+    alloc: Global,
+    options: &Options,
+    source: &[u8],
+    report: &[u8],
+) -> Result<Vec<u8>, AllocError> {
+    let mut text = warned_text(alloc, options, source)?;
+    text.extend_from_slice(&deeper_text(alloc, options, report)?)?;
+    Ok(text)
+}
+
 /// The text for a person on a run that ended so: what can be done about a refusal; warnings, where
-/// games were read; how to keep a table that went to a terminal. `source` is what the run read, and
-/// empty where that did not come to its end.
+/// games were read, and which depth tries more; how to keep a table that went to a terminal.
+/// `source` is what the run read, and empty where that did not come to its end; `written` is what it
+/// wrote.
 fn text_for(
     alloc: Global,
     words: &[&str],
     ended: &Ended,
     source: &[u8],
+    written: &[u8],
     is_terminal: bool,
 ) -> Result<Vec<u8>, AllocError> {
     if let Some(refusal) = ended.refusal {
-        return hint(alloc, words, &refusal, source);
+        return refusal_text(alloc, words, refusal, ended.command, source);
     }
     match (ended.status, ended.command) {
-        (Status::Done | Status::Unsolved, Some(Command::Solve(options))) => warnings_text(
-            alloc,
-            source,
-            plies_asked(&options),
+        (Status::Done | Status::Unsolved, Some(Command::Solve(options))) => solved_text(
+            alloc, &options, source, written,
         ),
         (Status::Done, Some(Command::MakeTable(pieces))) if is_terminal => table_text(
             alloc, pieces,
@@ -57,9 +103,18 @@ fn text_for(
 
 /// Tells it on standard error: nothing else, and nothing where memory is wanting or standard error
 /// fails.
-pub(crate) fn tell_of(rt: &HostRuntime, words: &[&str], ended: &Ended, source: &[u8]) {
+pub(crate) fn tell_of(
+    rt: &HostRuntime,
+    words: &[&str],
+    ended: &Ended,
+    source: &[u8],
+    written: &[u8],
+) {
+    if let Ok(text) = journal_text(rt.alloc(), words, ended.command) {
+        tell(rt, &text);
+    }
     let is_terminal = rt.stdout().is_terminal();
-    if let Ok(text) = text_for(rt.alloc(), words, ended, source, is_terminal) {
+    if let Ok(text) = text_for(rt.alloc(), words, ended, source, written, is_terminal) {
         tell(rt, &text);
     }
 }

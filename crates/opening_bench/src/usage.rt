@@ -16,14 +16,16 @@ Usage:
 
 PATH       the journal's file, which is made where it is missing; `-` is a journal in memory, which
            ends with the run. `verify`, `table` and `table-check` do not use it
-N          the number of a root, as `report` writes it
+N          the number of a root, 1 to 65536, as `report` writes it
 K          how many pieces an endgame table has at most, 2 or 3
 SEED       where the openings of `generate` begin, 0 to 4294967295
 COUNT      how many openings `generate` makes, 1 to 2000
 
 Options of `solve`:
 --workers N how many workers search at once, 1 to 64 (1 where it is not given)
---depth N  how many plies are looked ahead, 0 to 12 (4 where it is not given)
+--depth N  how many plies are looked ahead, 0 to 12 (4 where it is not given); from 5 on a search also
+           looks for draws that stay among few positions, and from 7 on for wins by proof numbers and
+           through all positions below: 8 settles two pieces against two, 12 three against two
 --pieces K how many pieces the endgame table has at most (2 where it is not given); a journal keeps
            the number that it began with
 --plies N  how many plies of each game are its opening, 0 to 200 (200 where it is not given)
@@ -63,8 +65,9 @@ Exit status:
   8  standard output failed
   9  the words could not be had from the system
 With 2 to 7 one line says why, but with 6 nothing is written where memory ends while the words are
-read. Standard error says more of it. With 0 and 1 of `solve` standard error warns of what may be read
-otherwise than it was meant, as tags in other letters.
+read. Standard error says more of it. Behind `solve` standard error warns of what may be read otherwise
+than it was meant, as tags in other letters. With 0 and 1 it says which depth tries more for an unsolved
+root of few pieces.
 ";
 
 /// What `--version` writes.

@@ -176,15 +176,18 @@ all_lawful : (roots : List Root) → AreTrueRoots roots → AllLawful roots
 all_lawful roots right r h = (right r h).lawful
 
 -- the front of a report says its roots alone
-pub report-says_roots : (roots : List Root) (front back : List ℕ) → 1 + length roots < 2 ^ 64 → AreTrueRoots roots → report_of roots ≡ front ++ back → SaysRoots roots front
-report-says_roots roots front back few right whole n p v small lawful has =
-    of_root (line_of_root 1 roots (root_line n p v) few (line_in_front roots front back n p v few (all_lawful roots right) whole small lawful has))
+pub report-says_lawful : (roots : List Root) (front back : List ℕ) → 1 + length roots < 2 ^ 64 → AllLawful roots → report_of roots ≡ front ++ back → SaysRoots roots front
+report-says_lawful roots front back few lawful_roots whole n p v small lawful has =
+    of_root (line_of_root 1 roots (root_line n p v) few (line_in_front roots front back n p v few lawful_roots whole small lawful has))
   where
     of_root : (k : ℕ) × ((r : Root) × (Contains roots r × ((k < 2 ^ 64) × (root_line k r.position r.value ≡ root_line n p v)))) → Contains roots (record { position = p; value = v })
     of_root (k, (r, (member, (below, same)))) =
-        let said = root_line-tells k n r.position p r.value v below small (right r member).lawful lawful same in
+        let said = root_line-tells k n r.position p r.value v below small (lawful_roots r member) lawful same in
         subst (λ q. Contains roots (record { position = q; value = v })) said.position
         (subst (λ w. Contains roots (record { position = r.position; value = w })) said.value member)
+
+pub report-says_roots : (roots : List Root) (front back : List ℕ) → 1 + length roots < 2 ^ 64 → AreTrueRoots roots → report_of roots ≡ front ++ back → SaysRoots roots front
+report-says_roots roots front back few right whole = report-says_lawful roots front back few (all_lawful roots right) whole
 
 -- and so true values alone
 pub report-is_true : (roots : List Root) (front back : List ℕ) → 1 + length roots < 2 ^ 64 → AreTrueRoots roots → report_of roots ≡ front ++ back → ValuesAreTrue front

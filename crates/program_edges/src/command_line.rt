@@ -1,5 +1,7 @@
 //! The words of the command line.
-ghost use Rattle.std.specs.Prelude.{◌≡◌, ◌≢◌, [], ◌∷◌, None, IfSome, IsSome, codes, map};
+ghost use Rattle.std.specs.Prelude.{◌≡◌, ◌≢◌, ◌⊎◌, [], ◌∷◌, None, IfErr, IfSome, IsSome, codes, map};
+ghost use Rattle.bench_edges.specs.Status.{status_number};
+ghost use Rattle.bench_edges.specs.declared.status.Status.TheVariants as status;
 ghost use Rattle.bench_edges.specs.Words.{texts};
 
 use bench_edges::Status;
@@ -11,8 +13,11 @@ use std::{env, io};
 pub const NO_WORDS: u8 = 9;
 
 /// The words of the command line without the program's name; or the exit status where they cannot
-/// be had.
-pub fn args(rt: &HostRuntime) -> Result<Vec<String>, u8> {
+/// be had: that of [`Status::Memory`] for want of memory, and else [`NO_WORDS`].
+pub fn args(rt: &HostRuntime) -> Result<Vec<String>, u8>
+    ensures refused { IfErr result (λ number.
+        (number ≡ status_number status.Memory) ⊎ (number ≡ NO_WORDS)) }
+{
     let args = match env::args(rt) {
         Ok(args) => args,
         Err(error) if error.kind() == io::ErrorKind::OutOfMemory => return Err(
@@ -25,8 +30,10 @@ pub fn args(rt: &HostRuntime) -> Result<Vec<String>, u8> {
         .map_err(|_| Status::Memory.number())
 }
 
-/// The words, borrowed; or the exit status where there is no memory for them.
-pub fn words_of(alloc: Global, args: &[String]) -> Result<Vec<&str>, u8> {
+/// The words, borrowed, in their order; or the exit status where there is no memory for them.
+pub fn words_of(alloc: Global, args: &[String]) -> Result<Vec<&str>, u8>
+    ensures refused { IfErr result (λ number. number ≡ status_number status.Memory) }
+{
     args.iter()
         .map(|word| word.as_str())
         .collect(alloc)

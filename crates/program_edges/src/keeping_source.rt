@@ -1,4 +1,7 @@
 //! A source that keeps what it is handed back.
+ghost use Rattle.std.specs.Prelude.{◌≡◌, [], None, Some};
+ghost use Rattle.std.specs.Option.{option_map_or};
+
 use bench_edges::{Source, SourceFault};
 
 /// A source that keeps the bytes that it is handed back, so that more can be told of them than a
@@ -11,12 +14,17 @@ pub struct KeepingSource<S: Source> {
 
 impl<S: Source> KeepingSource<S> {
     /// The source, which keeps nothing so far.
-    pub fn new(source: S) -> KeepingSource<S> {
+    pub fn new(source: S) -> KeepingSource<S>
+        ensures source { result.source ≡ source }
+        ensures kept { result.kept ≡ None }
+    {
         KeepingSource { source, kept: None }
     }
 
     /// The bytes that it was handed back last; none where it was handed none.
-    pub fn kept(&self) -> &[u8] {
+    pub fn kept(&self) -> &[u8]
+        ensures { result.now ≡ option_map_or (λ bytes. bytes.items) self.now.kept [] }
+    {
         self.kept.as_deref().unwrap_or(&[])
     }
 }
@@ -30,7 +38,11 @@ impl<S: Source> Source for KeepingSource<S> {
         self.source.read(into)
     }
 
-    fn take_back(&mut self, bytes: Vec<u8>) {
+    fn take_back(&mut self, bytes: Vec<u8>)
+        ensures left { S.left self.new.source ≡ S.left self.old.source }
+        ensures faults { S.faults self.new.source ≡ S.faults self.old.source }
+        ensures kept { self.new.kept ≡ Some bytes }
+    {
         self.kept = Some(bytes);
     }
 }

@@ -1,4 +1,6 @@
 //! Facts of a position.
+ghost use Rattle.std.specs.Prelude.{◌≡◌, false, IsTrue};
+
 use draughts_board::{Side, Value};
 
 /// Which of the four facts of a position are known: that a side has a forced win, and that a side
@@ -17,8 +19,6 @@ pub struct Facts {
     pub ghost black: { IsTrue black_wins → IsTrue black_holds × (white_holds ≡ false) },
     pub ghost white: { IsTrue white_wins → IsTrue white_holds × (black_holds ≡ false) },
 }
-
-ghost use Rattle.std.specs.Prelude.{◌≡◌, false, IsTrue};
 
 impl Facts {
     ghost use Rattle.std.specs.Prelude.{◌↔◌};

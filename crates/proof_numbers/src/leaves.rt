@@ -1,4 +1,8 @@
 //! Positions that have no children in a tree yet, and their numbers.
+ghost use Rattle.std.specs.Prelude.{◌≡◌};
+ghost use Rattle.proof_numbers.specs.Numbers.{mobility, counted_moves, leaf_numbers};
+ghost use Rattle.proof_numbers.specs.Facts.{known};
+
 use crate::facts::Facts;
 use crate::numbers::{Number, Numbers};
 use draughts_board::{Position, Side};
@@ -17,10 +21,6 @@ pub struct Child {
     pub moves: u8,
     pub ghost counted: { moves ≡ mobility position },
 }
-
-ghost use Rattle.std.specs.Prelude.{◌≡◌};
-ghost use Rattle.proof_numbers.specs.Numbers.{mobility, counted_moves, leaf_numbers};
-ghost use Rattle.proof_numbers.specs.Facts.{known};
 
 /// The mobility of a position with so many successors: the lesser of that and 64, and 1 where there
 /// is none.

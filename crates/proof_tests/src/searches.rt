@@ -1,11 +1,11 @@
 //! Searches of positions of three pieces, whose values were worked out by hand, and by a program that solves
 //! backwards from the end and is not kept here.
 use crate::tables::filled;
-use certificate_checker::Outcome;
+use certificate_checker::{MOST_DEPTH, Outcome};
 use draughts_board::{Position, Side};
 use endgame_table::Table;
 use fen_text::read_fen;
-use leaf_search::{MOST_DEPTH, Memo, is_undecided, prove_fortress, search};
+use leaf_search::{Memo, is_undecided, prove_fortress, search};
 use std::alloc::Global;
 use std::test::Fail;
 use strategy_certificate::Claim;

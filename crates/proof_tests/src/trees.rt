@@ -1,5 +1,8 @@
 //! The start and its first moves, a repetition and facts, worked out by hand, and trees of 300
 //! expansions beside a plain fold that the tests write down by themselves.
+ghost use Rattle.std.specs.Prelude.{◌≡◌, ◌<◌, IsSomeAnd};
+ghost use Rattle.proof_tree.specs.Forest.{node_at};
+
 use draughts_board::{Position, Side, Value};
 use fen_text::read_fen;
 use proof_numbers::{Child, Facts, Number, Numbers};
@@ -26,9 +29,6 @@ impl Taken for Third {
         n.number() % 3 == self.rest
     }
 }
-
-ghost use Rattle.std.specs.Prelude.{◌≡◌, ◌<◌, IsSomeAnd};
-ghost use Rattle.proof_tree.specs.Forest.{node_at};
 
 /// Expands a leaf.
 fn grow(alloc: Global, tree: &mut Tree, n: NodeId) -> Result<Vec<Child>, AllocError>

@@ -1,4 +1,9 @@
 //! Children of which nothing is known, and a tree of which nothing is taken.
+ghost use Rattle.std.specs.Prelude.{◌≡◌, map, All, IfOk};
+ghost use Rattle.draughts_board.specs.Play.{successors_of};
+ghost use Rattle.proof_numbers.specs.Facts.{known};
+ghost use Rattle.proof_numbers.specs.Known.{nothing_known};
+
 use crate::picking::Taken;
 use crate::rows::NodeId;
 use draughts_board::Position;
@@ -20,11 +25,6 @@ impl Taken for Free {
         false
     }
 }
-
-ghost use Rattle.std.specs.Prelude.{◌≡◌, map, All, IfOk};
-ghost use Rattle.draughts_board.specs.Play.{successors_of};
-ghost use Rattle.proof_numbers.specs.Facts.{known};
-ghost use Rattle.proof_numbers.specs.Known.{nothing_known};
 
 /// A position of which nothing is known.
 pub fn unknown_child(alloc: Global, p: Position) -> Result<Child, AllocError>

@@ -3,6 +3,8 @@ ghost use Rattle.std.specs.Prelude.{◌≡◌, ◌≢◌, ℕ, ◌<◌, ◌≤�
 ghost use Rattle.draughts_board.specs.Board.{Board, IsLawful};
 ghost use Rattle.proof_tree.specs.Changes.{stands_on};
 ghost use Rattle.proof_tree.specs.Rows.{row_at, path, new_row, new_rows, root_row, opened, AreLinked, AreRekept, AreExpanded, AreCounted, Fits};
+ghost use Rattle.proof_numbers.specs.Facts.{known};
+ghost use Rattle.proof_numbers.specs.Numbers.{leaf_numbers};
 
 use crate::kept::KeptNumbers;
 use crate::numbering::mend;
@@ -41,9 +43,6 @@ fn kept_by_leaf(child: &Child, repeats: bool, goal: Side) -> KeptNumbers
         child.moves,
     ))
 }
-
-ghost use Rattle.proof_numbers.specs.Facts.{known};
-ghost use Rattle.proof_numbers.specs.Numbers.{leaf_numbers};
 
 /// The row of a new node below a parent.
 fn new_row(parent: usize, number: usize, child: &Child, repeats: bool) -> NodeRow

@@ -3,10 +3,13 @@
 //! It tries the children of a node in rising order of what is left to show, and of place, goes down
 //! where a child is expanded, and back where all below it is taken. It keeps nothing but the row
 //! where it stands and the child that was tried last.
-ghost use Rattle.std.specs.Prelude.{◌≡◌, ℕ, ◌<◌, ◌≤◌, ◌+◌, ◌^◌, true, false, length, Some, None};
+ghost use Rattle.std.specs.Prelude.{◌≡◌, ℕ, ◌<◌, ◌≤◌, ◌+◌, ◌^◌, true, false, length, Some, None, map, All, is_some, slice_index};
 ghost use Rattle.draughts_board.specs.Board.{same_side};
-ghost use Rattle.proof_tree.specs.Rows.{row_at, kept_numbers, AreLinked};
+ghost use Rattle.proof_tree.specs.Rows.{row_at, kept_numbers, AreLinked, nodes_from, node_in, FitsRow, Fits, settled_front, AreNoted};
 ghost use Rattle.proof_tree.specs.Walking.{is_before, key, comes, is_behind, is_candidate, first_child_of, IsFirst};
+ghost use Rattle.proof_numbers.specs.Numbers.{is_resolved};
+ghost use Rattle.proof_tree.specs.Picking.{leaf_below, pick_at, pick_from};
+ghost use Rattle.proof_tree.specs.Forest.{goal_by, value_by, value_of};
 
 use crate::kept::{KeptNumber, KeptNumbers};
 use crate::rows::{Mark, NodeId, NodeRow};
@@ -112,10 +115,6 @@ pub trait Taken {
         ensures { result ≡ taken self.now n };
 }
 
-ghost use Rattle.proof_numbers.specs.Numbers.{is_resolved};
-ghost use Rattle.proof_tree.specs.Picking.{leaf_below};
-ghost use Rattle.proof_tree.specs.Rows.{nodes_from, node_in, FitsRow};
-
 /// The goal's side is to move at the row.
 fn goal_moves(rows: &[NodeRow], at: usize, goal: Side) -> bool
     requires { at < length rows.now }
@@ -190,11 +189,6 @@ fn leaf_from<T: Taken>(rows: &[NodeRow], root: usize, goal: Side, taken: &T) -> 
         Mark::Repeats => None,
     }
 }
-
-ghost use Rattle.std.specs.Prelude.{map, All, is_some, slice_index};
-ghost use Rattle.proof_tree.specs.Forest.{goal_by, value_by, value_of};
-ghost use Rattle.proof_tree.specs.Picking.{pick_at, pick_from};
-ghost use Rattle.proof_tree.specs.Rows.{Fits, settled_front, AreNoted};
 
 /// The side whose win is sought at a root with these numbers for Black.
 fn goal_by(black: KeptNumbers) -> Side

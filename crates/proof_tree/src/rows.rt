@@ -1,4 +1,6 @@
 //! The nodes as rows of one table.
+ghost use Rattle.std.specs.Prelude.{◌≡◌, ◌<◌, ◌^◌};
+
 use crate::kept::KeptNumbers;
 use draughts_board::{Position, Side};
 use proof_numbers::Facts;
@@ -38,8 +40,6 @@ pub enum Mark {
     /// Its position stands on the path from its root above it, and it never gets children.
     Repeats,
 }
-
-ghost use Rattle.std.specs.Prelude.{◌≡◌, ◌<◌, ◌^◌};
 
 /// The number of a row's parent, or none, in eight bytes. A contract sees an option.
 #[derive(Clone, Copy)]

@@ -1,4 +1,10 @@
 //! The proof tree.
+ghost use Rattle.std.specs.Prelude.{◌≡◌, ◌≤◌, ◌<◌, ℕ, length};
+ghost use Rattle.std.specs.Map.{values_of};
+ghost use Rattle.proof_tree.specs.declared.tree.TheConstants.{MOST_ROOTS};
+ghost use Rattle.proof_tree.specs.Forest.{nodes};
+ghost use Rattle.proof_tree.specs.Rows.{roots_from, forest_of, settled_front, AreLinked, AreNoted, Fits};
+
 use crate::growing::{expand, push_root};
 use crate::numbering::learn;
 use crate::picking::{Taken, is_settled, pick_from, settled_front, value_by};
@@ -355,12 +361,6 @@ impl Tree {
         )
     }
 }
-
-ghost use Rattle.std.specs.Prelude.{◌≡◌, ◌≤◌, ◌<◌, ℕ, length};
-ghost use Rattle.std.specs.Map.{values_of};
-ghost use Rattle.proof_tree.specs.declared.tree.TheConstants.{MOST_ROOTS};
-ghost use Rattle.proof_tree.specs.Forest.{nodes};
-ghost use Rattle.proof_tree.specs.Rows.{roots_from, forest_of, settled_front, AreLinked, AreNoted, Fits};
 
 /// How many roots stand before the first that is unsettled, where at least so many do.
 fn front_of(rows: &[NodeRow], roots: &IndexMap<Position, usize>, front: usize) -> usize

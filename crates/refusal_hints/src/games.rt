@@ -3,13 +3,14 @@ ghost use Rattle.std.specs.Prelude.{◌≤◌, ◌<◌, ◌+◌, length};
 
 use crate::boards::{say_position, side_name};
 use crate::fens::{place_in_fen, say_fen_fault};
+use crate::game_types::say_type_advice;
 use crate::move_lists::{is_capture, legal_moves_text, push_moves};
 use crate::pdn::{QUOTE_WIDTH, word_from};
 use draughts_board::{Move, Position, is_written};
 use draughts_rules::legal_moves;
 use fen_text::FenRefusal;
 use pdn_openings::{OpeningRefusal, openings};
-use pdn_text::{Game, MoveText, PdnRefusal, read_games};
+use pdn_text::{Game, Item, MoveText, PdnRefusal, Sign, Tag, beginning, item_at, read_games};
 use std::alloc::{AllocError, Global};
 use terminal_text::{quote, say, say_excerpt, say_number, say_place};
 
@@ -61,21 +62,6 @@ fn say_game(text: &mut Vec<u8>, number: u32, game: &Game) -> Result<(), AllocErr
     say(text, if before == ", " { ")" } else { "" })
 }
 
-/// Appends that a game is of another kind, and which.
-pub(crate) fn say_other_game(
-    text: &mut Vec<u8>,
-    number: u32,
-    game: &Game,
-) -> Result<(), AllocError> {
-    say_game(text, number, game)?;
-    say(text, " has the tag GameType \"")?;
-    quote(text, cut(value_of(game, b"GameType").unwrap_or(b"")))?;
-    say(
-        text,
-        "\". English draughts is 21: [GameType \"21\"], or no such tag. Take the game out of the file.\n",
-    )
-}
-
 /// Where the games before this one have their last move, at most the end of the source.
 fn end_of_earlier(games: &[Game], number: u32, source: &[u8]) -> usize
     ensures { result ≤ length source.now }
@@ -90,16 +76,64 @@ fn end_of_earlier(games: &[Game], number: u32, source: &[u8]) -> usize
     end.min(source.len())
 }
 
-/// The place from `from` on at which these bytes stand behind a quotation mark.
-fn find_quoted(source: &[u8], from: usize, bytes: &[u8]) -> Option<usize>
-    requires { from ≤ length source.now }
-{
-    for place in from..source.len() {
-        if source[place] == b'"' && source[place + 1..].starts_with(bytes) {
-            return Some(place + 1);
-        }
+/// The item is a tag of this name and this value.
+fn is_tag(sign: Option<Sign>, name: &[u8], value: &[u8]) -> bool {
+    match sign {
+        Some(
+            Sign::Tagged(
+                Tag {
+                    name: own,
+                    value: said,
+                },
+            ),
+        ) => own.as_slice() == name && said.as_slice() == value,
+        _ => false,
     }
-    None
+}
+
+/// The place from `from` on at which the first tag of this name and this value begins. An item
+/// stands at `from`.
+fn place_of_tag(
+    alloc: Global,
+    source: &[u8],
+    from: usize,
+    name: &[u8],
+    value: &[u8],
+) -> Result<Option<usize>, AllocError> {
+    let mut at = from;
+    while at < source.len() {
+        let Item { end, sign } = match item_at(alloc, source, at) {
+            Ok(item) => item,
+            Err(PdnRefusal::Memory(error)) => return Err(error),
+            Err(_) => return Ok(None),
+        };
+        if is_tag(sign, name, value) {
+            return Ok(Some(at));
+        }
+        at = end;
+    }
+    Ok(None)
+}
+
+/// The place of the value's first byte in the tag of this name and value that a game has.
+fn place_of_value(
+    alloc: Global,
+    games: &[Game],
+    number: u32,
+    source: &[u8],
+    name: &[u8],
+    value: &[u8],
+) -> Result<Option<usize>, AllocError> {
+    let from = end_of_earlier(games, number, source).max(beginning(source));
+    let Some(place) = place_of_tag(alloc, source, from, name, value)? else {
+        return Ok(None);
+    };
+    let mark = source
+        .iter()
+        .skip(place)
+        .position(|b| *b == b'"')
+        .unwrap_or(0);
+    Ok(Some(place.saturating_add(mark).saturating_add(1)))
 }
 
 /// Appends the line and the column of a byte, and the text as it stands there.
@@ -112,6 +146,7 @@ fn say_byte(text: &mut Vec<u8>, source: &[u8], at: usize) -> Result<(), AllocErr
 /// Appends why the FEN of a game is none: where it stands, and the fault in words.
 pub(crate) fn say_fen(
     text: &mut Vec<u8>,
+    alloc: Global,
     games: &[Game],
     number: u32,
     fault: FenRefusal,
@@ -122,13 +157,35 @@ pub(crate) fn say_fen(
     };
     let fen = value_of(game, b"FEN").unwrap_or(b"");
     let within = place_in_fen(fault).unwrap_or(0);
-    match find_quoted(source, end_of_earlier(games, number, source), fen) {
+    match place_of_value(alloc, games, number, source, b"FEN", fen)? {
         Some(place) => say_byte(text, source, place.saturating_add(within)),
         None => say_excerpt(text, fen, within.min(fen.len())),
     }?;
     say_game(text, number, game)?;
     say(text, " begins from no position. ")?;
     say_fen_fault(text, fen, fault)
+}
+
+/// Appends that a game is of another kind: where its tag stands, which, and what may be done.
+pub(crate) fn say_other_game(
+    text: &mut Vec<u8>,
+    alloc: Global,
+    games: &[Game],
+    number: u32,
+    source: &[u8],
+) -> Result<(), AllocError> {
+    let Some(game) = game_numbered(games, number) else {
+        return Ok(());
+    };
+    let value = value_of(game, b"GameType").unwrap_or(b"");
+    if let Some(place) = place_of_value(alloc, games, number, source, b"GameType", value)? {
+        say_byte(text, source, place)?;
+    }
+    say_game(text, number, game)?;
+    say(text, " has the tag GameType \"")?;
+    quote(text, cut(value))?;
+    say(text, "\". ")?;
+    say_type_advice(text, value)
 }
 
 /// The position before the move of a ply, counted from 1, of the game with this number; none where
@@ -175,8 +232,26 @@ fn say_legal(text: &mut Vec<u8>, alloc: Global, p: &Position) -> Result<(), Allo
     }
 }
 
-/// Appends why a written move cannot be made, so far as its first square says.
-fn say_first_square(text: &mut Vec<u8>, p: &Position, written: &Move) -> Result<(), AllocError> {
+/// Why a piece of the side that is not to move may be moved at a ply of a game.
+fn whose_advice(ply: u32, has_fen: bool) -> &'static str {
+    if ply > 1 {
+        "'s: a move before it may be missing or stand there twice.\n"
+    } else if has_fen {
+        "'s: the letter at the front of the tag `FEN` says who is to move first.\n"
+    } else {
+        "'s, and in English draughts Black begins: is this a game of another kind, in which White \
+            begins, or does it lack its tag `FEN`?\n"
+    }
+}
+
+/// Appends why the move of a ply cannot be made, so far as its first square says.
+fn say_first_square(
+    text: &mut Vec<u8>,
+    p: &Position,
+    written: &Move,
+    ply: u32,
+    has_fen: bool,
+) -> Result<(), AllocError> {
     let from = written.path()[0];
     let cell = p.at(from);
     if cell.belongs_to(p.to_move()) {
@@ -188,10 +263,7 @@ fn say_first_square(text: &mut Vec<u8>, p: &Position, written: &Move) -> Result<
     }
     say_number(text, "The piece on ", number, " is ")?;
     say(text, side_name(p.to_move().other()))?;
-    say(
-        text,
-        "'s: a move before it may be missing or stand there twice.\n",
-    )
+    say(text, whose_advice(ply, has_fen))
 }
 
 /// The star that ends the game before may have been meant for the move behind it.
@@ -208,9 +280,11 @@ fn say_illegal(
     alloc: Global,
     p: &Position,
     written: &MoveText,
+    ply: u32,
+    has_fen: bool,
 ) -> Result<(), AllocError> {
     say(text, " is not legal.\n")?;
-    say_first_square(text, p, &written.squares)?;
+    say_first_square(text, p, &written.squares, ply, has_fen)?;
     say_position(text, p)?;
     say_legal(text, alloc, p)
 }
@@ -265,7 +339,8 @@ pub(crate) fn say_move_fault(
     if is_ambiguous {
         return say_ambiguous(text, alloc, &p, written);
     }
-    say_illegal(text, alloc, &p, written)?;
+    let has_fen = value_of(game, b"FEN").is_some();
+    say_illegal(text, alloc, &p, written, ply, has_fen)?;
     if ply == 1 && follows_star(source, at) {
         say(
             text,

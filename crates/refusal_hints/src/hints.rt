@@ -6,7 +6,7 @@ ghost use Rattle.terminal_text.specs.Places.{place_text};
 ghost use Rattle.terminal_text.specs.Shown.{IsShown, shown};
 
 use crate::certificates::{say_check_fault, say_text_fault};
-use crate::games::{game_numbered, games_of, say_fen, say_move_fault, say_other_game};
+use crate::games::{games_of, say_fen, say_move_fault, say_other_game};
 use crate::journals::{say_journal, say_limit};
 use crate::pdn::say_pdn;
 use crate::tables::say_table;
@@ -72,11 +72,8 @@ fn say_game_fault(
 ) -> Result<(), AllocError> {
     let games = games_of(alloc, source)?;
     match *refusal {
-        Refusal::Fen(number, fault) => say_fen(text, &games, number, fault, source),
-        Refusal::OtherGame(number) => match game_numbered(&games, number) {
-            Some(game) => say_other_game(text, number, game),
-            None => Ok(()),
-        },
+        Refusal::Fen(number, fault) => say_fen(text, alloc, &games, number, fault, source),
+        Refusal::OtherGame(number) => say_other_game(text, alloc, &games, number, source),
         _ => Ok(()),
     }
 }

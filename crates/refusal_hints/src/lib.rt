@@ -13,13 +13,17 @@
 
 mod boards;
 mod certificates;
+mod fen_lines;
 mod fens;
+mod game_types;
 mod games;
 mod hints;
 mod journals;
 mod move_lists;
 mod pdn;
+mod signs;
 mod tables;
+mod tag_faults;
 mod words;
 
 pub use hints::hint;

@@ -1,41 +1,15 @@
 //! Texts that are no PDN.
 ghost use Rattle.std.specs.Prelude.{◌≤◌, length};
 
+use crate::fen_lines::say_fen_line;
+use crate::signs::{byte_advice, follows_doubled_brace};
+use crate::tag_faults::say_tag_fault;
 use opening_report::Refusal;
 use std::alloc::AllocError;
 use terminal_text::{quote, say, say_excerpt};
 
 /// How many bytes of a word or a tag are quoted at most.
 pub(crate) const QUOTE_WIDTH: usize = 40;
-
-/// The bytes that no item begins with are these, as people write them.
-fn byte_advice(source: &[u8], at: usize) -> &'static str
-    requires { at ≤ length source.now }
-{
-    match &source[at..] {
-        [] => "The text ends here.\n",
-        [b')', ..] =>
-            "Move numbers are written with a full stop: `1.` and not `1)`. A `)` alone closes nothing.\n",
-        [0xE2, 0x80, ..] =>
-            "This is a dash, a quotation mark or another sign from outside ASCII. Write `-` \
-                between the squares of a step.\n",
-        [0x80..=0xFF, ..] =>
-            "This byte is no ASCII. Outside of tags and comments only ASCII may stand.\n",
-        [b'}', ..] =>
-            "No comment is open here. Comments do not stand within one another: the first `}` closes.\n",
-        [b'X', ..] => "Between the squares of a capture stands a small `x`: `15x22`.\n",
-        [b'-' | b'x' | b'/', ..] => "A move is written without blanks: `11-15`, `15x22`.\n",
-        [b':', ..] => "Between the squares of a capture stands `x`: `15x22`.\n",
-        [b'%', ..] => "`%` begins a comment only at the beginning of a line.\n",
-        [b'$', ..] => "Behind `$` stands a number.\n",
-        [b'"', ..] => "A quotation mark stands only in a tag: [Event \"Club\"].\n",
-        [b'a'..=b'z' | b'A'..=b'Z', ..] =>
-            "Words stand only in tags and in comments: {so} or, up to the end of the line, behind \
-                `;`. Squares are numbers, 1 to 32.\n",
-        _ => "Outside of tags and comments only moves, move numbers, results, `!`, `?`, `$` with a \
-                number and variations in parentheses may stand.\n",
-    }
-}
 
 /// The word at a place: digits, `-`, `x` and `/`, cut to the width.
 pub(crate) fn word_from(source: &[u8], at: usize) -> &[u8]
@@ -77,7 +51,25 @@ fn say_word(text: &mut Vec<u8>, source: &[u8], at: usize) -> Result<(), AllocErr
     say(text, word_advice(word))
 }
 
-/// Appends why the text is no PDN, with the text as it stands at the byte that the refusal names.
+/// Appends what is wrong with the byte at a place, which begins nothing.
+fn say_bad_byte(text: &mut Vec<u8>, source: &[u8], at: usize) -> Result<(), AllocError>
+    requires { at ≤ length source.now }
+{
+    if say_fen_line(text, source, at)? {
+        return Ok(());
+    }
+    say(text, byte_advice(source, at))?;
+    if follows_doubled_brace(source, at) {
+        say(
+            text,
+            "The comment before it has a second `{`, which opens nothing: the first `}` has closed it.\n",
+        )?;
+    }
+    Ok(())
+}
+
+/// Appends why the text is no PDN, with the text as it stands at the byte that the refusal names, or
+/// where its tag is wrong.
 pub(crate) fn say_pdn(
     text: &mut Vec<u8>,
     refusal: &Refusal,
@@ -86,14 +78,12 @@ pub(crate) fn say_pdn(
 ) -> Result<(), AllocError>
     requires { at ≤ length source.now }
 {
+    if let Refusal::PdnOpenTag(_) = refusal {
+        return say_tag_fault(text, source, at);
+    }
     say_excerpt(text, source, at)?;
     match refusal {
-        Refusal::PdnBadByte(_) => say(text, byte_advice(source, at)),
-        Refusal::PdnOpenTag(_) => say(
-            text,
-            "A tag is a name, a blank and a value in quotation marks, all on one line: [Event \
-                \"Club\"]. In the value \\\" stands for a quotation mark.\n",
-        ),
+        Refusal::PdnBadByte(_) => say_bad_byte(text, source, at),
         Refusal::PdnOpenComment(_) => say(text, "This comment has no `}`.\n"),
         Refusal::PdnOpenVariation(_) => say(text, "This variation has no `)` of its own.\n"),
         _ => say_word(text, source, at),

@@ -1,77 +1,18 @@
 //! Words that are no command: what is meant, and what may be written.
+use bench_edges::{
+    COMMAND_NAMES, LEAST_COUNT, LEAST_PIECES, LEAST_ROOT, MOST_COUNT, MOST_PIECES, MOST_ROOT,
+    MOST_SEED, SOLVE_OPTIONS, SolveOption,
+};
 use std::alloc::{AllocError, Global};
 use strsim::levenshtein;
 use terminal_text::{quote, say, say_number};
 
-/// The commands, in the order of the manual.
-const COMMANDS: [&str; 7] = [
-    "solve",
-    "report",
-    "certify",
-    "verify",
-    "table",
-    "table-check",
-    "generate",
-];
-
-/// An option of `solve`, with the least number that it takes and the most.
-#[derive(Clone, Copy)]
-struct Limits {
-    name: &'static str,
-    least: u32,
-    most: u32,
-}
-
-/// The options of `solve`, in the order of the manual.
-const OPTIONS: [Limits; 6] = [
-    Limits {
-        name: "--workers",
-        least: 1,
-        most: 64,
-    },
-    Limits {
-        name: "--depth",
-        least: 0,
-        most: 12,
-    },
-    Limits {
-        name: "--pieces",
-        least: 2,
-        most: 3,
-    },
-    Limits {
-        name: "--plies",
-        least: 0,
-        most: 200,
-    },
-    Limits {
-        name: "--budget",
-        least: 0,
-        most: 1_000_000,
-    },
-    Limits {
-        name: "--lease",
-        least: 1,
-        most: 1_000_000_000,
-    },
-];
-
 /// How many letters apart a word may be from the one that is meant.
 const MOST_APART: usize = 3;
 
-/// The option with this name.
-fn option_named(word: &str) -> Option<Limits> {
-    for option in OPTIONS {
-        if option.name == word {
-            return Some(option);
-        }
-    }
-    None
-}
-
 /// The word is the name of a command.
 fn is_command(word: &str) -> bool {
-    for name in COMMANDS {
+    for name in COMMAND_NAMES {
         if name == word {
             return true;
         }
@@ -79,11 +20,21 @@ fn is_command(word: &str) -> bool {
     false
 }
 
-/// The word asks for help, though not by `--help` alone.
+/// The word asks for help or for the version, though not by `--help` or `--version` alone.
 fn asks_for_help(word: &str) -> bool {
     matches!(
         word,
-        "-h" | "help" | "-help" | "--help" | "-?" | "/?" | "usage" | "man"
+        "-h" | "help"
+            | "-help"
+            | "--help"
+            | "-?"
+            | "/?"
+            | "usage"
+            | "man"
+            | "-V"
+            | "version"
+            | "-version"
+            | "--version"
     )
 }
 
@@ -130,6 +81,22 @@ fn say_nearest(
     say(text, " is meant. ")
 }
 
+/// Appends these names, as `a, b and c`.
+fn say_names(text: &mut Vec<u8>, names: &[&'static str]) -> Result<(), AllocError> {
+    for place in 0..names.len() {
+        let before = if place == 0 {
+            ""
+        } else if place + 1 == names.len() {
+            " and "
+        } else {
+            ", "
+        };
+        say(text, before)?;
+        say(text, names[place])?;
+    }
+    Ok(())
+}
+
 /// Appends the form of the words.
 fn say_form(text: &mut Vec<u8>) -> Result<(), AllocError> {
     say(
@@ -142,7 +109,7 @@ fn say_form(text: &mut Vec<u8>) -> Result<(), AllocError> {
 }
 
 /// Appends what is wrong with one word alone, which is no command.
-fn say_lone_word(text: &mut Vec<u8>, word: &str) -> Result<(), AllocError> {
+fn say_lone_word(text: &mut Vec<u8>, alloc: Global, word: &str) -> Result<(), AllocError> {
     if asks_for_help(word) {
         return say_form(text);
     }
@@ -151,6 +118,7 @@ fn say_lone_word(text: &mut Vec<u8>, word: &str) -> Result<(), AllocError> {
         say_word(text, word)?;
         return say(text, " behind it: `-` stands for a journal in memory.\n");
     }
+    say_nearest(text, alloc, word, &COMMAND_NAMES)?;
     say(text, "A command is due behind ")?;
     say_word(text, word)?;
     say(text, ".\n")?;
@@ -184,26 +152,44 @@ fn say_command(
         return say_form(text);
     }
     say(text, " is no command. ")?;
-    say_nearest(text, alloc, word, &COMMANDS)?;
-    say(
-        text,
-        "The commands are solve, report, certify, verify, table, table-check and generate.\n",
-    )
+    say_nearest(text, alloc, word, &COMMAND_NAMES)?;
+    say(text, "The commands are ")?;
+    say_names(text, &COMMAND_NAMES)?;
+    say(text, ".\n")
+}
+
+/// Appends two numbers with a word between them, and what stands behind them.
+fn say_limits(
+    text: &mut Vec<u8>,
+    least: u32,
+    between: &str,
+    most: u32,
+    behind: &str,
+) -> Result<(), AllocError> {
+    say_number(text, "", u64::from(least), between)?;
+    say_number(text, "", u64::from(most), behind)
+}
+
+/// Appends which word cannot stand at a place where a number is due, or that one is missing there.
+fn say_wrong_word(text: &mut Vec<u8>, words: &[&str], at: usize) -> Result<(), AllocError> {
+    match words.get(at) {
+        Some(word) => {
+            say_word(text, word)?;
+            say(text, " cannot stand there. ")
+        }
+        None => say(text, "A number is missing. "),
+    }
 }
 
 /// Appends which numbers an option takes.
-fn say_numbers(text: &mut Vec<u8>, option: Limits) -> Result<(), AllocError> {
-    say(text, option.name)?;
-    say_number(
+fn say_numbers(text: &mut Vec<u8>, option: SolveOption) -> Result<(), AllocError> {
+    say(text, option.name())?;
+    say(text, " takes a number from ")?;
+    say_limits(
         text,
-        " takes a number from ",
-        u64::from(option.least),
+        option.least(),
         " to ",
-    )?;
-    say_number(
-        text,
-        "",
-        u64::from(option.most),
+        option.most(),
         ", as a word of its own, in digits alone and without zeros in front.\n",
     )
 }
@@ -211,7 +197,7 @@ fn say_numbers(text: &mut Vec<u8>, option: Limits) -> Result<(), AllocError> {
 /// Appends what is wrong with a word where an option of `solve` is due.
 fn say_option(text: &mut Vec<u8>, alloc: Global, word: &str) -> Result<(), AllocError> {
     say_word(text, word)?;
-    if option_named(word).is_some() {
+    if SolveOption::named(word).is_some() {
         return say(text, " stands there twice.\n");
     }
     if word.as_bytes().contains(&b'=') {
@@ -227,20 +213,11 @@ fn say_option(text: &mut Vec<u8>, alloc: Global, word: &str) -> Result<(), Alloc
         );
     }
     say(text, " is no option of `solve`. ")?;
-    let names = [
-        "--workers",
-        "--depth",
-        "--pieces",
-        "--plies",
-        "--budget",
-        "--lease",
-    ];
+    let names = SOLVE_OPTIONS.map(SolveOption::name);
     say_nearest(text, alloc, word, &names)?;
-    say(
-        text,
-        "The options are --workers, --depth, --pieces, --plies, --budget and --lease, each with a \
-            number.\n",
-    )
+    say(text, "The options are ")?;
+    say_names(text, &names)?;
+    say(text, ", each with a number.\n")
 }
 
 /// Appends what is wrong with the words of `solve` at a place behind its name.
@@ -255,8 +232,11 @@ fn say_solve(
     }
     if at % 2 == 1 {
         return match words.get(at - 1) {
-            Some(before) => match option_named(before) {
-                Some(option) => say_numbers(text, option),
+            Some(before) => match SolveOption::named(before) {
+                Some(option) => {
+                    say_wrong_word(text, words, at)?;
+                    say_numbers(text, option)
+                }
                 None => Ok(()),
             },
             None => Ok(()),
@@ -268,18 +248,46 @@ fn say_solve(
     }
 }
 
+/// Appends which number a command with one takes.
+fn say_one_number(text: &mut Vec<u8>, command: &str) -> Result<(), AllocError> {
+    if command == "certify" {
+        say(text, "certify takes the number of a root, from ")?;
+        return say_limits(
+            text,
+            LEAST_ROOT,
+            " to ",
+            MOST_ROOT,
+            ", as `report` shows it.\n",
+        );
+    }
+    say(text, "table takes the number of pieces, ")?;
+    say_limits(text, LEAST_PIECES, " or ", MOST_PIECES, ".\n")
+}
+
+/// Appends which numbers `generate` takes.
+fn say_generated(text: &mut Vec<u8>) -> Result<(), AllocError> {
+    say(text, "generate takes a seed, from ")?;
+    say_limits(
+        text,
+        0,
+        " to ",
+        MOST_SEED,
+        ", and then a number of openings, from ",
+    )?;
+    say_limits(text, LEAST_COUNT, " to ", MOST_COUNT, ".\n")
+}
+
 /// Appends what is wrong at a place behind the name of a command other than `solve`.
-fn say_argument(text: &mut Vec<u8>, command: &str, at: usize) -> Result<(), AllocError> {
+fn say_argument(
+    text: &mut Vec<u8>,
+    words: &[&str],
+    command: &str,
+    at: usize,
+) -> Result<(), AllocError> {
+    say_wrong_word(text, words, at)?;
     match command {
-        "certify" if at == 2 => say(
-            text,
-            "certify takes the number of a root, from 1 to 65536, as `report` shows it.\n",
-        ),
-        "table" if at == 2 => say(text, "table takes the number of pieces, 2 or 3.\n"),
-        "generate" if at == 2 || at == 3 => say(
-            text,
-            "generate takes a seed, from 0 to 4294967295, and then a number of openings, from 1 to 2000.\n",
-        ),
+        "certify" | "table" if at == 2 => say_one_number(text, command),
+        "generate" if at == 2 || at == 3 => say_generated(text),
         "verify" | "table-check" => {
             say(text, command)?;
             say(
@@ -294,8 +302,48 @@ fn say_argument(text: &mut Vec<u8>, command: &str, at: usize) -> Result<(), Allo
     }
 }
 
+/// The word at a place behind the command asks for help.
+fn asks_behind_command(words: &[&str], at: usize) -> bool {
+    match words.get(at) {
+        Some(word) => at > 1 && asks_for_help(word),
+        None => false,
+    }
+}
+
+/// The first word looks like an option and names a file all the same.
+fn is_odd_journal(words: &[&str]) -> bool {
+    match words.first() {
+        Some(word) => *word != "-" && word.as_bytes().starts_with(b"-") && !asks_for_help(word),
+        None => false,
+    }
+}
+
+/// Appends which file the first word names, where it looks like an option.
+fn say_odd_journal(text: &mut Vec<u8>, words: &[&str]) -> Result<(), AllocError> {
+    if is_odd_journal(words) {
+        say(text, "The first word names the journal: the file ")?;
+        say_word(text, words.first().copied().unwrap_or(""))?;
+        say(text, ". Options stand behind `solve`.\n")?;
+    }
+    Ok(())
+}
+
 /// Appends what is wrong with the words at a place, counted from 0, and what may stand there.
 pub(crate) fn say_words(
+    text: &mut Vec<u8>,
+    alloc: Global,
+    words: &[&str],
+    at: usize,
+) -> Result<(), AllocError> {
+    if asks_behind_command(words, at) {
+        return say_form(text);
+    }
+    say_words_at(text, alloc, words, at)?;
+    say_odd_journal(text, words)
+}
+
+/// Appends what is wrong with the words at a place, where none asks for help behind a command.
+fn say_words_at(
     text: &mut Vec<u8>,
     alloc: Global,
     words: &[&str],
@@ -307,13 +355,13 @@ pub(crate) fn say_words(
             text,
             "The first word is empty: it names the journal's file, or is `-` for a journal in memory.\n",
         ),
-        [first] => say_lone_word(text, first),
+        [first] => say_lone_word(text, alloc, first),
         [_, ..] if at == 0 => say(
             text,
             "The first word is empty: it names the journal's file, or is `-` for a journal in memory.\n",
         ),
         [first, word, ..] if at == 1 => say_command(text, alloc, first, word),
         [_, command, ..] if *command == "solve" => say_solve(text, alloc, words, at),
-        [_, command, ..] => say_argument(text, command, at),
+        [_, command, ..] => say_argument(text, words, command, at),
     }
 }

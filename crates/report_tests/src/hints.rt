@@ -80,6 +80,139 @@ fn faults_of_pdn(rt: HostRuntime) -> Result<(), Fail> {
     expect(&rt, rt.alloc(), &FAULTS_OF_PDN)
 }
 
+const SIGNS: [Case; 8] = [
+    (
+        Refusal::PdnBadByte(5),
+        b"9-13 \xC2\xBD-\xC2\xBD",
+        "line 1, column 6:\n  9-13 \\xC2\\xBD-\\xC2\\xBD\n       ^\nThis is the sign for one half. A draw is written 1/2-1/2.\n",
+    ),
+    (
+        Refusal::PdnBadByte(4),
+        b"9-13\xC2\xA022-18 *",
+        "line 1, column 5:\n  9-13\\xC2\\xA022-18 *\n      ^\nThis is a no-break space, as web pages have it. Write a plain blank.\n",
+    ),
+    (
+        Refusal::PdnBadByte(1),
+        b"1\xE2\x80\xA6 22-18 *",
+        "line 1, column 2:\n  1\\xE2\\x80\\xA6 22-18 *\n   ^\nThese are three full stops in one sign. Write `...`.\n",
+    ),
+    (
+        Refusal::PdnBadByte(0),
+        b"\xFF\xFE*\x00",
+        "line 1, column 1:\n  \\xFF\\xFE*\\x00\n  ^\nThis text is UTF-16. Save it as UTF-8, or as plain text.\n",
+    ),
+    (
+        Refusal::PdnBadByte(2),
+        b"*\n\x1A",
+        "line 2, column 1:\n  \\x1A\n  ^\nThis is the end-of-file sign of old systems (byte 26). Leave it out.\n",
+    ),
+    (
+        Refusal::PdnBadByte(2),
+        b"*\n\x0C*",
+        "line 2, column 1:\n  \\x0C*\n  ^\nThis is a form feed (byte 12), which begins a page. Leave it out.\n",
+    ),
+    (
+        Refusal::PdnBadByte(13),
+        b"{the {usual} move} *",
+        "line 1, column 14:\n  {the {usual} move} *\n               ^\nWords stand only in tags and in comments: {so} or, up to the end of the line, behind `;`. Squares are numbers, 1 to 32.\nThe comment before it has a second `{`, which opens nothing: the first `}` has closed it.\n",
+    ),
+    (
+        Refusal::PdnBadByte(7),
+        b"9-13 *\nW:W16,23:B12\n",
+        "line 2, column 1:\n  W:W16,23:B12\n  ^\nThis is a position. It is read as the value of a tag, with a result behind it: [FEN \"W:W16,23:B12\"] *\n",
+    ),
+];
+
+const TAGS: [Case; 8] = [
+    (
+        Refusal::PdnOpenTag(0),
+        b"[\"Club\"] *",
+        "line 1, column 1:\n  [\"Club\"] *\n   ^\nAt the mark the tag's name is due, which begins with a letter.\nA tag is a name, a blank and a value in quotation marks, all on one line: [Event \"Club\"].\n",
+    ),
+    (
+        Refusal::PdnOpenTag(2),
+        b"* [Game-Type \"21\"] *",
+        "line 1, column 3:\n  * [Game-Type \"21\"] *\n         ^\nAt the mark stands what no name of a tag has: names are letters, digits and `_`.\nA tag is a name, a blank and a value in quotation marks, all on one line: [Event \"Club\"].\n",
+    ),
+    (
+        Refusal::PdnOpenTag(0),
+        b"[Event\"Club\"] *",
+        "line 1, column 1:\n  [Event\"Club\"] *\n        ^\nAt the mark a blank is due, between the tag's name and its value.\nA tag is a name, a blank and a value in quotation marks, all on one line: [Event \"Club\"].\n",
+    ),
+    (
+        Refusal::PdnOpenTag(0),
+        b"[Event Club] *",
+        "line 1, column 1:\n  [Event Club] *\n         ^\nAt the mark a quotation mark is due, which opens the tag's value.\nA tag is a name, a blank and a value in quotation marks, all on one line: [Event \"Club\"].\n",
+    ),
+    (
+        Refusal::PdnOpenTag(0),
+        b"[Event \xE2\x80\x9CClub\xE2\x80\x9D] *",
+        "line 1, column 1:\n  [Event \\xE2\\x80\\x9CClub\\xE2\\x80\\x9D] *\n         ^\nAt the mark stands a quotation mark of another kind. Values stand between two `\"`.\nA tag is a name, a blank and a value in quotation marks, all on one line: [Event \"Club\"].\n",
+    ),
+    (
+        Refusal::PdnOpenTag(0),
+        b"[Event \"Club] *\n*",
+        "line 1, column 1:\n  [Event \"Club] *\n                 ^\nAt the mark the line ends, and the tag's value is not closed.\nA tag is a name, a blank and a value in quotation marks, all on one line: [Event \"Club\"].\n",
+    ),
+    (
+        Refusal::PdnOpenTag(0),
+        b"[Event \"Club\" ",
+        "line 1, column 1:\n  [Event \"Club\" \n                ^\nAt the mark the text ends, and the tag is not closed.\nA tag is a name, a blank and a value in quotation marks, all on one line: [Event \"Club\"].\n",
+    ),
+    (
+        Refusal::PdnOpenTag(0),
+        b"[Event \"The \"Club\"\"] *",
+        "line 1, column 1:\n  [Event \"The \"Club\"\"] *\n               ^\nAt the mark `]` is due. A quotation mark within a value is written \\\".\nA tag is a name, a blank and a value in quotation marks, all on one line: [Event \"Club\"].\n",
+    ),
+];
+
+#[test]
+fn signs_and_tags_have_names(rt: HostRuntime) -> Result<(), Fail> {
+    expect(&rt, rt.alloc(), &SIGNS)?;
+    expect(&rt, rt.alloc(), &TAGS)
+}
+
+const KINDS: [Case; 5] = [
+    (
+        Refusal::OtherGame(2),
+        b"* [GameType \"21 W\"] *",
+        "line 1, column 14:\n  * [GameType \"21 W\"] *\n               ^\nGame 2 has the tag GameType \"21 W\". It seems to mean English draughts, whose value is 21, alone or with a comma straight behind it: write [GameType \"21\"].\n",
+    ),
+    (
+        Refusal::OtherGame(2),
+        b"* [GameType \"Checkers\"] *",
+        "line 1, column 14:\n  * [GameType \"Checkers\"] *\n               ^\nGame 2 has the tag GameType \"Checkers\". It seems to mean English draughts, whose value is 21, alone or with a comma straight behind it: write [GameType \"21\"].\n",
+    ),
+    (
+        Refusal::OtherGame(2),
+        b"* [GameType \"Italian\"] *",
+        "line 1, column 14:\n  * [GameType \"Italian\"] *\n               ^\nGame 2 has the tag GameType \"Italian\". That is another kind of draughts, and English draughts is 21: take the game out of the file.\n",
+    ),
+    (
+        Refusal::OtherGame(2),
+        b"* [GameType \" \"] *",
+        "line 1, column 14:\n  * [GameType \" \"] *\n               ^\nGame 2 has the tag GameType \" \". The value is empty: write [GameType \"21\"] for English draughts, or leave the tag out.\n",
+    ),
+    (
+        Refusal::OtherGame(2),
+        b"* [GameType \"Club\"] *",
+        "line 1, column 14:\n  * [GameType \"Club\"] *\n               ^\nGame 2 has the tag GameType \"Club\". English draughts is 21: where the game is one, write [GameType \"21\"], and else take it out of the file.\n",
+    ),
+];
+
+/// An empty position behind another game, and one that begins as the value of an earlier tag.
+const EMPTY_FEN: Case = (
+    Refusal::Fen(2, FenRefusal::Truncated),
+    b"[Event \"\"] *\n[FEN \"\"] *",
+    "line 2, column 7:\n  [FEN \"\"] *\n        ^\nGame 2 begins from no position. The FEN ends too early.\nA FEN is the side to move and two lists of squares: W:W21,22,K30:B1,5-8. Squares 1 to 12 are where Black begins.\n",
+);
+
+#[test]
+fn kinds_of_games_and_an_empty_fen(rt: HostRuntime) -> Result<(), Fail> {
+    expect(&rt, rt.alloc(), &KINDS)?;
+    expect(&rt, rt.alloc(), &[EMPTY_FEN])
+}
+
 const FAULTS_OF_FENS: [Case; 2] = [
     (
         Refusal::Fen(1, FenRefusal::BadSquare(7)),
@@ -89,7 +222,7 @@ const FAULTS_OF_FENS: [Case; 2] = [
     (
         Refusal::OtherGame(1),
         b"[GameType \"20\"] *",
-        "Game 1 has the tag GameType \"20\". English draughts is 21: [GameType \"21\"], or no such tag. Take the game out of the file.\n",
+        "line 1, column 12:\n  [GameType \"20\"] *\n             ^\nGame 1 has the tag GameType \"20\". That is another kind of draughts, and English draughts is 21: take the game out of the file.\n",
     ),
 ];
 
@@ -151,7 +284,7 @@ fn tells_of_star(alloc: Global) -> Result<(bool, bool), Fail> {
 }
 
 const PIECE_OF_OTHER_SIDE: &str =
-    "Game 2, ply 1: 32-27 is not legal.\nThe piece on 32 is White's: a move before it may be missing or stand there twice.\nBlack is to move: ";
+    "Game 2, ply 1: 32-27 is not legal.\nThe piece on 32 is White's, and in English draughts Black begins: is this a game of another kind, in which White begins, or does it lack its tag `FEN`?\nBlack is to move: ";
 
 const STAR_BEFORE: &str = "A star before a move is read as the end of the game before it.\n";
 
@@ -191,6 +324,20 @@ const WORDS: &[Words] = &[
     (&[], 0, FORM),
     (&["-h"], 1, FORM),
     (&["help"], 1, FORM),
+    (&["-V"], 1, FORM),
+    (&["report", "--help"], 1, FORM),
+    (&["-", "solve", "--help", ""], 2, FORM),
+    (&["-", "certify", "-h", ""], 2, FORM),
+    (
+        &["-", "solve", "--depth"],
+        3,
+        "A number is missing. --depth takes a number from 0 to 12, as a word of its own, in digits alone and without zeros in front.\n",
+    ),
+    (
+        &["--depth", "slove", "", ""],
+        1,
+        "`slove` is no command. Perhaps `solve` is meant. The commands are solve, report, certify, verify, table, table-check and generate.\nThe first word names the journal: the file `--depth`. Options stand behind `solve`.\n",
+    ),
     (
         &["-", "slove", "", ""],
         1,
@@ -209,7 +356,7 @@ const WORDS: &[Words] = &[
     (
         &["-", "solve", "--depth", "13"],
         3,
-        "--depth takes a number from 0 to 12, as a word of its own, in digits alone and without zeros in front.\n",
+        "`13` cannot stand there. --depth takes a number from 0 to 12, as a word of its own, in digits alone and without zeros in front.\n",
     ),
     (
         &["-", "solve", "--depth=4", ""],
@@ -219,12 +366,12 @@ const WORDS: &[Words] = &[
     (
         &["-", "table", "4", ""],
         2,
-        "table takes the number of pieces, 2 or 3.\n",
+        "`4` cannot stand there. table takes the number of pieces, 2 or 3.\n",
     ),
     (
         &["-", "verify", "x", ""],
         2,
-        "verify takes no further word: it reads standard input, as `< FILE`.\n",
+        "`x` cannot stand there. verify takes no further word: it reads standard input, as `< FILE`.\n",
     ),
     (
         &["solve"],

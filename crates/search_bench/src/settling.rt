@@ -1,9 +1,9 @@
 //! What a search settles of a position, and of a list.
 use crate::lists::ListedPosition;
 use anyhow::{Result, ensure};
-use certificate_checker::Outcome;
+use certificate_checker::{MOST_DEPTH, Outcome};
 use draughts_board::{Position, Side, Value};
-use leaf_search::{MOST_DEPTH, Memo, is_undecided, search};
+use leaf_search::{Memo, is_undecided, search};
 use std::alloc::Global;
 use strategy_certificate::{Answer, Claim, Oracle};
 

@@ -66,10 +66,11 @@ fn run_once<R: Threads + Wait + Sync>(
     Ok((told, disk.bytes() == left))
 }
 
-/// Begin of B:W16,19:B12, in which Black is blocked: a frame of 22 bytes, and a record of 18.
-const BLOCKED: [u8; 40] = [
-    0x44, 0x52, 0x42, 0x45, 0x4e, 0x43, 0x48, 2, 1, 0, 0, 0, 0, 0, 0, 0, 22, 0, 0, 0, 18, 1, 0, 0,
-    0, 8, 0, 0, 0, 0, 0, 0, 4, 0x80, 0, 0, 0, 0, 0, 0,
+/// Begin of B:W16,19:B12, in which Black is blocked: a frame of 26 bytes, and a record of 22, with the position behind its
+/// number.
+const BLOCKED: [u8; 44] = [
+    0x44, 0x52, 0x42, 0x45, 0x4e, 0x43, 0x48, 2, 1, 0, 0, 0, 0, 0, 0, 0, 26, 0, 0, 0, 22, 4, 0, 0,
+    0, 0, 0, 0, 0, 8, 0, 0, 0, 0, 0, 0, 4, 0x80, 0, 0, 0, 0, 0, 0,
 ];
 
 #[test]

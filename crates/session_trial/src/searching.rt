@@ -5,9 +5,10 @@ ghost use Rattle.bench_core.specs.Cores.{IsOutcomeOf};
 use anyhow::{Result, bail};
 use certificate_checker::Outcome;
 use endgame_table::Table;
-use leaf_search::{MOST_DEPTH, Memo, is_undecided, search};
+use leaf_search::Memo;
 use lease_table::Lease;
 use std::alloc::Global;
+use worker_gate::{can_search, search_lease};
 
 /// How many positions a search remembers.
 const REMEMBERED: usize = 1_024;
@@ -16,16 +17,9 @@ const REMEMBERED: usize = 1_024;
 pub(crate) fn outcome_of(alloc: Global, lease: &Lease, table: &Table) -> Result<Outcome>
     ensures { IfOk result (IsOutcomeOf lease.now) }
 {
-    let Lease {
-        position,
-        goal,
-        depth,
-        pieces,
-        ..
-    } = *lease;
-    if pieces != table.pieces() || depth > MOST_DEPTH || !is_undecided(&position, table) {
+    if !can_search(lease, table) {
         bail!("the lease is of no search");
     }
     let mut memo = Memo::new(alloc, table.pieces(), REMEMBERED)?;
-    Ok(search(alloc, &position, goal, depth, table, &mut memo)?)
+    Ok(search_lease(alloc, lease, table, &mut memo)?)
 }

@@ -21,10 +21,9 @@ const ASKED: u32 = 3;
 
 /// The settings, where a lease lasts for so many leases given.
 fn settings_of(pieces: u8, lease: u32) -> Settings
-    ensures pieces { result.pieces ≡ pieces }
-    ensures depth { result.depth ≡ 1 }
-    ensures budget { result.budget ≡ 5 }
-    ensures lease { result.lease ≡ lease }
+    requires first { 1 ≤ lease }
+    requires last { lease ≤ MOST_LEASE }
+    ensures { result.pieces ≡ pieces }
 {
     Settings {
         pieces,

@@ -24,10 +24,7 @@ const LEASES: u32 = 3;
 
 /// How a session of so many pieces searches.
 pub(crate) fn settings(pieces: u8) -> Settings
-    ensures pieces { result.pieces ≡ pieces }
-    ensures depth { result.depth ≡ 0 }
-    ensures budget { result.budget ≡ 50 }
-    ensures lease { result.lease ≡ 5 }
+    ensures { result.pieces ≡ pieces }
 {
     Settings {
         pieces,

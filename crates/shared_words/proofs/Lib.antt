@@ -1,3 +1,4 @@
 pub mod LackingBytes
 pub mod Numerals
 pub mod Exactness
+pub mod FrontBytes

@@ -64,12 +64,12 @@ regroup a b c d = sym (append_assoc (a ++ b) c d ∙ append_assoc a b (c ++ d))
 pub read_item : (source : List ℕ) (asked at : ℕ) (game : Game) (old between new : Found) (item : Item) → IsRead source asked at game old
     → IsItemOfText (form_at source at) at (drop at source) item → at < item.end → item.end ≤ length source
     → Keeps old (on_ending asked game at (kind_of source at item)) between
-    → Keeps between (on_item game at (kind_of source at item)) new
+    → Keeps between (on_item game source at (kind_of source at item)) new
     → IsRead source asked item.end (after game at (kind_of source at item)) new
 read_item source asked at game old between new item r is onward inside ending itself =
     let k : Kind = kind_of source at item in
     let ended = option_to_list (on_ending asked game at k) in
-    let said = option_to_list (on_item game at k) in
+    let said = option_to_list (on_item game source at k) in
     let few = r.few in
     let at_end : at ≤ length source = r.inside in
     let number = r.number in
@@ -83,10 +83,10 @@ read_item source asked at game old between new item r is onward inside ending it
           ∙ r.goes_on (item ∷ more)
           ∙ regroup r.all ended said (on_items asked source (after game at k) item.end more);
       kept = itself (r.all ++ ended) (ending r.all r.kept);
-      few = omega (arith, few_more r.all (on_ending asked game at k), few_more (r.all ++ ended) (on_item game at k));
+      few = omega (arith, few_more r.all (on_ending asked game at k), few_more (r.all ++ ended) (on_item game source at k));
       all_inside = All-append (IsInside source) (r.all ++ ended) said
           (All-append (IsInside source) r.all ended r.all_inside (ending_inside source asked game at k (omega arith) (omega arith)))
-          (item_inside source game at k (omega arith));
+          (item_inside source game at k (omega arith) (omega arith));
       inside = inside;
       number = omega (arith, after_number game at k);
       plies = omega (arith, after_plies game at k);
@@ -95,9 +95,9 @@ read_item source asked at game old between new item r is onward inside ending it
 
 -- where the source ends, or no item stands
 pub read_all : (source : List ℕ) (asked at : ℕ) (game : Game) (old new : Found) → IsRead source asked at game old → IsStop source at
-    → Keeps old (on_end asked game) new → AreFound source asked new
+    → Keeps old (on_end asked game source at) new → AreFound source asked new
 read_all source asked at game old new r stop last = (
-  r.all ++ option_to_list (on_end asked game),
+  r.all ++ option_to_list (on_end asked game source at),
   record {
     items = r.items;
     place = at;
@@ -109,25 +109,25 @@ read_all source asked at game old new r stop last = (
 )
 
 pub told_inside : (source : List ℕ) (asked at : ℕ) (game : Game) (old new : Found) → IsRead source asked at game old
-    → Keeps old (on_end asked game) new → All (IsInside source) new.told.items
+    → Keeps old (on_end asked game source at) new → All (IsInside source) new.told.items
 told_inside source asked at game old new r last =
     let begins = r.begins in
     let inside = r.inside in
-    let all = r.all ++ option_to_list (on_end asked game) in
-    let are_inside : All (IsInside source) all = All-append (IsInside source) r.all (option_to_list (on_end asked game)) r.all_inside (end_inside source asked game (omega arith)) in
+    let all = r.all ++ option_to_list (on_end asked game source at) in
+    let are_inside : All (IsInside source) all = All-append (IsInside source) r.all (option_to_list (on_end asked game source at)) r.all_inside (end_inside source asked at game (omega arith)) in
     rw ((last r.all r.kept).0) (All-take (IsInside source) MOST_TOLD all are_inside)
 
 -- ---- as the code goes
 
 pub read_on : (source : List ℕ) (asked at : ℕ) (game next : Game) (old between new : Found) (item : Item) (k : Kind) (ending itself : Option Warning)
     → IsRead source asked at game old → IsItemOfText (form_at source at) at (drop at source) item → at < item.end → item.end ≤ length source
-    → k ≡ kind_of source at item → ending ≡ on_ending asked game at k → itself ≡ on_item game at k → next ≡ after game at k
+    → k ≡ kind_of source at item → ending ≡ on_ending asked game at k → itself ≡ on_item game source at k → next ≡ after game at k
     → Keeps old ending between → Keeps between itself new → IsRead source asked item.end next new
 read_on source asked at game next old between new item k ending itself r is onward inside ek e1 e2 en k1 k2 =
     subst (λ (g : Game). IsRead source asked item.end g new) (sym (en ∙ ap (after game at) ek))
     (read_item source asked at game old between new item r is onward inside
     (subst (λ (w : Option Warning). Keeps old w between) (e1 ∙ ap (on_ending asked game at) ek) k1)
-    (subst (λ (w : Option Warning). Keeps between w new) (e2 ∙ ap (on_item game at) ek) k2))
+    (subst (λ (w : Option Warning). Keeps between w new) (e2 ∙ ap (on_item game source at) ek) k2))
 
 pub some_holds : (P : Item → Type 0) (found : Option Item) (item : Item) → found ≡ Some item → IfSome found P → P item
 some_holds P found item e h = subst (λ (o : Option Item). IfSome o P) e h

@@ -1,4 +1,8 @@
 //! One entry of a strategy.
+ghost use Rattle.std.specs.Prelude.{IfSome};
+ghost use Rattle.draughts_board.specs.Board.{IsLawful};
+ghost use Rattle.strategy_certificate.specs.Parts.{IsPath};
+
 use draughts_board::{Move, Position};
 
 /// The greatest rank of an entry in a win part.
@@ -16,10 +20,6 @@ pub struct WinEntry {
     /// The move of the side, where it is its turn.
     pub chosen: Option<Move>,
 }
-
-ghost use Rattle.std.specs.Prelude.{IfSome};
-ghost use Rattle.draughts_board.specs.Board.{IsLawful};
-ghost use Rattle.strategy_certificate.specs.Parts.{IsPath};
 
 /// Does nothing: each position keeps the rule on pieces, and each move has a path of 2 to 13
 /// squares.

@@ -1,4 +1,7 @@
 //! Strategies by which a side never loses.
+ghost use Rattle.std.specs.Prelude.{◌≡◌, OnOk, OnErr};
+ghost use Rattle.strategy_certificate.specs.Parts.{merged_holds};
+
 use crate::entries::note_rules;
 use crate::merging::add_all_new;
 use crate::rows::{add_new_row, find_row, row_at};
@@ -131,9 +134,6 @@ impl HoldPart {
         self.entries.truncate(count);
     }
 }
-
-ghost use Rattle.std.specs.Prelude.{◌≡◌, OnOk, OnErr};
-ghost use Rattle.strategy_certificate.specs.Parts.{merged_holds};
 
 /// Takes over the entries of another part of the same side, in order. A new position goes last; one
 /// that is there keeps its entry.

@@ -1,4 +1,7 @@
 //! Strategies by which a side wins.
+ghost use Rattle.std.specs.Prelude.{◌≡◌, IfOk, OnOk, OnErr};
+ghost use Rattle.strategy_certificate.specs.Parts.{merged_wins, hold_of};
+
 use crate::entries::{MOST_RANK, WinEntry, note_rules};
 use crate::hold_parts::HoldPart;
 use crate::merging::{improve_all, without_ranks};
@@ -128,9 +131,6 @@ impl WinPart {
         self.entries.truncate(count);
     }
 }
-
-ghost use Rattle.std.specs.Prelude.{◌≡◌, IfOk, OnOk, OnErr};
-ghost use Rattle.strategy_certificate.specs.Parts.{merged_wins, hold_of};
 
 /// Takes over the entries of another part of the same side, in order. A new position goes last; one
 /// that is there takes the other entry, its rank and its move, exactly where that rank is smaller.

@@ -13,3 +13,4 @@ pub mod CapturePrefixes
 pub mod ForcesOf
 pub mod JumpedOver
 pub mod StepCounts
+pub mod NearSquares

@@ -28,7 +28,7 @@ pub pair_at : (f g : ℕ → ℕ → Bool) → map (λ x. map (f x) (range_with_
 pair_at f g e x z hx hz = test_at (f x) (g x) (row_at (λ y. map (f y) (range_with_len 1 32)) (λ y. map (g y) (range_with_len 1 32)) e x hx) z hz
 
 -- where a piece steps to
-abbrev lies_near : Cell → ℕ → ℕ → Bool
+abbrev pub lies_near : Cell → ℕ → ℕ → Bool
 lies_near c x z = is_square z && are_near x z && may_go c x z
 
 abbrev leads : Cell → ℕ → ℕ → Bool

@@ -10,6 +10,7 @@ ghost use Rattle.swift_moves.specs.Forces.{AreForces, is_jumper};
 
 use crate::forces::Forces;
 use crate::masks::is_any;
+use crate::movers::piece_at;
 use crate::ways::{Way, by_ways, leapt};
 use draughts_board::path_ends::{first, last};
 use draughts_board::{Cell, Move, Position, Side, Square};
@@ -38,7 +39,7 @@ pub(crate) fn jump_targets(p: &Position, f: &Forces, path: &[Square], taken: u32
     let here = last(path).bit();
     let over = f.enemies & !taken;
     let landing = by_ways(
-        p.at(start),
+        piece_at(p, f, start),
         leapt(Way::UpLeft, here, over),
         leapt(Way::UpRight, here, over),
         leapt(Way::DownLeft, here, over),
@@ -48,12 +49,13 @@ pub(crate) fn jump_targets(p: &Position, f: &Forces, path: &[Square], taken: u32
 }
 
 /// The capture ends with this path, behind which it may go on to the squares of `targets`.
-pub(crate) fn is_done(p: &Position, path: &[Square], targets: u32) -> bool
+pub(crate) fn is_done(p: &Position, f: &Forces, path: &[Square], targets: u32) -> bool
+    requires forces { AreForces p.now f.now }
     requires some { 1 ≤ length path.now }
     requires targets { IsMaskOf (goes_on p.now path.now) targets }
     ensures { result ≡ is_done p.now path.now }
 {
-    is_crowned_on(p.at(first(path)), last(path)) || !is_any(targets)
+    is_crowned_on(piece_at(p, f, first(path)), last(path)) || !is_any(targets)
 }
 
 /// The pieces taken once the path goes on to the square, which is a jump away.
@@ -85,7 +87,7 @@ fn grow(
 {
     let path = trail.path();
     let mut left = jump_targets(p, f, path, taken);
-    if is_done(p, path, left) {
+    if is_done(p, f, path, left) {
         found.push(*trail)?;
         return Ok(());
     }

@@ -9,7 +9,7 @@ ghost use Rattle.swift_moves.specs.Forces.{AreForces};
 use crate::captures::{is_crowned_on, is_done, jump_targets, with_jump};
 use crate::forces::Forces;
 use crate::masks::holds;
-use crate::movers::{has_jump, is_own};
+use crate::movers::{has_jump, is_own, piece_at};
 use crate::steps::step_targets;
 use draughts_board::path_ends::{first, last};
 use draughts_board::{Move, Position, Square};
@@ -23,7 +23,8 @@ fn is_continued(p: &Position, f: &Forces, path: &[Square], taken: u32, to: Squar
     ensures { result ≡ (goes_on p.now path.now to
         && not (is_crowned_on (cell_at p.now (first_square path.now)) (last_square path.now))) }
 {
-    holds(jump_targets(p, f, path, taken), to) && !is_crowned_on(p.at(first(path)), last(path))
+    holds(jump_targets(p, f, path, taken), to)
+        && !is_crowned_on(piece_at(p, f, first(path)), last(path))
 }
 
 /// The path is a capture.
@@ -44,7 +45,7 @@ fn is_capture(p: &Position, f: &Forces, path: &[Square]) -> bool
         }
         taken = with_jump(so_far, taken, to);
     }
-    is_done(p, path, jump_targets(p, f, path, taken))
+    is_done(p, f, path, jump_targets(p, f, path, taken))
 }
 
 /// The piece on the one square may step to the other.

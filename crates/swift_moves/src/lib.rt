@@ -18,6 +18,7 @@ mod masks;
 mod masks_moved;
 mod move_lists;
 mod movers;
+mod nearby;
 mod next;
 mod resolution;
 mod steps;

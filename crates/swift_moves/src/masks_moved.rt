@@ -100,6 +100,7 @@ pub(crate) fn jumped_over(path: &[Square]) -> u32
     ensures { IsMaskOf (contains (jumped path.now)) result }
 {
     match path {
+        [from, to] => with_jumped(0, *from, *to),
         [from, to, ..] => with_jumped(jumped_over(&path[1..]), *from, *to),
         _ => 0,
     }

@@ -1,15 +1,15 @@
 //! The pieces that can jump, and those that can step, found for the whole board at once.
 ghost use Rattle.std.specs.Prelude.{◌≡◌, ◌&&◌, ◌||◌};
-ghost use Rattle.draughts_board.specs.Board.{Board};
+ghost use Rattle.draughts_board.specs.Board.{Board, cell_at};
 ghost use Rattle.draughts_board.specs.Rules.{is_own, has_jump};
 ghost use Rattle.draughts_board.specs.Masks.{IsMaskOf, stands_in};
 ghost use Rattle.swift_moves.specs.Ways.{forward};
 ghost use Rattle.swift_moves.specs.Forces.{AreForces, is_jumper, is_stepper, leaps};
 
 use crate::forces::Forces;
-use crate::masks::is_any;
+use crate::masks::{holds, is_any};
 use crate::ways::{Way, before, forward};
-use draughts_board::{Position, Square};
+use draughts_board::{Cell, Position, Square};
 
 /// The pieces that go one of the ways: `up` and `down` hold the squares from which some way up or
 /// down is open.
@@ -57,6 +57,21 @@ pub(crate) fn has_jump(p: &Position) -> bool
     ensures { result ≡ has_jump p.now }
 {
     is_any(jumpers(&Forces::of(p)))
+}
+
+/// What stands on the square, the mover's pieces being asked first.
+#[inline]
+pub(crate) fn piece_at(p: &Position, f: &Forces, square: Square) -> Cell
+    requires { AreForces p.now f.now }
+    ensures { result ≡ cell_at p.now square }
+{
+    if holds(f.kings, square) {
+        Cell::King(f.mover)
+    } else if holds(f.men, square) {
+        Cell::Man(f.mover)
+    } else {
+        p.at(square)
+    }
 }
 
 /// A piece of the side to move stands on the square.

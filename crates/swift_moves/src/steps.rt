@@ -7,8 +7,8 @@ ghost use Rattle.draughts_board.specs.Masks.{IsMaskOf};
 ghost use Rattle.swift_moves.specs.Forces.{AreForces};
 
 use crate::forces::Forces;
-use crate::movers::steppers;
-use crate::ways::{Way, by_ways, reached};
+use crate::movers::{piece_at, steppers};
+use crate::nearby::near;
 use draughts_board::{Move, Position, Square};
 use std::alloc::AllocError;
 
@@ -18,15 +18,7 @@ pub(crate) fn step_targets(p: &Position, f: &Forces, from: Square) -> u32
     requires { AreForces p.now f.now }
     ensures { IsMaskOf (is_step p.now from) result }
 {
-    let here = from.bit();
-    let near = by_ways(
-        p.at(from),
-        reached(Way::UpLeft, here),
-        reached(Way::UpRight, here),
-        reached(Way::DownLeft, here),
-        reached(Way::DownRight, here),
-    );
-    near & f.free
+    near(piece_at(p, f, from), from) & f.free
 }
 
 /// Adds the steps of the piece on the square, in rising order.

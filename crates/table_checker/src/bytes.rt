@@ -4,6 +4,7 @@ ghost use Rattle.std.specs.List.{flat_map};
 ghost use Rattle.endgame_table.specs.Bytes.{number_bytes};
 ghost use Rattle.table_checker.specs.Faults.{BeginsTable};
 
+use shared_words::split_u32;
 use std::alloc::{AllocError, Global};
 
 /// For how many pieces the table is that begins with these bytes, 2 or 3; none where no table does.
@@ -25,8 +26,8 @@ pub(crate) fn read_numbers(alloc: Global, bytes: &[u8]) -> Result<Vec<u32>, Allo
 {
     let mut numbers = Vec::with_capacity(alloc, bytes.len() / 4)?;
     let mut rest = bytes;
-    while let [a, b, c, d, behind @ ..] = rest {
-        numbers.push(u32::from_be_bytes([*a, *b, *c, *d]))?;
+    while let Some((number, behind)) = split_u32(rest) {
+        numbers.push(number)?;
         rest = behind;
     }
     Ok(numbers)

@@ -17,6 +17,8 @@ mod openings;
 #[cfg(test)]
 mod records;
 #[cfg(test)]
+mod shared_positions;
+#[cfg(test)]
 mod terminals;
 #[cfg(test)]
 mod warnings;

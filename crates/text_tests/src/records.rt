@@ -1,9 +1,9 @@
-//! Records byte by byte, written out from the format: each mask holds square n as the bit of value
+//! Records of version 1 byte by byte, written out from the format: each mask holds square n as the bit of value
 //! 2^(n - 1).
 ghost use Rattle.std.specs.Prelude.{IfOk};
 
 use RecordRefusal::*;
-use bench_records::{BenchRecord, RecordRefusal, decode, encode};
+use bench_records::{BenchRecord, Named, RecordRefusal, decode, encode_full};
 use draughts_board::{Cell, Move, PlaceRefusal, Position, Side, Square};
 use std::alloc::{AllocError, Global};
 use std::process::Abort;
@@ -11,7 +11,7 @@ use std::test::Fail;
 use strategy_certificate::{Certificate, Claim, Part, WinEntry, WinPart};
 
 /// A root begins: B:W16,19:B12, a Black man on bit 11 and White men on bits 15 and 18.
-const BEGIN: [u8; 18] = [1, 0, 0, 0, 8, 0, 0, 0, 0, 0, 0, 4, 128, 0, 0, 0, 0, 0];
+pub(crate) const BEGIN: [u8; 18] = [1, 0, 0, 0, 8, 0, 0, 0, 0, 0, 0, 4, 128, 0, 0, 0, 0, 0];
 
 /// The journal with this record alone: its head, an open gate, the length of the frame's body in 8
 /// bytes, that of the payload in 4, the payload, and a closed gate.
@@ -21,10 +21,10 @@ const JOURNAL: [u8; 40] = [
 ];
 
 /// Node 1 is expanded.
-const EXPAND: [u8; 9] = [3, 0, 0, 0, 0, 0, 0, 0, 1];
+pub(crate) const EXPAND: [u8; 9] = [3, 0, 0, 0, 0, 0, 0, 0, 1];
 
 /// Node 0, W:W16,23:B12, is won for White: 23-19 leaves Black without a move.
-const SOLVE: [u8; 86] = [
+pub(crate) const SOLVE: [u8; 86] = [
     2, 0, 0, 0, 0, 0, 0, 0, 0, // the kind, and the node
     1, 0, 0, 8, 0, 0, 0, 0, 0, 0, 64, 128, 0, 0, 0, 0, 0, // from 9: its position
     1, 2, 0, 0, 0, 2, // from 26: one certificate, a win of White, with two entries
@@ -42,7 +42,7 @@ const DRAW: [u8; 38] = [
 ];
 
 /// W:W16,23:B12
-fn won() -> Result<Position, PlaceRefusal> {
+pub(crate) fn won() -> Result<Position, PlaceRefusal> {
     let mut cells = [Cell::Empty; 32];
     cells[16 - 1] = Cell::Man(Side::White);
     cells[23 - 1] = Cell::Man(Side::White);
@@ -51,7 +51,7 @@ fn won() -> Result<Position, PlaceRefusal> {
 }
 
 /// B:W16,19:B12
-fn blocked() -> Result<Position, PlaceRefusal> {
+pub(crate) fn blocked() -> Result<Position, PlaceRefusal> {
     let mut cells = [Cell::Empty; 32];
     cells[16 - 1] = Cell::Man(Side::White);
     cells[19 - 1] = Cell::Man(Side::White);
@@ -59,9 +59,10 @@ fn blocked() -> Result<Position, PlaceRefusal> {
     Position::place(cells, Side::Black)
 }
 
-/// What is read of the bytes.
+/// What is read of the bytes, where no position is named before.
 fn read(alloc: Global, bytes: &[u8], pieces: u8) -> Result<BenchRecord, RecordRefusal> {
-    decode(alloc, bytes, pieces)
+    let none = Named::new(alloc);
+    decode(alloc, bytes, pieces, &none)
 }
 
 /// The refusal of the bytes, if they are refused.
@@ -72,10 +73,11 @@ fn refusal(alloc: Global, bytes: &[u8]) -> Option<RecordRefusal> {
     }
 }
 
-/// What is read of the bytes, written again.
+/// What is read of the bytes, written again in full.
 fn written_again(alloc: Global, bytes: &[u8]) -> Result<Vec<u8>, RecordRefusal> {
-    let record = decode(alloc, bytes, 2)?;
-    Ok(encode(alloc, &record)?)
+    let none = Named::new(alloc);
+    let record = decode(alloc, bytes, 2, &none)?;
+    Ok(encode_full(alloc, &record)?)
 }
 
 /// Whether it is written again as these bytes.
@@ -83,14 +85,14 @@ fn is_written_again(alloc: Global, bytes: &[u8]) -> Result<bool, RecordRefusal> 
     Ok(written_again(alloc, bytes)?.as_slice() == bytes)
 }
 
-/// The text by which a root begins.
+/// The text of version 1 by which a root begins.
 fn begin_text(alloc: Global, p: Position) -> Result<Vec<u8>, AllocError> {
-    encode(alloc, &BenchRecord::Begin(p))
+    encode_full(alloc, &BenchRecord::Begin(p))
 }
 
 /// The text by which a node is expanded.
 fn expand_text(alloc: Global, node: u64) -> Result<Vec<u8>, AllocError> {
-    encode(alloc, &BenchRecord::Expand { node })
+    encode_full(alloc, &BenchRecord::Expand { node })
 }
 
 /// The position with which the bytes say that a root begins.
@@ -152,7 +154,7 @@ fn step() -> Option<Move> {
 }
 
 /// The side of a win part with two entries, and these.
-type TwoEntries = (Side, (Position, WinEntry), (Position, WinEntry));
+pub(crate) type TwoEntries = (Side, (Position, WinEntry), (Position, WinEntry));
 
 /// What the win part says, where it has two entries.
 fn two_entries(part: &WinPart) -> Option<TwoEntries> {
@@ -172,7 +174,7 @@ fn only_win(c: &Certificate) -> Option<TwoEntries> {
 
 /// What a certificate says beside its parts: its position and its claim, and how many pieces the
 /// table has.
-type Head = (Position, Claim, u8);
+pub(crate) type Head = (Position, Claim, u8);
 
 /// What the certificate says beside its parts.
 fn head(c: &Certificate) -> Head {
@@ -180,13 +182,13 @@ fn head(c: &Certificate) -> Head {
 }
 
 /// A node and its position, and of its one certificate the head and the only part.
-type SolvedByOne = (u64, Position, Head, TwoEntries);
+pub(crate) type SolvedByOne = (u64, Position, Head, TwoEntries);
 
 /// A node and its position, and the heads of its two certificates.
 type SolvedByTwo = (u64, Position, Head, Head);
 
 /// What the record says of a solved node with one certificate.
-fn solved_by_one(record: &BenchRecord) -> Option<SolvedByOne> {
+pub(crate) fn solved_by_one(record: &BenchRecord) -> Option<SolvedByOne> {
     let BenchRecord::Solve {
         node,
         position,
@@ -228,7 +230,7 @@ fn read_by_two(alloc: Global, bytes: &[u8]) -> Result<Option<SolvedByTwo>, Recor
 }
 
 /// What the solved node of 86 bytes says.
-fn win_in_one() -> Result<SolvedByOne, PlaceRefusal> {
+pub(crate) fn win_in_one() -> Result<SolvedByOne, PlaceRefusal> {
     let (won, blocked) = (won()?, blocked()?);
     let first = WinEntry {
         rank: 1,
@@ -268,7 +270,7 @@ fn two_holds_show_a_draw(rt: HostRuntime) -> Result<(), Fail> {
 }
 
 /// The place of a byte, what stands there now, and how the bytes are then refused.
-type Damage = (usize, u8, RecordRefusal);
+pub(crate) type Damage = (usize, u8, RecordRefusal);
 
 /// The refusal of the bytes with this one in place of theirs, or behind them.
 fn refusal_with(
@@ -396,11 +398,14 @@ const DAMAGED_BEGIN: &[Damage] = &[
 /// Kinds that are none.
 const KINDS: &[Damage] = &[
     (0, 0, BadKind),
-    (0, 4, BadKind),
-    (0, 5, BadKind),
+    (0, 6, BadKind),
     (0, 128, BadKind),
     (0, 255, BadKind),
 ];
+
+/// The solved node by the kinds of version 2. The first four zeros are the number of the position
+/// that begins a root. The side and the Black men are a number beyond the list of none.
+const SHORT_KINDS: &[Damage] = &[(0, 4, Trailing(22)), (0, 5, BadField(9))];
 
 #[test]
 fn damaged_bytes_are_refused(rt: HostRuntime) -> Result<(), Fail> {
@@ -408,6 +413,7 @@ fn damaged_bytes_are_refused(rt: HostRuntime) -> Result<(), Fail> {
     expect_refused(&rt, rt.alloc(), &BEGIN, DAMAGED_BEGIN)?;
     expect_refused(&rt, rt.alloc(), &EXPAND, &[(9, 3, Trailing(9))])?;
     expect_refused(&rt, rt.alloc(), &SOLVE, KINDS)?;
+    expect_refused(&rt, rt.alloc(), &SOLVE, SHORT_KINDS)?;
     expect_refused(&rt, rt.alloc(), &[3], KINDS)
 }
 
@@ -431,7 +437,7 @@ fn the_greatest_rank_is_read(rt: HostRuntime) -> Result<(), Fail> {
 }
 
 /// The last of the fields that begins there or before.
-fn field_at(fields: &[usize], at: usize) -> usize {
+pub(crate) fn field_at(fields: &[usize], at: usize) -> usize {
     let mut field = 1;
     for begin in fields {
         if *begin <= at {

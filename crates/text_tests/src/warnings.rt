@@ -11,15 +11,17 @@ fn counts(alloc: Global, source: &[u8], plies: usize) -> Result<(usize, usize), 
 }
 
 /// Sources that are meant so.
-const MEANT: [&[u8]; 8] = [
-    b"",
+const MEANT: [&[u8]; 10] = [
     b"*",
+    b"[GameType \"21,B,8,8,N1,0\"] [SetUp \"1\"] [FEN \"W:W16,23:B12\"] 5. 23-19 * [SetUp \"0\"] 1. 9-13 1... 22-18 2. 11-15 *",
+    b"*1. 9-13 [GameType \"21,B\"] *",
     b"[Event \"Club [fen]\"] [FEN \"W:W16,23:B12\"] 1. 23-19 *\r\n[FEN \"B:W21:B10\"] *",
     b"{[fen \"x\"] * *} 1. 11-15 (22-18 * * [fen]) $1 22-18! ; * *\r\n1-0\r\n",
     b"[GameType \"21\"] 11-15 1-0 % no comment begins here",
     b"[FEN \"W:W16:B12\"] 16-11 [FEN \"W:W16:B12\"] 16-11 1/2-1/2",
     b"\xEF\xBB\xBF* [White \"a\\\"] * *\"] 0-1",
     b"; one line\r\r\n%another\r\n*",
+    b"hello",
 ];
 
 /// The place of the first source of which something is warned, or some text is told.
@@ -76,9 +78,59 @@ const FAULTS: [Warning; 5] = [
     },
 ];
 
+/// A source with tags, numbers of moves and a star that may be meant otherwise.
+const DOUBTFUL: &[u8] =
+    b"[SetUp \"1\"] [Event \"a\"] [Event \"b\"] 3. 9-13 2. 9-14 * [GameType \"21,W\"] [GameType \"21\"] *11-15 1. 9-13 [White \"x\"] [SetUp \"1\"] [White \"x\"]";
+
+const DOUBTS: [Warning; 9] = [
+    Warning {
+        at: 24,
+        cause: Cause::SecondTag,
+    },
+    Warning {
+        at: 36,
+        cause: Cause::FirstNumber,
+    },
+    Warning {
+        at: 0,
+        cause: Cause::LacksFen,
+    },
+    Warning {
+        at: 44,
+        cause: Cause::LesserNumber,
+    },
+    Warning {
+        at: 54,
+        cause: Cause::OtherGameType,
+    },
+    Warning {
+        at: 72,
+        cause: Cause::SecondTag,
+    },
+    Warning {
+        at: 89,
+        cause: Cause::StarMove,
+    },
+    Warning {
+        at: 127,
+        cause: Cause::SecondTag,
+    },
+    Warning {
+        at: 103,
+        cause: Cause::LacksFen,
+    },
+];
+
+const NO_GAME: [Warning; 1] = [Warning {
+    at: 0,
+    cause: Cause::NoGame,
+}];
+
 #[test]
 fn each_cause_has_its_place(rt: HostRuntime) -> Result<(), Fail> {
     assert!(rt; is_warned(rt.alloc(), FAULTY, 0, &FAULTS)?);
+    assert!(rt; is_warned(rt.alloc(), DOUBTFUL, 0, &DOUBTS)?);
+    assert!(rt; is_warned(rt.alloc(), b"", 3, &NO_GAME)?);
     Ok(())
 }
 
@@ -143,7 +195,7 @@ const TEXTS: &[Case] = &[
     (
         b"; from a club\r[FEN \"W:W16,23:B12\"] *\r",
         0,
-        "warning: line 1, column 1:\n  ; from a club\n  ^\nThis comment goes on behind its line, which ends with a carriage return (byte 13) alone: what stands up to the next line feed (byte 10) is not read. End lines with a line feed, or write the comment in braces: {so}.\n",
+        "warning: line 1, column 1:\n  ; from a club\n  ^\nThis comment goes on behind its line, which ends with a carriage return (byte 13) alone: what stands up to the next line feed (byte 10) is not read. End lines with a line feed, or write the comment in braces: {so}.\nwarning: line 1, column 1:\n  ; from a club\n  ^\nNo game stands here, so no position is added. A lone `*` is a game that has not begun.\n",
     ),
     (
         b"* 9-13",

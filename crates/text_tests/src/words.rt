@@ -1,5 +1,5 @@
 //! Numbers and texts, by hand.
-use shared_words::{ItemList, number, number_to, push_number, split_once};
+use shared_words::{ItemList, number, number_to, push_number, split_once, split_u32, split_u64};
 use std::alloc::AllocError;
 use std::test::Fail;
 
@@ -67,6 +67,39 @@ const SPLIT: [(&[u8], Option<(&[u8], &[u8])>); 5] = [
 fn splits_at_the_first_such_byte(rt: HostRuntime) {
     for (text, want) in SPLIT {
         assert!(rt; split_once(text, b' ') == want);
+    }
+}
+
+/// Bytes, and the number that their first 4 are, with what stands behind these.
+const FOURS: [(&[u8], Option<(u32, &[u8])>); 5] = [
+    (b"\x00\x00\x01\x02", Some((258, b""))),
+    (b"\xff\xff\xff\xffx", Some((4_294_967_295, b"x"))),
+    (b"\x01\x00\x00\x00\x02\x03", Some((16_777_216, b"\x02\x03"))),
+    (b"\x01\x00\x00", None),
+    (b"", None),
+];
+
+/// The same of 8 bytes.
+const EIGHTS: [(&[u8], Option<(u64, &[u8])>); 4] = [
+    (
+        b"\x01\x02\x03\x04\x05\x06\x07\x08\t",
+        Some((72_623_859_790_382_856, b"\t")),
+    ),
+    (
+        b"\xff\xff\xff\xff\xff\xff\xff\xff",
+        Some((18_446_744_073_709_551_615, b"")),
+    ),
+    (b"\x01\x00\x00\x00\x00\x00\x00", None),
+    (b"", None),
+];
+
+#[test]
+fn splits_behind_a_number(rt: HostRuntime) {
+    for (text, want) in FOURS {
+        assert!(rt; split_u32(text) == want);
+    }
+    for (text, want) in EIGHTS {
+        assert!(rt; split_u64(text) == want);
     }
 }
 

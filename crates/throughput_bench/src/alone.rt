@@ -1,4 +1,4 @@
-//! What workers do between their turns, with no bench and no turns: searches, and encoding what was found.
+//! What workers do between their turns, with no bench and no turns: searches, and making the sheets of what was found.
 //!
 //! Its threads share the endgame table and the positions, which nothing changes, so it shows how many times as much four
 //! threads of this machine make as one, whatever a lock costs.
@@ -14,12 +14,13 @@ use bench_core::LeaseResult;
 use certificate_checker::Outcome;
 use draughts_board::{Position, Side};
 use endgame_table::Table;
-use leaf_search::{MOST_DEPTH, Memo, is_undecided, search};
+use leaf_search::Memo;
 use lease_table::{Lease, LeaseId};
 use std::alloc::Global;
 use std::thread;
 use std::thread::Threads;
 use std::time::Instant;
+use worker_gate::{can_search, search_lease};
 
 /// How many positions a thread remembers in which looking ahead shows no win.
 const REMEMBERED: usize = 65_536;
@@ -62,21 +63,13 @@ pub(crate) fn outcome_of(
 ) -> Option<Outcome>
     ensures { IfSome result (IsOutcomeOf lease.now) }
 {
-    let Lease {
-        position,
-        goal,
-        depth,
-        pieces,
-        ..
-    } = *lease;
-    let is_of_table = pieces == table.pieces() && memo.pieces() == pieces;
-    if !is_of_table || depth > MOST_DEPTH || !is_undecided(&position, table) {
+    if memo.pieces() != table.pieces() || !can_search(lease, table) {
         return None;
     }
-    search(alloc, &position, goal, depth, table, memo).ok()
+    search_lease(alloc, lease, table, memo).ok()
 }
 
-/// Searches the positions of a part, and keeps what was found, encoded. It ends early where memory runs out.
+/// Searches the positions of a part, and keeps what was found, with its sheet. It ends early where memory runs out.
 fn search_part(alloc: Global, positions: &[Position], table: &Table, part: &mut Part) {
     for number in part.first..part.end {
         let Some(position) = positions.get(number) else {

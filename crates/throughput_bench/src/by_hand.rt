@@ -32,8 +32,8 @@ const REMEMBERED: usize = 65_536;
 #[derive(Clone, Copy, PartialEq, Eq, Debug, Default)]
 pub(crate) struct Spent {
     pub(crate) search: u128,
-    /// Encoding what was found, before the turn.
-    pub(crate) encoding: u128,
+    /// Making the sheet of what was found, before the turn.
+    pub(crate) sheets: u128,
     /// The turns, in which it stages and commits what it found and leases the next leaf.
     pub(crate) turns: u128,
 }
@@ -42,7 +42,7 @@ impl Spent {
     /// How many there were.
     pub(crate) fn in_all(&self) -> u128 {
         self.search
-            .saturating_add(self.encoding)
+            .saturating_add(self.sheets)
             .saturating_add(self.turns)
     }
 }
@@ -96,7 +96,7 @@ fn settle<D: Disk>(
     next_of(session.lease(WORKER))
 }
 
-/// Encodes what was found, and hands it in, in one turn, for the next lease.
+/// Makes the sheet of what was found, and hands it in, in one turn, for the next lease.
 fn hand_in<R: Wait, D: Disk>(
     waiting: &R,
     rt: &HostRuntime,
@@ -112,13 +112,13 @@ fn hand_in<R: Wait, D: Disk>(
 {
     let start = Instant::now(rt)?;
     let found = LeaseResult::new(rt.alloc(), lease, outcome)?;
-    let encoding = start.elapsed(rt)?.as_nanos();
+    let sheets = start.elapsed(rt)?.as_nanos();
     let start = Instant::now(rt)?;
     let mut turn = shared.enter(waiting, pass);
     let next = settle(shared, &mut turn.session, found);
     shared.leave(pass, turn);
     let turns = start.elapsed(rt)?.as_nanos();
-    spent.encoding = spent.encoding.saturating_add(encoding);
+    spent.sheets = spent.sheets.saturating_add(sheets);
     spent.turns = spent.turns.saturating_add(turns);
     next
 }

@@ -7,7 +7,9 @@
 //!
 //! With the words `time PATH` there are 2,000 roots in memory and 400 on a file at that path. It prints the work records a
 //! second of one worker and of four, without the beginning of the roots, for how much of its time one worker has the turn,
-//! and how long one thread and four take with no turns: for the searches, and for as many steps in registers alone.
+//! and how long one thread and four take with no turns: for the searches, and for as many steps in registers alone. With the
+//! word `names` it prints what the position of a record takes to fill in and to read, with 20,000 positions named before and
+//! with a million; with `list COUNT` it makes a list of COUNT positions, and nothing else.
 #![tactic(auto)]
 
 ghost use Rattle.std.specs.Prelude.{◌≡◌};
@@ -15,14 +17,16 @@ ghost use Rattle.std.specs.Prelude.{◌≡◌};
 mod alone;
 mod by_hand;
 mod measure;
+mod names;
 mod places;
 mod roots;
 mod together;
 
 use crate::measure::{time, time_alone, time_machine};
+use crate::names::{hold_list, time_names};
 use crate::places::{Place, run_by_hand, run_together};
 use crate::roots::{End, PIECES};
-use anyhow::Result;
+use anyhow::{Result, bail};
 use capture_positions::capture_positions;
 use draughts_board::Position;
 use endgame_table::{Table, fill};
@@ -93,21 +97,34 @@ fn time_at<R: Threads + Wait + Sync>(
     Ok(())
 }
 
-/// What the words ask for.
-fn run_words<R: Threads + Wait + Sync>(threads: &R, rt: &HostRuntime) -> Result<()> {
-    let alloc = rt.alloc();
-    let mut words = env::args(rt)?;
-    let table = fill(alloc, PIECES)?;
-    if let (Some(word), Some(path)) = (words.nth(1), words.next())
-        && word.as_str() == "time"
-    {
-        return time_at(threads, rt, path.as_str(), &table);
-    }
-    let positions = capture_positions(alloc, SEED, FEW)?;
-    tell(threads, rt, Place::Memory, positions.as_slice(), &table)?;
-    tell(threads, rt, Place::File(FILE), positions.as_slice(), &table)?;
+/// What is timed without words: in memory, and on a file of this folder.
+fn tell_all<R: Threads + Wait + Sync>(threads: &R, rt: &HostRuntime, table: &Table) -> Result<()>
+    requires { table.now.pieces ≡ PIECES }
+{
+    let positions = capture_positions(rt.alloc(), SEED, FEW)?;
+    tell(threads, rt, Place::Memory, positions.as_slice(), table)?;
+    tell(threads, rt, Place::File(FILE), positions.as_slice(), table)?;
     fs::remove_file(rt, FILE)?;
     Ok(())
+}
+
+/// What the words ask for.
+fn run_words<R: Threads + Wait + Sync>(threads: &R, rt: &HostRuntime) -> Result<()> {
+    let mut words = env::args(rt)?;
+    let table = fill(rt.alloc(), PIECES)?;
+    let Some(word) = words.nth(1) else {
+        return tell_all(threads, rt, &table);
+    };
+    if word.as_str() == "names" {
+        return time_names(rt);
+    }
+    let Some(other) = words.next() else {
+        bail!("a word is missing");
+    };
+    if word.as_str() == "list" {
+        return hold_list(rt, other.as_str());
+    }
+    time_at(threads, rt, other.as_str(), &table)
 }
 
 fn main(rt: HostRuntime) -> Result<()> {

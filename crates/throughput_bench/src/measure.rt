@@ -53,15 +53,11 @@ fn print_turns(rt: &impl Print, place: Place, work: u64, spent: &Spent) -> Resul
     let name = place.name();
     let percent = spent.turns.saturating_mul(100) / spent.in_all().max(1);
     let work = u128::from(work.max(1));
-    let (search, encoding, turns) = (
-        spent.search / work,
-        spent.encoding / work,
-        spent.turns / work,
-    );
+    let (search, sheets, turns) = (spent.search / work, spent.sheets / work, spent.turns / work);
     print!(rt;
         "{name}: in turns {percent} % of a worker's time, for a record search {search} ns, "
     )?;
-    println!(rt; "encoding {encoding} ns, turn {turns} ns")?;
+    println!(rt; "sheet {sheets} ns, turn {turns} ns")?;
     Ok(())
 }
 
@@ -141,7 +137,7 @@ pub(crate) fn time_alone<R: Threads + Sync>(
         slow = slow.min(search_alone(threads, rt, positions, table, 1)?);
         fast = fast.min(search_alone(threads, rt, positions, table, 4)?);
     }
-    let what = "searches and encoding alone";
+    let what = "searches and sheets alone";
     print_alone(rt, what, positions.len(), slow, fast)
 }
 

@@ -23,10 +23,7 @@ const LEASE: u32 = 1_000_000;
 
 /// How a session searches.
 pub(crate) fn settings() -> Settings
-    ensures pieces { result.pieces ≡ PIECES }
-    ensures depth { result.depth ≡ DEPTH }
-    ensures budget { result.budget ≡ BUDGET }
-    ensures lease { result.lease ≡ LEASE }
+    ensures { result.pieces ≡ PIECES }
 {
     Settings {
         pieces: PIECES,

@@ -29,7 +29,7 @@ use Rattle.tree_manager.specs.declared.refusals.CommitRefusal.TheVariants as com
 use Rattle.proof_tree.specs.Sound.{root_positions}
 use Rattle.tree_manager.proofs.LineLemmas.{any_push_not, recorded_push}
 use Rattle.bench_core.proofs.Lists.{Each-append}
-use Rattle.tree_manager.proofs.HistoryLaws.{history_stands}
+use Rattle.tree_manager.proofs.HistoryLaws.{history_stands, recorded_is}
 use Rattle.tree_manager.proofs.ForgetLemmas.{rows_live}
 use Rattle.tree_manager.proofs.ReceiptLemmas.{spell_length, synced_put}
 use Rattle.tree_manager.proofs.WeavingLemmas.{woven_put, puts_push}
@@ -123,7 +123,7 @@ module _ {D : Type 0} (g : Ghosts D) where
 
   roots_at : (line : List Entry) (marks : List Mark) (capacity capacity' due : ℕ) (core : Core) (log : Log D) (added : List Board) (texts : List (List ℕ))
       → IsSession g line marks capacity due core log → log.failed ≡ false → MayStageRoots core added → CanApplyAll (with_roots_staged core added)
-      → ((before : List BenchRecord) → SpellsRecords core.state.settings.pieces before (map Begin added) texts) → length texts ≡ length added → length marks + (due + length added + length added) ≤ capacity'
+      → SpellsRecords core.state.settings.pieces (core.records ++ core.staged) (map Begin added) texts → length texts ≡ length added → length marks + (due + length added + length added) ≤ capacity'
       → IsSession g (line ++ root_puts added) (marks ++ map (λ _. Put) added) capacity' (due + length added) (with_roots_staged core added) (record log { staged = log.staged ++ texts })
   roots_at line marks capacity capacity' due core log added texts kept unfailed may grows spelled many room =
       let whole : is_failed line ≡ false = sym kept.failed ∙ unfailed in
@@ -142,19 +142,20 @@ module _ {D : Type 0} (g : Ghosts D) where
         not_more = Each-append (λ e. faults_told e ≤ g.faults log.disk) line (root_puts added) kept.not_more (faults_roots (g.faults log.disk) added);
         broken = λ h. absurd (true≢false (sym h ∙ (same ∙ whole)));
         ended = λ h. absurd (true≢false (sym h ∙ (same ∙ whole)));
-        synced = λ honest. synced_roots added line texts log whole (subst (λ k. SpellsRecords k (recorded line) (map Begin added) texts) (sym kept.pieces) (spelled (recorded line))) (kept.synced honest);
+        synced = λ honest. synced_roots added line texts log whole (subst (λ k. SpellsRecords k (recorded line) (map Begin added) texts) (sym kept.pieces)
+            (subst (λ rs. SpellsRecords core.state.settings.pieces rs (map Begin added) texts) (sym (recorded_is line core kept.history)) spelled)) (kept.synced honest);
       }
 
   -- the session behind the Puts
   pub kept_roots : (marks marks' : List Mark) (capacity capacity' due due' : ℕ) (core core' : Core) (log log' : Log D) (added : List Board)
       → IsSession g (woven marks (core.records ++ core.staged)) marks capacity due core log → log.failed ≡ false → marks' ≡ marks ++ map (λ _. Put) added → core' ≡ with_roots_staged core added
       → MayStageRoots core added → CanApplyAll core'
-      → (texts : List (List ℕ)) × ((before : List BenchRecord) → SpellsRecords core.state.settings.pieces before (map Begin added) texts) × (log' ≡ record log { staged = log.staged ++ texts })
+      → (texts : List (List ℕ)) × SpellsRecords core.state.settings.pieces (core.records ++ core.staged) (map Begin added) texts × (log' ≡ record log { staged = log.staged ++ texts })
       → due' ≡ due + length added → length marks + (due + length added + length added) ≤ capacity'
       → IsSession g (woven marks' (core'.records ++ core'.staged)) marks' capacity' due' core' log'
   kept_roots marks marks' capacity capacity' due due' core core' log log' added kept unfailed is same may grows journal owing room =
       let texts : List (List ℕ) = journal.0 in
-      let many : length texts ≡ length added = sym (spell_length core.state.settings.pieces [] (map Begin added) texts (journal.1 [])) ∙ length_begins added in
+      let many : length texts ≡ length added = sym (spell_length core.state.settings.pieces (core.records ++ core.staged) (map Begin added) texts journal.1) ∙ length_begins added in
       let line = line_roots marks marks' core core' added kept.filled is same in
       let whole =
       roots_at (woven marks (core.records ++ core.staged)) marks capacity capacity' due core log added texts kept unfailed may (subst CanApplyAll same grows) journal.1 many room in

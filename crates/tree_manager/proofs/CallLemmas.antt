@@ -1,5 +1,5 @@
 -- What each call does to a session, in the terms of its contract.
-use Rattle.std.proofs.Common.{◌≡◌, ◌≤◌, ◌<◌, ◌+◌, ◌-◌, ℕ, suc, List, [], ◌∷◌, ◌++◌, length, refl, ap, sym, ◌∙◌, subst, arith, length-append}
+use Rattle.std.proofs.Common.{◌≡◌, ◌≤◌, ◌<◌, ◌+◌, ◌-◌, ℕ, suc, List, [], ◌∷◌, ◌++◌, length, refl, ap, sym, ◌∙◌, subst, inl, inr, ◌⊎◌, arith, length-append}
 use Rattle.std.specs.Prelude.{false, Ok}
 use Rattle.std.proofs.lemmas.List.Sums.{count_by-le-length}
 use Rattle.bench_disk.specs.declared.disk.Disk.{Ghosts}
@@ -11,7 +11,7 @@ use Rattle.lease_table.specs.declared.leases.Lease.{Lease}
 use Rattle.lease_table.specs.Rows.{is_live_row, without}
 use Rattle.bench_records.specs.declared.records.BenchRecord.{BenchRecord}
 use Rattle.bench_records.specs.declared.records.BenchRecord.TheVariants.{Begin, Solve, Expand}
-use Rattle.bench_records.specs.Texts.{IsText}
+use Rattle.bench_records.specs.Texts.{IsFullText, IsShortText, IsText, named_in}
 use Rattle.bench_core.specs.Growing.{IsForestOf}
 use Rattle.bench_core.specs.States.{HasRow, lease_answer, with_lease, with_lease_rows}
 use Rattle.bench_core.specs.Cores.{CanApplyAll, Core, IsResult, MayStage, with_staged, record_of}
@@ -69,10 +69,12 @@ outcome_result core lease (Solved found) may = may
 outcome_result core lease (Exhausted e) may = may
 
 -- its text is not empty
-pub text_some : (k : ℕ) (r : BenchRecord) (text : List ℕ) → IsText k [] r text → 0 < length text
-text_some k (Begin p) text h = omega (arith, ap length h.spelled)
-text_some k (Solve n p shown) text h = omega (arith, ap length h.spelled)
-text_some k (Expand n) text h = omega (arith, ap length h.spelled)
+pub text_some : (k : ℕ) (before : List BenchRecord) (r : BenchRecord) (text : List ℕ) → IsText k before r text → 0 < length text
+text_some k before r text h = by h.spelled
+  where
+    by : IsFullText r text ⊎ IsShortText (named_in [] before) r text → 0 < length text
+    by (inl is) = omega (arith, ap length is)
+    by (inr (is, few)) = omega (arith, ap length is)
 
 -- a session whose bench and journal are as they were
 pub seen_back : {D : Type 0} (marks : List Mark) (core core' : Core) (log log' : Log D) → core' ≡ core → log' ≡ log
@@ -94,7 +96,7 @@ module _ {D : Type 0} (g : Ghosts D) where
       let s = core.state in
       subst (λ c. Keeps marks' capacity' (due + 2) c log) (sym same)
       (kept_quiet g marks marks' capacity capacity' due (due + 2) (Leased lease) (entry.Leased lease) core (record core { state = with_lease core.state lease }) log
-      kept unfailed is refl refl refl refl refl refl refl refl refl refl kept.grows
+      kept unfailed is refl refl (record { no_moment = refl; no_put = refl; unacknowledged = refl; whole = refl; no_faults = refl }) refl refl refl kept.grows
       (subst (λ w. lease_answer core.state w ≡ Ok lease) (sym (lease_worker core.state worker lease answer)) answer, refl)
       (omega (arith, waiting_leased (is_live_row s.leases.limit (s.given + 1)) s.leases.rows lease, kept.owed unfailed)) room)
 
@@ -107,12 +109,12 @@ module _ {D : Type 0} (g : Ghosts D) where
       subst (λ c. Keeps marks' capacity' (due - 2) c log) (sym same)
       (kept_quiet g marks marks' capacity capacity' due (due - 2) (Released id) (entry.Released id) core
       (record core { state = with_lease_rows core.state (without id core.state.leases.rows) }) log
-      kept unfailed is refl refl refl refl refl refl refl refl refl refl kept.grows (has, refl)
+      kept unfailed is refl refl (record { no_moment = refl; no_put = refl; unacknowledged = refl; whole = refl; no_faults = refl }) refl refl refl kept.grows (has, refl)
       (omega (arith, fewer, kept.owed unfailed))
       (omega (arith, fewer, kept.owed unfailed, kept.room unfailed, ap length is, length-append marks (Released id ∷ []), more)))
 
   pub kept_result : (marks marks' : List Mark) (capacity capacity' due : ℕ) (core core' : Core) (r : BenchRecord) (text : List ℕ) (log log' : Log D)
-      → Keeps marks capacity due core log → log.failed ≡ false → marks' ≡ marks ++ Put ∷ [] → MayStage core r → IsResult core r → ((before : List BenchRecord) → IsText core.state.settings.pieces before r text)
+      → Keeps marks capacity due core log → log.failed ≡ false → marks' ≡ marks ++ Put ∷ [] → MayStage core r → IsResult core r → IsText core.state.settings.pieces (core.records ++ core.staged) r text
       → core' ≡ with_staged core r → CanApplyAll core' → log' ≡ record log { staged = log.staged ++ text ∷ [] } → capacity ≤ capacity'
       → Keeps marks' capacity' (due - 1) core' log'
   kept_result marks marks' capacity capacity' due core core' r text log log' kept unfailed is may result is_text same grows logged more =

@@ -11,19 +11,15 @@ use Rattle.disk_journal.specs.declared.refusal.JournalRefusal.{JournalRefusal}
 use Rattle.disk_journal.specs.declared.refusal.JournalRefusal.TheVariants.{DiskFault, NotAJournal, OtherTable, Damaged, Memory}
 use Rattle.bench_records.specs.declared.records.BenchRecord.{BenchRecord}
 use Rattle.bench_records.specs.Texts.{IsText}
-use Rattle.bench_records.proofs.Texts.{text_is_spelled}
-use Rattle.bench_records.proofs.Exact.{spelled_once}
 use Rattle.bench_core.specs.Growing.{IsLawfulRecord, GrowsWithAll, IsForestOf}
 use Rattle.bench_core.proofs.OneForest.{records_have_one_forest, roots_are_those_begun}
 use Rattle.tree_manager.specs.Receipts.{SpellsRecords, ReadsRecords}
 use Rattle.tree_manager.specs.Replaying.{HasUnlawfulPayload, ExplainsReplay, ExplainsAttach}
 use Rattle.tree_manager.specs.Laws.{FilesReadAsOneList, RefusedFilesReadAsNone, OnePayloadStopsReplay, SessionsHaveRootsBegun}
 use Rattle.tree_manager.proofs.HistoryLaws.{history_stands}
+use Rattle.tree_manager.proofs.ReceiptLemmas.{text_once}
 
 -- ---- texts
-
-text_once : (k : ℕ) (before : List BenchRecord) (r s : BenchRecord) (text : List ℕ) → IsText k before r text → IsText k before s text → r ≡ s
-text_once k before r s text one two = (spelled_once k r s text text [] (text_is_spelled k before r text one) (text_is_spelled k before s text two) (sym (append-nil text))).0
 
 records_once : (k : ℕ) (before rs qs : List BenchRecord) (ps : List (List ℕ)) → SpellsRecords k before rs ps → SpellsRecords k before qs ps → rs ≡ qs
 records_once k before [] [] ps one two = refl
@@ -113,12 +109,12 @@ module _ {X : Type 0} where
   fronts_more a b xs ys x y e (below mid is) = below mid (ap (λ z. z ∷ ys) (sym e) ∙ ap (λ (l : List X). a ∷ l) is)
   fronts_more a b xs ys x y e (above mid is) = above mid (ap (λ z. z ∷ xs) e ∙ ap (λ (l : List X). b ∷ l) is)
 
-  fronts : (xs ys : List X) (x y : X) (us vs : List X) → xs ++ x ∷ us ≡ ys ++ y ∷ vs → Fronts xs ys x y
-  fronts [] [] x y us vs e = even refl
-  fronts [] (b ∷ ys) x y us vs e = below ys (ap (λ z. z ∷ ys) (sym (first_of x b us (ys ++ y ∷ vs) e)))
-  fronts (a ∷ xs) [] x y us vs e = above xs (ap (λ z. z ∷ xs) (first_of a y (xs ++ x ∷ us) vs e))
-  fronts (a ∷ xs) (b ∷ ys) x y us vs e =
-      fronts_more a b xs ys x y (first_of a b (xs ++ x ∷ us) (ys ++ y ∷ vs) e) (fronts xs ys x y us vs (rest_of a b (xs ++ x ∷ us) (ys ++ y ∷ vs) e))
+  compare_fronts : (xs ys : List X) (x y : X) (us vs : List X) → xs ++ x ∷ us ≡ ys ++ y ∷ vs → Fronts xs ys x y
+  compare_fronts [] [] x y us vs e = even refl
+  compare_fronts [] (b ∷ ys) x y us vs e = below ys (ap (λ z. z ∷ ys) (sym (first_of x b us (ys ++ y ∷ vs) e)))
+  compare_fronts (a ∷ xs) [] x y us vs e = above xs (ap (λ z. z ∷ xs) (first_of a y (xs ++ x ∷ us) vs e))
+  compare_fronts (a ∷ xs) (b ∷ ys) x y us vs e =
+      fronts_more a b xs ys x y (first_of a b (xs ++ x ∷ us) (ys ++ y ∷ vs) e) (compare_fronts xs ys x y us vs (rest_of a b (xs ++ x ∷ us) (ys ++ y ∷ vs) e))
 
 -- its place is one
 place_by : (k : ℕ) (file : List ℕ) (at other : ℕ) (one : HasUnlawfulPayload k file at) (two : HasUnlawfulPayload k file other) → Fronts one.front two.front one.payload two.payload → at ≡ other
@@ -133,7 +129,7 @@ place_by k file at other one two (above mid is) =
 pub one_payload_stops_replay : OnePayloadStopsReplay
 one_payload_stops_replay k file at other one two =
     place_by k file at other one two
-    (fronts one.front two.front one.payload two.payload one.rest two.rest (payloads_once k k file (one.front ++ one.payload ∷ one.rest) (two.front ++ two.payload ∷ two.rest) one.payloads two.payloads))
+    (compare_fronts one.front two.front one.payload two.payload one.rest two.rest (payloads_once k k file (one.front ++ one.payload ∷ one.rest) (two.front ++ two.payload ∷ two.rest) one.payloads two.payloads))
 
 -- ---- refusals
 
@@ -144,14 +140,14 @@ replay_unread k file records (OtherTable found asked) why read = why
 replay_unread k file records (Damaged at) why read = unlawful_unread k file at records why read
 replay_unread k file records (Memory error) why read = why
 
-told : (b : Bool) (P : Type 0) → b ≡ false → OnFalse b P → P
-told true P is p = absurd (true≢false is)
-told false P is p = p
+holds_where_false : (b : Bool) (P : Type 0) → b ≡ false → OnFalse b P → P
+holds_where_false true P is p = absurd (true≢false is)
+holds_where_false false P is p = p
 
 pub refused_files_read_as_none : RefusedFilesReadAsNone
 refused_files_read_as_none k file e records why tells read =
     ⊎_elim (λ journal. read_or_refused file k read.payloads e read.stands journal) (λ replay. replay_unread k file records e replay read)
-    (told (says_nothing_of_file e) (Explains file k e ⊎ ExplainsReplay file k e) tells why)
+    (holds_where_false (says_nothing_of_file e) (Explains file k e ⊎ ExplainsReplay file k e) tells why)
 
 -- a cause of replay is this one
 same_cause : (k : ℕ) (file : List ℕ) (at : ℕ) (e : JournalRefusal) → HasUnlawfulPayload k file at → ExplainsReplay file k e → e ≡ Damaged at

@@ -73,14 +73,14 @@ each_waits : (r : BenchRecord) (rows : List Row) → Each (λ (other : Row). oth
 each_waits r [] h = tt
 each_waits r (row ∷ rows) h = ((λ own. h.0), each_waits r rows h.1)
 
-further : (x : Row) (xs : List Row) (row : Row) → Contains xs row → Contains (x ∷ xs) row
-further x xs row there = Contains-append_right (x ∷ []) xs row there
+contains_behind : (x : Row) (xs : List Row) (row : Row) → Contains xs row → Contains (x ∷ xs) row
+contains_behind x xs row there = Contains-append_right (x ∷ []) xs row there
 
 contains_append : (xs ys : List Row) (row : Row) → Contains (xs ++ ys) row → Contains xs row ⊎ Contains ys row
 contains_append [] ys row there = inr there
 contains_append (x ∷ xs) ys row there = ⊎_elim
     (λ here. inl (subst (λ (y : Row). Contains (x ∷ xs) y) here (0, omega arith, refl)))
-    (λ rest. ⊎_elim (λ left. inl (further x xs row left)) (λ right. inr right) (contains_append xs ys row rest))
+    (λ rest. ⊎_elim (λ left. inl (contains_behind x xs row left)) (λ right. inr right) (contains_append xs ys row rest))
     (Contains-cases x row (xs ++ ys) there)
 
 other_waits : (r : BenchRecord) (ended kept put fresh : Bool) (l : Lease) → is_work_on l.node r ≡ false → Each (Waits r) (row_from ended kept put fresh l)

@@ -9,10 +9,10 @@ use Rattle.tree_manager.specs.declared.entries.Attachment.{Attachment}
 use Rattle.tree_manager.specs.declared.entries.Entry.{Entry}
 use Rattle.tree_manager.specs.declared.entries.Entry.TheVariants.{Put, Attached}
 use Rattle.tree_manager.specs.Entries.{breaks}
-use Rattle.tree_manager.specs.Lines.{attachment_of, is_failed}
+use Rattle.tree_manager.specs.Lines.{attachment_of, is_failed, recorded}
 use Rattle.tree_manager.specs.Histories.{IsCoreOf, Enters, IsHistory, Opens, Follows}
 use Rattle.tree_manager.specs.Laws.{LinesTellCores, EntriesCameNext, FailedLinesEndBroken}
-use Rattle.tree_manager.proofs.LineLemmas.{any_push_not}
+use Rattle.tree_manager.proofs.LineLemmas.{any_push_not, recorded_split}
 use Rattle.tree_manager.proofs.CoreLemmas.{enters_core, new_core_stands}
 
 -- the core, and that its leases last
@@ -26,6 +26,12 @@ history_stands _ _ (Follows line core before old e is history whole enters) =
 
 pub lines_tell_cores : LinesTellCores
 lines_tell_cores line core history = (history_stands line core history).0
+
+-- its records are those of the core
+pub recorded_is : (line : List Entry) (core : Core) → IsHistory line core → recorded line ≡ core.records ++ core.staged
+recorded_is line core history =
+    let stands = (history_stands line core history).0 in
+    recorded_split line ∙ (λ i. sym stands.records i ++ sym stands.staged i)
 
 -- ---- the entry at a place
 

@@ -184,14 +184,14 @@ none_of_number (Some row) h = absurd (cc h)
 abbrev WaitsBehind : List ℕ → Row → Type 0
 WaitsBehind ids row = row.kept ≡ false → Each (λ id. id < row.lease.id) ids
 
-later : (m n : ℕ) → m ≤ n → (m ≡ n → ⊥) → m < n
-later m n le ne = omega (arith, le, ne)
+below_unless_same : (m n : ℕ) → m ≤ n → (m ≡ n → ⊥) → m < n
+below_unless_same m n le ne = omega (arith, le, ne)
 
 behind_cond : (ids : List ℕ) (id : ℕ) (b : Bool) (row : Row) (rows : List Row) → not (has_id id row) ≡ b → WaitsBehind ids row → (row.kept ≡ false → id ≤ row.lease.id) → Each (WaitsBehind (ids ++ id ∷ [])) rows
     → Each (WaitsBehind (ids ++ id ∷ [])) (cond b (row ∷ rows) rows)
 behind_cond ids id true row rows is behind least rest =
     let other : (id ≡ row.lease.id) → ⊥ = λ e. true≢false (sym (eq-eqb id row.lease.id e) ∙ not-true (has_id id row) is) in
-    ((λ waits. Each-append (λ i. i < row.lease.id) ids (id ∷ []) (behind waits) (later id row.lease.id (least waits) other, tt)), rest)
+    ((λ waits. Each-append (λ i. i < row.lease.id) ids (id ∷ []) (behind waits) (below_unless_same id row.lease.id (least waits) other, tt)), rest)
 behind_cond ids id false row rows is behind least rest = rest
 
 -- one more ended, which was the least

@@ -5,11 +5,9 @@ use Rattle.std.specs.List.{AllByRecursion as Each}
 use Rattle.std.proofs.lemmas.Bool.{true≢false}
 use Rattle.std.proofs.lemmas.List.{append-nil}
 use Rattle.bench_disk.specs.declared.disk.Disk.{Ghosts}
-use Rattle.bench_disk.specs.Disk.{GoesOn, IsHonest, NothingPending}
-use Rattle.bench_disk.specs.Runs.{Leaves}
+use Rattle.bench_disk.specs.Disk.{GoesOn, IsHonest}
 use Rattle.shared_words.specs.Counts.{Rose}
-use Rattle.disk_journal.specs.Format.{HasPayloads, StandsBetween}
-use Rattle.disk_journal.specs.Log.{Log, StandsSince}
+use Rattle.disk_journal.specs.Log.{Log}
 use Rattle.bench_records.specs.declared.records.BenchRecord.{BenchRecord}
 use Rattle.bench_records.specs.Texts.{IsText}
 use Rattle.bench_core.specs.Growing.{GrowsWithAll}
@@ -20,7 +18,7 @@ use Rattle.tree_manager.specs.declared.entries.Entry.{Entry}
 use Rattle.tree_manager.specs.declared.entries.Entry.TheVariants as entry
 use Rattle.tree_manager.specs.declared.marks.Mark.{Mark}
 use Rattle.tree_manager.specs.declared.marks.Mark.TheVariants.{Put, Acked, Broken}
-use Rattle.tree_manager.specs.Entries.{record_put, moment_acknowledged, acknowledges, breaks, faults_told}
+use Rattle.tree_manager.specs.Entries.{breaks, faults_told}
 use Rattle.tree_manager.specs.Lines.{recorded, applied_in, unapplied_in, attachment_of, is_failed}
 use Rattle.tree_manager.specs.Histories.{Enters, Follows}
 use Rattle.tree_manager.specs.Weaving.{woven, entry_marked, puts_marked}
@@ -28,9 +26,9 @@ use Rattle.tree_manager.specs.Keeping.{waiting_leases, entries_owed, IsSession}
 use Rattle.tree_manager.proofs.LineLemmas.{recorded_split, any_push_not, any_push_yes}
 use Rattle.bench_core.proofs.Lists.{Each-append, Each-weaker}
 use Rattle.tree_manager.proofs.CoreLemmas.{attachment_push, run_grown}
-use Rattle.tree_manager.proofs.HistoryLaws.{history_stands}
+use Rattle.tree_manager.proofs.HistoryLaws.{history_stands, recorded_is}
 use Rattle.tree_manager.proofs.OwedLemmas.{waiting_filter}
-use Rattle.tree_manager.proofs.ReceiptLemmas.{synced_quiet, synced_put, synced_acked, synced_broken}
+use Rattle.tree_manager.proofs.ReceiptLemmas.{HasCommitted, IsDurable, IsQuiet, synced_quiet, synced_put, synced_acked, synced_broken}
 use Rattle.tree_manager.proofs.WeavingLemmas.{woven_put, woven_other, puts_push}
 
 -- ---- lines
@@ -77,14 +75,13 @@ module _ {D : Type 0} (g : Ghosts D) where
 
   -- a lease, or a release
   quiet_at : (line : List Entry) (marks marks' : List Mark) (capacity capacity' due due' : ℕ) (m : Mark) (e : Entry) (core core' : Core) (log : Log D)
-      → Kept line marks capacity due core log → log.failed ≡ false → marks' ≡ marks ++ m ∷ [] → puts_marked (m ∷ []) ≡ 0
-      → moment_acknowledged e ≡ [] → record_put e ≡ [] → acknowledges e ≡ false → breaks e ≡ false → faults_told e ≡ 0
+      → Kept line marks capacity due core log → log.failed ≡ false → marks' ≡ marks ++ m ∷ [] → puts_marked (m ∷ []) ≡ 0 → IsQuiet e
       → core'.records ≡ core.records → core'.staged ≡ core.staged → core'.state.settings ≡ core.state.settings → CanApplyAll core'
       → Enters core e core' → entries_owed core' ≤ due' → length marks' + due' ≤ capacity'
       → Kept (line ++ e ∷ []) marks' capacity' due' core' log
-  quiet_at line marks marks' capacity capacity' due due' m e core core' log kept unfailed is none no_moment no_put quiet goes_on no_faults x y settings grows enters owed room =
+  quiet_at line marks marks' capacity capacity' due due' m e core core' log kept unfailed is none quiet x y settings grows enters owed room =
       let line_whole : is_failed line ≡ false = sym kept.failed ∙ unfailed in
-      let same : is_failed (line ++ e ∷ []) ≡ is_failed line = any_push_not breaks line e goes_on in
+      let same : is_failed (line ++ e ∷ []) ≡ is_failed line = any_push_not breaks line e quiet.whole in
       record {
         filled = ap puts_marked is ∙ (puts_push marks m ∙ omega (arith, none, kept.filled, ap length x, ap length y));
         history = Follows (line ++ e ∷ []) core' line core e refl kept.history line_whole enters;
@@ -95,25 +92,24 @@ module _ {D : Type 0} (g : Ghosts D) where
         as_many = λ h. kept.as_many h ∙ sym (ap length y);
         owed = λ h. owed;
         room = λ h. room;
-        not_more = Each-append (λ e. faults_told e ≤ g.faults log.disk) line (e ∷ []) kept.not_more (omega (arith, no_faults), tt);
+        not_more = Each-append (λ e. faults_told e ≤ g.faults log.disk) line (e ∷ []) kept.not_more (omega (arith, quiet.no_faults), tt);
         broken = λ h. absurd (true≢false (sym h ∙ (same ∙ line_whole)));
         ended = λ h. absurd (true≢false (sym h ∙ (same ∙ line_whole)));
-        synced = λ honest. synced_quiet g line e log no_moment no_put quiet goes_on (kept.synced honest);
+        synced = λ honest. synced_quiet g line e log quiet (kept.synced honest);
       }
 
   pub kept_quiet : (marks marks' : List Mark) (capacity capacity' due due' : ℕ) (m : Mark) (e : Entry) (core core' : Core) (log : Log D)
-      → Kept (woven marks (core.records ++ core.staged)) marks capacity due core log → log.failed ≡ false → marks' ≡ marks ++ m ∷ [] → puts_marked (m ∷ []) ≡ 0 → entry_marked m ≡ e ∷ []
-      → moment_acknowledged e ≡ [] → record_put e ≡ [] → acknowledges e ≡ false → breaks e ≡ false → faults_told e ≡ 0
+      → Kept (woven marks (core.records ++ core.staged)) marks capacity due core log → log.failed ≡ false → marks' ≡ marks ++ m ∷ [] → puts_marked (m ∷ []) ≡ 0 → entry_marked m ≡ e ∷ [] → IsQuiet e
       → core'.records ≡ core.records → core'.staged ≡ core.staged → core'.state.settings ≡ core.state.settings → CanApplyAll core'
       → Enters core e core' → entries_owed core' ≤ due' → length marks' + due' ≤ capacity'
       → Kept (woven marks' (core'.records ++ core'.staged)) marks' capacity' due' core' log
-  kept_quiet marks marks' capacity capacity' due due' m e core core' log kept unfailed is none one no_moment no_put quiet goes_on no_faults x y settings grows enters owed room =
+  kept_quiet marks marks' capacity capacity' due due' m e core core' log kept unfailed is none one quiet x y settings grows enters owed room =
       subst (λ line. Kept line marks' capacity' due' core' log) (sym (line_other marks marks' core core' m e kept.filled is none one (rw (x, y) refl)))
-      (quiet_at (woven marks (core.records ++ core.staged)) marks marks' capacity capacity' due due' m e core core' log kept unfailed is none no_moment no_put quiet goes_on no_faults x y settings grows enters owed room)
+      (quiet_at (woven marks (core.records ++ core.staged)) marks marks' capacity capacity' due due' m e core core' log kept unfailed is none quiet x y settings grows enters owed room)
 
   -- a record is staged
   put_at : (line : List Entry) (marks marks' : List Mark) (capacity capacity' due due' : ℕ) (core : Core) (r : BenchRecord) (text : List ℕ) (log : Log D)
-      → Kept line marks capacity due core log → log.failed ≡ false → marks' ≡ marks ++ Put ∷ [] → MayStage core r → ((before : List BenchRecord) → IsText core.state.settings.pieces before r text)
+      → Kept line marks capacity due core log → log.failed ≡ false → marks' ≡ marks ++ Put ∷ [] → MayStage core r → IsText core.state.settings.pieces (core.records ++ core.staged) r text
       → CanApplyAll (with_staged core r) → entries_owed (with_staged core r) ≤ due' → length marks' + due' ≤ capacity'
       → Kept (line ++ entry.Put r ∷ []) marks' capacity' due' (with_staged core r) (record log { staged = log.staged ++ text ∷ [] })
   put_at line marks marks' capacity capacity' due due' core r text log kept unfailed is may is_text grows owed room =
@@ -132,11 +128,11 @@ module _ {D : Type 0} (g : Ghosts D) where
         not_more = Each-append (λ e. faults_told e ≤ g.faults log.disk) line (entry.Put r ∷ []) kept.not_more (omega arith, tt);
         broken = λ h. absurd (true≢false (sym h ∙ (same ∙ line_whole)));
         ended = λ h. absurd (true≢false (sym h ∙ (same ∙ line_whole)));
-        synced = λ honest. synced_put g line r text log line_whole (rw kept.pieces (is_text (recorded line))) (kept.synced honest);
+        synced = λ honest. synced_put g line r text log line_whole (rw kept.pieces (subst (λ rs. IsText core.state.settings.pieces rs r text) (sym (recorded_is line core kept.history)) is_text)) (kept.synced honest);
       }
 
   pub kept_put : (marks marks' : List Mark) (capacity capacity' due due' : ℕ) (core core' : Core) (r : BenchRecord) (text : List ℕ) (log log' : Log D)
-      → Kept (woven marks (core.records ++ core.staged)) marks capacity due core log → log.failed ≡ false → marks' ≡ marks ++ Put ∷ [] → MayStage core r → ((before : List BenchRecord) → IsText core.state.settings.pieces before r text)
+      → Kept (woven marks (core.records ++ core.staged)) marks capacity due core log → log.failed ≡ false → marks' ≡ marks ++ Put ∷ [] → MayStage core r → IsText core.state.settings.pieces (core.records ++ core.staged) r text
       → core' ≡ with_staged core r → CanApplyAll core' → entries_owed core' ≤ due' → length marks' + due' ≤ capacity' → log' ≡ record log { staged = log.staged ++ text ∷ [] }
       → Kept (woven marks' (core'.records ++ core'.staged)) marks' capacity' due' core' log'
   kept_put marks marks' capacity capacity' due due' core core' r text log log' kept unfailed is may is_text same grows owed room logged =
@@ -151,13 +147,9 @@ module _ {D : Type 0} (g : Ghosts D) where
       → Kept line marks capacity due core old → old.failed ≡ false → marks' ≡ marks ++ Acked (g.moment new.disk) ∷ [] → length marks' + due' ≤ capacity' → due' ≡ due - length old.staged
       → IsCommitted core core'
       → new.pieces ≡ old.pieces → new.staged ≡ [] → new.failed ≡ false → new.count ≡ old.count + length old.staged → g.faults old.disk ≤ g.faults new.disk
-      → (IsHonest g.TELLS → (payloads : List (List ℕ)) → HasPayloads old.pieces (g.reads old.disk) payloads → HasPayloads old.pieces (g.reads new.disk) (payloads ++ old.staged))
-      → (IsHonest g.TELLS → NothingPending (g.reads new.disk) (g.images new.disk))
-      → (IsHonest g.TELLS → (payloads : List (List ℕ)) → HasPayloads old.pieces (g.reads old.disk) payloads → Leaves g.moment g.images_since old.disk new.disk (StandsBetween old.pieces payloads (payloads ++ old.staged)))
-      → (IsHonest g.TELLS → (t : ℕ) (low payloads : List (List ℕ)) → t ≤ g.moment old.disk → HasPayloads old.pieces (g.reads old.disk) payloads → StandsSince g.images_since old.disk t old.pieces low payloads → StandsSince g.images_since new.disk t old.pieces low (payloads ++ old.staged))
-      → (IsHonest g.TELLS → (payloads : List (List ℕ)) → HasPayloads old.pieces (g.reads new.disk) payloads → StandsSince g.images_since new.disk (g.moment new.disk) old.pieces payloads payloads)
+      → (IsHonest g.TELLS → HasCommitted g old new) → (IsHonest g.TELLS → IsDurable g old new (g.moment new.disk))
       → Kept (line ++ entry.Acked (g.moment new.disk) ∷ []) marks' capacity' due' core' new
-  acked_at line marks marks' capacity capacity' due due' core core' old new kept unfailed is room spent committed pieces none unbroken count later has settled crash stays acknowledged =
+  acked_at line marks marks' capacity capacity' due due' core core' old new kept unfailed is room spent committed pieces none unbroken count later left durable =
       let e : Entry = entry.Acked (g.moment new.disk) in
       let line_whole : is_failed line ≡ false = sym kept.failed ∙ unfailed in
       let same : is_failed (line ++ e ∷ []) ≡ is_failed line = any_push_not breaks line e refl in
@@ -179,34 +171,29 @@ module _ {D : Type 0} (g : Ghosts D) where
         not_more = Each-append (λ e. faults_told e ≤ g.faults new.disk) line (e ∷ []) (Each-weaker (λ e. faults_told e ≤ g.faults old.disk) (λ e. faults_told e ≤ g.faults new.disk) (λ e h. omega (arith, h, later)) line kept.not_more) (omega arith, tt);
         broken = λ h. absurd (true≢false (sym h ∙ (same ∙ line_whole)));
         ended = λ h. absurd (true≢false (sym h ∙ (same ∙ line_whole)));
-        synced = λ honest. synced_acked g line old new line_whole pieces none unbroken (has honest) (settled honest) (crash honest) (stays honest) (acknowledged honest) (kept.synced honest);
+        synced = λ honest. synced_acked g line old new line_whole pieces none unbroken (left honest) (durable honest) (kept.synced honest);
       }
 
   pub kept_acked : (marks marks' : List Mark) (capacity capacity' due due' : ℕ) (core core' : Core) (old new : Log D) (t : ℕ)
       → Kept (woven marks (core.records ++ core.staged)) marks capacity due core old → old.failed ≡ false → marks' ≡ marks ++ Acked t ∷ [] → t ≡ g.moment new.disk → length marks' + due' ≤ capacity' → due' ≡ due - length old.staged
       → IsCommitted core core'
       → new.pieces ≡ old.pieces → new.staged ≡ [] → new.failed ≡ false → new.count ≡ old.count + length old.staged → g.faults old.disk ≤ g.faults new.disk
-      → (IsHonest g.TELLS → (payloads : List (List ℕ)) → HasPayloads old.pieces (g.reads old.disk) payloads → HasPayloads old.pieces (g.reads new.disk) (payloads ++ old.staged))
-      → (IsHonest g.TELLS → NothingPending (g.reads new.disk) (g.images new.disk))
-      → (IsHonest g.TELLS → (payloads : List (List ℕ)) → HasPayloads old.pieces (g.reads old.disk) payloads → Leaves g.moment g.images_since old.disk new.disk (StandsBetween old.pieces payloads (payloads ++ old.staged)))
-      → (IsHonest g.TELLS → (s : ℕ) (low payloads : List (List ℕ)) → s ≤ g.moment old.disk → HasPayloads old.pieces (g.reads old.disk) payloads → StandsSince g.images_since old.disk s old.pieces low payloads → StandsSince g.images_since new.disk s old.pieces low (payloads ++ old.staged))
-      → (IsHonest g.TELLS → (payloads : List (List ℕ)) → HasPayloads old.pieces (g.reads new.disk) payloads → StandsSince g.images_since new.disk t old.pieces payloads payloads)
+      → (IsHonest g.TELLS → HasCommitted g old new) → (IsHonest g.TELLS → IsDurable g old new t)
       → Kept (woven marks' (core'.records ++ core'.staged)) marks' capacity' due' core' new
-  kept_acked marks marks' capacity capacity' due due' core core' old new t kept unfailed is now room spent committed pieces none unbroken count later has settled crash stays acknowledged =
+  kept_acked marks marks' capacity capacity' due due' core core' old new t kept unfailed is now room spent committed pieces none unbroken count later left durable =
       let is' : marks' ≡ marks ++ Acked (g.moment new.disk) ∷ [] = is ∙ ap (λ m. marks ++ Acked m ∷ []) now in
       subst (λ line. Kept line marks' capacity' due' core' new)
       (sym (line_other marks marks' core core' (Acked (g.moment new.disk)) (entry.Acked (g.moment new.disk)) kept.filled is' refl refl (rw (committed.records, committed.staged) (append-nil (core.records ++ core.staged)))))
-      (acked_at (woven marks (core.records ++ core.staged)) marks marks' capacity capacity' due due' core core' old new kept unfailed is' room spent committed pieces none unbroken count later has settled crash stays
-      (λ honest payloads h. subst (λ m. StandsSince g.images_since new.disk m old.pieces payloads payloads) now (acknowledged honest payloads h)))
+      (acked_at (woven marks (core.records ++ core.staged)) marks marks' capacity capacity' due due' core core' old new kept unfailed is' room spent committed pieces none unbroken count later left
+      (λ honest. subst (IsDurable g old new) now (durable honest)))
 
   -- a commit that met a fault
   broken_at : (line : List Entry) (marks marks' : List Mark) (capacity capacity' due : ℕ) (core : Core) (old new : Log D)
       → Kept line marks capacity due core old → old.failed ≡ false → marks' ≡ marks ++ Broken (g.faults new.disk) ∷ []
       → new.pieces ≡ old.pieces → new.failed ≡ true → Rose (g.faults old.disk) (g.faults new.disk) → g.faults old.disk ≤ g.faults new.disk
-      → (IsHonest g.TELLS → (payloads : List (List ℕ)) → HasPayloads old.pieces (g.reads old.disk) payloads → Leaves g.moment g.images_since old.disk new.disk (StandsBetween old.pieces payloads (payloads ++ old.staged)))
-      → (IsHonest g.TELLS → (t : ℕ) (low payloads : List (List ℕ)) → t ≤ g.moment old.disk → HasPayloads old.pieces (g.reads old.disk) payloads → StandsSince g.images_since old.disk t old.pieces low payloads → StandsSince g.images_since new.disk t old.pieces low (payloads ++ old.staged))
+      → (IsHonest g.TELLS → HasCommitted g old new)
       → Kept (line ++ entry.Broken (g.faults new.disk) ∷ []) marks' capacity' due core new
-  broken_at line marks marks' capacity capacity' due core old new kept unfailed is pieces failed rose later crash stays =
+  broken_at line marks marks' capacity capacity' due core old new kept unfailed is pieces failed rose later left =
       let e : Entry = entry.Broken (g.faults new.disk) in
       let line_whole : is_failed line ≡ false = sym kept.failed ∙ unfailed in
       let stands = (history_stands line core kept.history).0 in
@@ -233,20 +220,19 @@ module _ {D : Type 0} (g : Ghosts D) where
           attached = attachment_push line e a stands.state.attached;
           rose = rose_since a.faults (g.faults old.disk) (g.faults new.disk) (attached_faults (g.faults old.disk) line a kept.not_more stands.state.attached) rose;
         };
-        synced = λ honest. synced_broken g line old new (g.faults new.disk) line_whole pieces failed (crash honest) (stays honest) (kept.synced honest);
+        synced = λ honest. synced_broken g line old new (g.faults new.disk) line_whole pieces failed (left honest) (kept.synced honest);
       }
 
   pub kept_broken : (marks marks' : List Mark) (capacity capacity' due : ℕ) (core : Core) (old new : Log D) (count : ℕ)
       → Kept (woven marks (core.records ++ core.staged)) marks capacity due core old → old.failed ≡ false → marks' ≡ marks ++ Broken count ∷ [] → count ≡ g.faults new.disk
       → new.pieces ≡ old.pieces → new.failed ≡ true → Rose (g.faults old.disk) (g.faults new.disk) → g.faults old.disk ≤ g.faults new.disk
-      → (IsHonest g.TELLS → (payloads : List (List ℕ)) → HasPayloads old.pieces (g.reads old.disk) payloads → Leaves g.moment g.images_since old.disk new.disk (StandsBetween old.pieces payloads (payloads ++ old.staged)))
-      → (IsHonest g.TELLS → (s : ℕ) (low payloads : List (List ℕ)) → s ≤ g.moment old.disk → HasPayloads old.pieces (g.reads old.disk) payloads → StandsSince g.images_since old.disk s old.pieces low payloads → StandsSince g.images_since new.disk s old.pieces low (payloads ++ old.staged))
+      → (IsHonest g.TELLS → HasCommitted g old new)
       → Kept (woven marks' (core.records ++ core.staged)) marks' capacity' due core new
-  kept_broken marks marks' capacity capacity' due core old new count kept unfailed is now pieces failed rose later crash stays =
+  kept_broken marks marks' capacity capacity' due core old new count kept unfailed is now pieces failed rose later left =
       let is' : marks' ≡ marks ++ Broken (g.faults new.disk) ∷ [] = is ∙ ap (λ m. marks ++ Broken m ∷ []) now in
       subst (λ line. Kept line marks' capacity' due core new)
       (sym (line_other marks marks' core core (Broken (g.faults new.disk)) (entry.Broken (g.faults new.disk)) kept.filled is' refl refl refl))
-      (broken_at (woven marks (core.records ++ core.staged)) marks marks' capacity capacity' due core old new kept unfailed is' pieces failed rose later crash stays)
+      (broken_at (woven marks (core.records ++ core.staged)) marks marks' capacity capacity' due core old new kept unfailed is' pieces failed rose later left)
 
   -- the number of its records
   pub number_of : (line : List Entry) (marks : List Mark) (capacity due : ℕ) (core : Core) (log : Log D) → Kept line marks capacity due core log → log.failed ≡ false → core.staged ≡ [] → log.count ≡ length (recorded line)
@@ -257,8 +243,7 @@ module _ {D : Type 0} (g : Ghosts D) where
 
   -- what a crash might have left goes on
   pub goes_on : (line : List Entry) (marks : List Mark) (capacity due : ℕ) (core : Core) (old new : Log D) → Kept line marks capacity due core old → old.failed ≡ false
-      → (IsHonest g.TELLS → (payloads : List (List ℕ)) → HasPayloads old.pieces (g.reads old.disk) payloads → Leaves g.moment g.images_since old.disk new.disk (StandsBetween old.pieces payloads (payloads ++ old.staged)))
-      → IsHonest g.TELLS → GoesOn (g.moment old.disk) (g.images_since old.disk) (g.images_since new.disk)
-  goes_on line marks capacity due core old new kept unfailed crash honest =
+      → HasCommitted g old new → IsHonest g.TELLS → GoesOn (g.moment old.disk) (g.images_since old.disk) (g.images_since new.disk)
+  goes_on line marks capacity due core old new kept unfailed left honest =
       let synced = kept.synced honest in
-      (crash honest synced.payloads (synced.at_rest (sym kept.failed ∙ unfailed)).0).since
+      (left.crash synced.payloads (synced.at_rest (sym kept.failed ∙ unfailed)).0).since

@@ -11,12 +11,14 @@ use Rattle.disk_journal.specs.Format.{HasPayloads, IsPrefixOf, StandsBetween}
 use Rattle.disk_journal.specs.Log.{Log, StandsSince}
 use Rattle.proof_tree.specs.Forest.{Forest, no_node}
 use Rattle.bench_records.specs.declared.records.BenchRecord.{BenchRecord}
-use Rattle.bench_records.specs.Texts.{IsText}
+use Rattle.bench_records.specs.Texts.{IsText, named_in}
+use Rattle.bench_records.proofs.Texts.{text_is_spelled}
+use Rattle.bench_records.proofs.Exact.{spelled_once}
 use Rattle.bench_core.specs.Growing.{GrowsWithAll}
 use Rattle.tree_manager.specs.declared.entries.Attachment.{Attachment}
 use Rattle.tree_manager.specs.declared.entries.Entry.{Entry}
 use Rattle.tree_manager.specs.declared.entries.Entry.TheVariants.{Put, Attached, Leased, Released, Acked, Broken}
-use Rattle.tree_manager.specs.Entries.{record_put, moment_acknowledged, acknowledges, breaks}
+use Rattle.tree_manager.specs.Entries.{record_put, moment_acknowledged, acknowledges, breaks, faults_told}
 use Rattle.tree_manager.specs.Lines.{recorded, applied_in, unapplied_in, is_failed}
 use Rattle.tree_manager.specs.Receipts.{SpellsRecords, AreLawfulInTurn, ReadsBetween, Acknowledgement, acknowledged_by, acknowledgements, most_left, KeepsReceipts}
 use Rattle.tree_manager.specs.Synced.{LeavesPayloads, IsSynced}
@@ -43,6 +45,12 @@ prefix_length : {A : Type 0} (xs ys : List A) → IsPrefixOf xs ys → length xs
 prefix_length xs ys p = omega (arith, ap length p.1 ∙ length-append xs p.0)
 
 -- ---- texts of records
+
+-- a text has one record
+pub text_once : (k : ℕ) (before : List BenchRecord) (r s : BenchRecord) (text : List ℕ) → IsText k before r text → IsText k before s text → r ≡ s
+text_once k before r s text one two =
+    let named = named_in [] before in
+    (spelled_once named k r s text text [] (text_is_spelled named k r text one) (text_is_spelled named k s text two) (sym (append-nil text))).0
 
 module _ (k : ℕ) where
   pub spell_length : (before rs : List BenchRecord) (ps : List (List ℕ)) → SpellsRecords k before rs ps → length rs ≡ length ps
@@ -116,15 +124,36 @@ no_broken : (rs : List BenchRecord) → is_failed (map Put rs) ≡ false
 no_broken [] = refl
 no_broken (r ∷ rs) = no_broken rs
 
-puts : (rs : List BenchRecord) → recorded (map Put rs) ≡ rs
-puts [] = refl
-puts (r ∷ rs) = ap (λ (l : List BenchRecord). r ∷ l) (puts rs)
+recorded_puts : (rs : List BenchRecord) → recorded (map Put rs) ≡ rs
+recorded_puts [] = refl
+recorded_puts (r ∷ rs) = ap (λ (l : List BenchRecord). r ∷ l) (recorded_puts rs)
 
 acks_of_puts : (before rs : List BenchRecord) → acknowledged_by before (map Put rs) ≡ []
 acks_of_puts before [] = refl
 acks_of_puts before (r ∷ rs) = acks_of_puts (before ++ r ∷ []) rs
 
 -- ---- one entry more
+
+-- an entry that is no matter to the journal: a lease or a release
+pub record IsQuiet (e : Entry) : Type 0 where
+  pub no_moment : moment_acknowledged e ≡ []
+  pub no_put : record_put e ≡ []
+  pub unacknowledged : acknowledges e ≡ false
+  pub whole : breaks e ≡ false
+  pub no_faults : faults_told e ≡ 0
+
+-- what a commit of the journal leaves of the disk, whatever it answers
+pub record HasCommitted {D : Type 0} (g : Ghosts D) (old new : Log D) : Type 0 where
+  pub crash : (payloads : List (List ℕ)) → HasPayloads old.pieces (g.reads old.disk) payloads
+      → Leaves g.moment g.images_since old.disk new.disk (StandsBetween old.pieces payloads (payloads ++ old.staged))
+  pub stays : (t : ℕ) (low payloads : List (List ℕ)) → t ≤ g.moment old.disk → HasPayloads old.pieces (g.reads old.disk) payloads
+      → StandsSince g.images_since old.disk t old.pieces low payloads → StandsSince g.images_since new.disk t old.pieces low (payloads ++ old.staged)
+
+-- .. and where it answers that all is durable at this moment
+pub record IsDurable {D : Type 0} (g : Ghosts D) (old new : Log D) (moment : ℕ) : Type 0 where
+  pub has : (payloads : List (List ℕ)) → HasPayloads old.pieces (g.reads old.disk) payloads → HasPayloads old.pieces (g.reads new.disk) (payloads ++ old.staged)
+  pub settled : NothingPending (g.reads new.disk) (g.images new.disk)
+  pub acknowledged : (payloads : List (List ℕ)) → HasPayloads old.pieces (g.reads new.disk) payloads → StandsSince g.images_since new.disk moment old.pieces payloads payloads
 
 module _ {D : Type 0} (g : Ghosts D) where
   abbrev Synced : List Entry → Log D → Type 0
@@ -133,16 +162,15 @@ module _ {D : Type 0} (g : Ghosts D) where
   abbrev HasAcks : ℕ → D → List (List ℕ) → List (List ℕ) → List Acknowledgement → Type 0
   HasAcks pieces disk payloads high = Each (λ (ack : Acknowledgement). LeavesPayloads g pieces disk (take (length ack.records) payloads) high ack.moment)
 
-  -- an entry that is no matter to the journal: a lease or a release
-  pub synced_quiet : (line : List Entry) (e : Entry) (log : Log D) → moment_acknowledged e ≡ [] → record_put e ≡ [] → acknowledges e ≡ false → breaks e ≡ false → Synced line log → Synced (line ++ e ∷ []) log
-  synced_quiet line e log no_moment none quiet whole s =
-      let same : is_failed (line ++ e ∷ []) ≡ is_failed line = any_push_not breaks line e whole in
+  pub synced_quiet : (line : List Entry) (e : Entry) (log : Log D) → IsQuiet e → Synced line log → Synced (line ++ e ∷ []) log
+  synced_quiet line e log quiet s =
+      let same : is_failed (line ++ e ∷ []) ≡ is_failed line = any_push_not breaks line e quiet.whole in
       record {
         payloads = s.payloads;
         more = s.more;
-        spelled = rw (applied_more line e quiet) s.spelled;
-        staged = rw (applied_more line e quiet, staged_more line e quiet, none, append-nil (unapplied_in line)) s.staged;
-        since = rw (acks_quiet line e no_moment, same) s.since;
+        spelled = rw (applied_more line e quiet.unacknowledged) s.spelled;
+        staged = rw (applied_more line e quiet.unacknowledged, staged_more line e quiet.unacknowledged, quiet.no_put, append-nil (unapplied_in line)) s.staged;
+        since = rw (acks_quiet line e quiet.no_moment, same) s.since;
         at_rest = λ h. s.at_rest (sym same ∙ h);
       }
 
@@ -174,22 +202,17 @@ module _ {D : Type 0} (g : Ghosts D) where
 
   -- a commit that is Ok
   pub synced_acked : (line : List Entry) (old new : Log D) → is_failed line ≡ false → new.pieces ≡ old.pieces → new.staged ≡ [] → new.failed ≡ false
-      → ((payloads : List (List ℕ)) → HasPayloads old.pieces (g.reads old.disk) payloads → HasPayloads old.pieces (g.reads new.disk) (payloads ++ old.staged))
-      → NothingPending (g.reads new.disk) (g.images new.disk)
-      → ((payloads : List (List ℕ)) → HasPayloads old.pieces (g.reads old.disk) payloads → Leaves g.moment g.images_since old.disk new.disk (StandsBetween old.pieces payloads (payloads ++ old.staged)))
-      → ((t : ℕ) (low payloads : List (List ℕ)) → t ≤ g.moment old.disk → HasPayloads old.pieces (g.reads old.disk) payloads → StandsSince g.images_since old.disk t old.pieces low payloads → StandsSince g.images_since new.disk t old.pieces low (payloads ++ old.staged))
-      → ((payloads : List (List ℕ)) → HasPayloads old.pieces (g.reads new.disk) payloads → StandsSince g.images_since new.disk (g.moment new.disk) old.pieces payloads payloads)
-      → Synced line old → Synced (line ++ Acked (g.moment new.disk) ∷ []) new
-  synced_acked line old new unfailed pieces none whole has settled crash kept acknowledged s =
+      → HasCommitted g old new → IsDurable g old new (g.moment new.disk) → Synced line old → Synced (line ++ Acked (g.moment new.disk) ∷ []) new
+  synced_acked line old new unfailed pieces none whole committed durable s =
       let e = Acked (g.moment new.disk) in
       let rest = s.at_rest unfailed in
       let same : is_failed (line ++ e ∷ []) ≡ false = any_push_not breaks line e refl ∙ unfailed in
       let all : List (List ℕ) = s.payloads ++ s.more in
-      let has_all : HasPayloads old.pieces (g.reads new.disk) all = subst (λ m. HasPayloads old.pieces (g.reads new.disk) (s.payloads ++ m)) rest.1.1 (has s.payloads rest.0) in
+      let has_all : HasPayloads old.pieces (g.reads new.disk) all = subst (λ m. HasPayloads old.pieces (g.reads new.disk) (s.payloads ++ m)) rest.1.1 (durable.has s.payloads rest.0) in
       let spelled : SpellsRecords old.pieces [] (recorded line) all = rw (recorded_split line) (spell_append old.pieces [] (applied_in line) (unapplied_in line) s.payloads s.more s.spelled s.staged) in
       let earlier : HasAcks old.pieces new.disk s.payloads all (acknowledgements line) =
-      acks_kept old.pieces old.disk new.disk s.payloads s.more (acknowledgements line) (crash s.payloads rest.0).later
-      (λ t low le h. subst (λ m. StandsSince g.images_since new.disk t old.pieces low (s.payloads ++ m)) rest.1.1 (kept t low s.payloads le rest.0 h)) (since_when_whole line old s unfailed) in
+      acks_kept old.pieces old.disk new.disk s.payloads s.more (acknowledgements line) (committed.crash s.payloads rest.0).later
+      (λ t low le h. subst (λ m. StandsSince g.images_since new.disk t old.pieces low (s.payloads ++ m)) rest.1.1 (committed.stays t low s.payloads le rest.0 h)) (since_when_whole line old s unfailed) in
       record {
         payloads = all;
         more = [];
@@ -203,16 +226,14 @@ module _ {D : Type 0} (g : Ghosts D) where
             let short : length ack.records ≤ length s.payloads = omega (arith, prefix_length ack.records (applied_in line) h.1, spell_length old.pieces [] (applied_in line) s.payloads s.spelled) in
             record { not_later = h.0.not_later; stands = rw (take-append-le (length ack.records) s.payloads s.more short) h.0.stands })
             (acknowledgements line) (Each-both (λ (ack : Acknowledgement). LeavesPayloads g old.pieces new.disk (take (length ack.records) s.payloads) all ack.moment) (λ (ack : Acknowledgement). IsPrefixOf ack.records (applied_in line)) (acknowledgements line) earlier (acks_applied [] line)))
-            (record { not_later = omega arith; stands = rw (take_whole all (length (recorded line)) (spell_length old.pieces [] (recorded line) all spelled)) (acknowledged all has_all) }, tt));
-        at_rest = λ h. (rw pieces has_all, (settled, none));
+            (record { not_later = omega arith; stands = rw (take_whole all (length (recorded line)) (spell_length old.pieces [] (recorded line) all spelled)) (durable.acknowledged all has_all) }, tt));
+        at_rest = λ h. (rw pieces has_all, (durable.settled, none));
       }
 
   -- a commit that met a fault
   pub synced_broken : (line : List Entry) (old new : Log D) (faults : ℕ) → is_failed line ≡ false → new.pieces ≡ old.pieces → new.failed ≡ true
-      → ((payloads : List (List ℕ)) → HasPayloads old.pieces (g.reads old.disk) payloads → Leaves g.moment g.images_since old.disk new.disk (StandsBetween old.pieces payloads (payloads ++ old.staged)))
-      → ((t : ℕ) (low payloads : List (List ℕ)) → t ≤ g.moment old.disk → HasPayloads old.pieces (g.reads old.disk) payloads → StandsSince g.images_since old.disk t old.pieces low payloads → StandsSince g.images_since new.disk t old.pieces low (payloads ++ old.staged))
-      → Synced line old → Synced (line ++ Broken faults ∷ []) new
-  synced_broken line old new faults unfailed pieces failed crash kept s =
+      → HasCommitted g old new → Synced line old → Synced (line ++ Broken faults ∷ []) new
+  synced_broken line old new faults unfailed pieces failed committed s =
       let e = Broken faults in
       let rest = s.at_rest unfailed in
       let broken : is_failed (line ++ e ∷ []) ≡ true = any_push_yes breaks line e refl in
@@ -223,8 +244,8 @@ module _ {D : Type 0} (g : Ghosts D) where
         staged = rw (applied_more line e refl, staged_more line e refl, append-nil (unapplied_in line), pieces) s.staged;
         since =
             rw (broken, acks_quiet line e refl, pieces)
-            (acks_kept old.pieces old.disk new.disk s.payloads s.more (acknowledgements line) (crash s.payloads rest.0).later
-            (λ t low le h. subst (λ m. StandsSince g.images_since new.disk t old.pieces low (s.payloads ++ m)) rest.1.1 (kept t low s.payloads le rest.0 h)) (since_when_whole line old s unfailed));
+            (acks_kept old.pieces old.disk new.disk s.payloads s.more (acknowledgements line) (committed.crash s.payloads rest.0).later
+            (λ t low le h. subst (λ m. StandsSince g.images_since new.disk t old.pieces low (s.payloads ++ m)) rest.1.1 (committed.stays t low s.payloads le rest.0 h)) (since_when_whole line old s unfailed));
         at_rest = λ h. absurd (true≢false (sym broken ∙ h));
       }
 
@@ -238,10 +259,10 @@ module _ {D : Type 0} (g : Ghosts D) where
       record {
         payloads = payloads;
         more = [];
-        spelled = rw (applied_all (map Put rs) e refl, puts rs) spelled;
+        spelled = rw (applied_all (map Put rs) e refl, recorded_puts rs) spelled;
         staged = rw (staged_none (map Put rs) e refl) tt;
         since =
-            rw (same, acks_push [] (map Put rs) e, puts rs, acks_of_puts [] rs)
+            rw (same, acks_push [] (map Put rs) e, recorded_puts rs, acks_of_puts [] rs)
             (record { not_later = later; stands = rw (take_whole payloads (length rs) (spell_length log.pieces [] rs payloads spelled)) stands }, tt);
         at_rest = λ h. (has, (settled, none));
       }

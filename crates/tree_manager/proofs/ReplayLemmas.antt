@@ -22,13 +22,17 @@ use Rattle.proof_tree.specs.Forest.{Forest, no_node}
 use Rattle.lease_table.specs.Rows.{LeaseRows}
 use Rattle.bench_records.specs.declared.records.BenchRecord.{BenchRecord}
 use Rattle.bench_records.specs.declared.refusal.RecordRefusal.{RecordRefusal}
-use Rattle.bench_records.specs.declared.refusal.RecordRefusal.TheVariants.{BadKind, BadField, Trailing, Memory}
-use Rattle.bench_records.specs.Refusals.{record_wants_memory}
-use Rattle.bench_records.specs.Texts.{IsText, IsTextAlone}
+use Rattle.bench_records.specs.Refusals.{IsRecordRefusal}
+use Rattle.bench_records.specs.Texts.{IsText, named_in}
+use Rattle.bench_records.proofs.Texts.{text_is_spelled}
+use Rattle.bench_records.proofs.Exact.{spelled_is_not_refused}
 use Rattle.bench_core.specs.declared.settings.Settings.{Settings}
 use Rattle.bench_core.specs.Growing.{GrowsWith, GrowsWithAll, IsForestOf, IsLawfulRecord}
 use Rattle.bench_core.specs.States.{SessionSettings}
 use Rattle.bench_core.specs.Cores.{Core, new_core, with_record, with_budget}
+use Rattle.bench_core.specs.declared.refusals.ReplayRefusal.{ReplayRefusal}
+use Rattle.bench_core.specs.declared.refusals.ReplayRefusal.TheVariants as replay
+use Rattle.bench_core.specs.Answers.{IsUnlawful, RefusesReplay}
 use Rattle.tree_manager.specs.declared.entries.Attachment.{Attachment}
 use Rattle.tree_manager.specs.declared.entries.Entry.{Entry}
 use Rattle.tree_manager.specs.declared.entries.Entry.TheVariants as entry
@@ -39,13 +43,13 @@ use Rattle.tree_manager.specs.Entries.{faults_told}
 use Rattle.tree_manager.specs.Lines.{is_failed}
 use Rattle.tree_manager.specs.Histories.{IsNewCore, Opens}
 use Rattle.tree_manager.specs.Receipts.{SpellsRecords}
-use Rattle.tree_manager.specs.Replaying.{IsReplayedCore, ReplayStopsAt, RefusesPayloads, payload_texts, refusal_of_text, ExplainsReplay, ExplainsAttach}
+use Rattle.tree_manager.specs.Replaying.{IsReplayedCore, ReplayStopsAt, RefusesPayloads, payload_texts, refusal_of_payload, ExplainsReplay, ExplainsAttach}
 use Rattle.tree_manager.specs.Weaving.{woven, puts_marked}
 use Rattle.tree_manager.specs.Keeping.{waiting_leases, IsSession}
 use Rattle.tree_manager.proofs.CoreLemmas.{grows_append}
 use Rattle.bench_core.proofs.Lists.{Each-append}
 use Rattle.tree_manager.proofs.HistoryLaws.{replayed_whole}
-use Rattle.tree_manager.proofs.ReceiptLemmas.{spell_append, spell_length, synced_begun}
+use Rattle.tree_manager.proofs.ReceiptLemmas.{text_once, spell_append, spell_length, synced_begun}
 use Rattle.tree_manager.proofs.WeavingLemmas.{woven_other, puts_push}
 
 pub map_more_read : {A B : Type 0} (f : A → B) (xs : List A) (i : ℕ) (x : A) → i < length xs → x ≡ get_or xs i x → map f (take (i + 1) xs) ≡ map f (take i xs) ++ f x ∷ []
@@ -110,32 +114,25 @@ stops_at s payloads i p core h spelled within is unlawful = record {
   unlawful = unlawful;
 }
 
--- a text leans on no records before it
-pub text_alone : (k : ℕ) (before : List BenchRecord) (r : BenchRecord) (bytes : List ℕ) → IsText k before r bytes → IsTextAlone k bytes r
-text_alone k before r bytes text behind = record { shows = text.shows; sound = text.sound; spelled = text.spelled }
+-- what is refused as no record's text is the text of none
+pub no_text : (k : ℕ) (records : List BenchRecord) (bytes : List ℕ) (fault : RecordRefusal) (r : BenchRecord) → IsRecordRefusal (named_in [] records) k bytes fault → IsText k records r bytes → ⊥
+no_text k records bytes fault r refused text = spelled_is_not_refused (named_in [] records) k r bytes fault (text_is_spelled (named_in [] records) k r bytes text) refused
 
--- decoding answers this record
-abbrev IsDecoded : Result BenchRecord RecordRefusal → BenchRecord → Type 0
-IsDecoded answer r = answer ≡ Ok r
+-- what is the text of a record that is not lawful is the text of no other
+pub no_lawful_text : (k : ℕ) (core : Core) (bytes : List ℕ) (r : BenchRecord) → core.state.settings.pieces ≡ k → IsUnlawful core bytes → IsText k core.records r bytes → IsLawfulRecord k core.state.forest r → ⊥
+no_lawful_text k core bytes r pieces unlawful text lawful =
+    let same : r ≡ unlawful.last = text_once k core.records r unlawful.last bytes text (subst (λ n. IsText n core.records unlawful.last bytes) pieces unlawful.text) in
+    unlawful.unlawful (subst (λ n. IsLawfulRecord n core.state.forest unlawful.last) (sym pieces) (subst (IsLawfulRecord k core.state.forest) same lawful))
 
--- one answer is one record
-pub one_record : (r q : BenchRecord) → IsDecoded (Ok r) q → r ≡ q
-one_record r q is = subst (λ (x : Result BenchRecord RecordRefusal). IfOk x (λ v. r ≡ v)) is refl
-
-no_record : (refusal : RecordRefusal) (r : BenchRecord) → IsDecoded (Err refusal) r → ⊥
-no_record refusal r is = subst (λ (x : Result BenchRecord RecordRefusal). IfOk x (λ v. ⊥)) is tt
-
-pub text_refused : (s : Settings) (payloads : List Payload) (i : ℕ) (p : Payload) (core : Core) (refusal : RecordRefusal) → IsReplayedCore s core → SpellsRecords s.pieces [] core.records (payload_texts (take i payloads))
-    → i < length payloads → p ≡ get_or payloads i p
-    → ((r : BenchRecord) → IsTextAlone s.pieces p.bytes.items r → OnFalse (record_wants_memory refusal) (IsDecoded (Err refusal) r))
-    → RefusesPayloads s.pieces payloads (refusal_of_text p.at refusal)
-text_refused s payloads i p core BadKind h spelled within is only =
-    stops_at s payloads i p core h spelled within is (λ r text lawful. no_record BadKind r (only r (text_alone s.pieces core.records r p.bytes.items text)))
-text_refused s payloads i p core (BadField place) h spelled within is only =
-    stops_at s payloads i p core h spelled within is (λ r text lawful. no_record (BadField place) r (only r (text_alone s.pieces core.records r p.bytes.items text)))
-text_refused s payloads i p core (Trailing place) h spelled within is only =
-    stops_at s payloads i p core h spelled within is (λ r text lawful. no_record (Trailing place) r (only r (text_alone s.pieces core.records r p.bytes.items text)))
-text_refused s payloads i p core (Memory error) h spelled within is only = tt
+-- a payload is not replayed
+pub payload_refused : (s : Settings) (payloads : List Payload) (i : ℕ) (p : Payload) (core : Core) (refusal : ReplayRefusal) → IsReplayedCore s core → SpellsRecords s.pieces [] core.records (payload_texts (take i payloads))
+    → i < length payloads → p ≡ get_or payloads i p → core.state.settings.pieces ≡ s.pieces → RefusesReplay core p.bytes.items refusal → RefusesPayloads s.pieces payloads (refusal_of_payload p.at refusal)
+payload_refused s payloads i p core (replay.Unread fault) h spelled within is pieces refused =
+    stops_at s payloads i p core h spelled within is
+    (λ r text lawful. no_text s.pieces core.records p.bytes.items fault r (subst (λ k. IsRecordRefusal (named_in [] core.records) k p.bytes.items fault) pieces refused) text)
+payload_refused s payloads i p core replay.Unlawful h spelled within is pieces refused =
+    stops_at s payloads i p core h spelled within is (λ r text lawful. no_lawful_text s.pieces core p.bytes.items r pieces refused text lawful)
+payload_refused s payloads i p core (replay.Memory error) h spelled within is pieces refused = tt
 
 -- .. as a cause of the file
 pub replay_explained : (k : ℕ) (file : List ℕ) (payloads : List Payload) (refusal : JournalRefusal) → HasPayloads k file (payload_texts payloads) → HasPlaces k file (map (λ p. p.at) payloads) → RefusesPayloads k payloads refusal

@@ -136,7 +136,7 @@ pub record AreRootsStaged {D : Type 0} (base core : Core) (log new : Log D) (ps 
   pub may : MayStageRoots base ps
   pub grows : CanApplyAll core
   pub texts : List (List ℕ)
-  pub spelled : (before : List BenchRecord) → SpellsRecords base.state.settings.pieces before (map Begin ps) texts
+  pub spelled : SpellsRecords base.state.settings.pieces (base.records ++ base.staged) (map Begin ps) texts
   pub log_is : new ≡ record log { staged = log.staged ++ texts }
 
 pub none_yet : {D : Type 0} (base : Core) (log : Log D) → CanApplyAll base → AreRootsStaged base base log log []
@@ -145,21 +145,24 @@ none_yet base log grows = record {
   may = tt;
   grows = grows;
   texts = [];
-  spelled = λ before. tt;
+  spelled = tt;
   log_is = ap (λ ts. record log { staged = ts }) (sym (append-nil log.staged));
 }
 
 -- one more
 pub one_staged : {D : Type 0} (base old new : Core) (log log' log'' : Log D) (ps qs : List Board) (p : Board) → AreRootsStaged base old log log' ps → qs ≡ ps ++ p ∷ [] → new ≡ with_roots_staged old (p ∷ []) → MayStage old (Begin p) → CanApplyAll new
-    → (text : List ℕ) × ((before : List BenchRecord) → IsText old.state.settings.pieces before (Begin p) text) × (log'' ≡ record log' { staged = log'.staged ++ text ∷ [] }) → AreRootsStaged base new log log'' qs
+    → (text : List ℕ) × IsText old.state.settings.pieces (old.records ++ old.staged) (Begin p) text × (log'' ≡ record log' { staged = log'.staged ++ text ∷ [] }) → AreRootsStaged base new log log'' qs
 one_staged base old new log log' log'' ps qs p h is same may grows journal = subst (AreRootsStaged base new log log'') (sym is) (record {
   core_is = same ∙ (ap (λ c. with_roots_staged c (p ∷ [])) h.core_is ∙ roots_then base ps p);
   may = may_push base ps p h.may (subst (λ c. MayStage c (Begin p)) h.core_is may);
   grows = grows;
   texts = h.texts ++ journal.0 ∷ [];
-  spelled = λ before. subst (λ rs. SpellsRecords base.state.settings.pieces before rs (h.texts ++ journal.0 ∷ [])) (sym (map-append Begin ps (p ∷ [])))
-      (spell_append base.state.settings.pieces before (map Begin ps) (Begin p ∷ []) h.texts (journal.0 ∷ []) (h.spelled before)
-      (subst (λ (c : Core). IsText c.state.settings.pieces (before ++ map Begin ps) (Begin p) journal.0) h.core_is (journal.1 (before ++ map Begin ps)), tt));
+  spelled = subst (λ rs. SpellsRecords base.state.settings.pieces (base.records ++ base.staged) rs (h.texts ++ journal.0 ∷ [])) (sym (map-append Begin ps (p ∷ [])))
+      (spell_append base.state.settings.pieces (base.records ++ base.staged) (map Begin ps) (Begin p ∷ []) h.texts (journal.0 ∷ []) h.spelled (
+        subst (λ rs. IsText base.state.settings.pieces rs (Begin p) journal.0) (sym (append_assoc base.records base.staged (map Begin ps)))
+            (subst (λ (c : Core). IsText c.state.settings.pieces (c.records ++ c.staged) (Begin p) journal.0) h.core_is journal.1),
+        tt,
+      ));
   log_is = journal.2 ∙ (ap (λ (l : Log _). record l { staged = l.staged ++ journal.0 ∷ [] }) h.log_is ∙ ap (λ ts. record log { staged = ts }) (append_assoc log.staged h.texts (journal.0 ∷ [])));
 })
 
@@ -243,7 +246,7 @@ back_to l n m same = omega (arith, same)
 pub texts_staged : {D : Type 0} (base core : Core) (log new : Log D) (added : List Board) (i : ℕ) → AreRootsStaged base core log new (take i added) → i < length added → (length new.staged ≡ length log.staged + i) × (take (length new.staged - i) new.staged ≡ log.staged)
 texts_staged base core log new added i h within =
     let many : length h.texts ≡ i =
-    sym (spell_length base.state.settings.pieces [] (map Begin (take i added)) h.texts (h.spelled [])) ∙ (length_begins (take i added) ∙ (length-take i added ∙ omega (arith, within))) in
+    sym (spell_length base.state.settings.pieces (base.records ++ base.staged) (map Begin (take i added)) h.texts h.spelled) ∙ (length_begins (take i added) ∙ (length-take i added ∙ omega (arith, within))) in
     let all : new.staged ≡ log.staged ++ h.texts = ap (λ (l : Log _). l.staged) h.log_is in
     let count : length new.staged ≡ length log.staged + i = ap length all ∙ (length-append log.staged h.texts ∙ omega (arith, many)) in
     (count, ap (λ n. take n new.staged) (ap (λ n. n - i) count ∙ back_to (length log.staged) i i refl) ∙ (ap (take (length log.staged)) all ∙ take_at log.staged h.texts (length log.staged) refl))

@@ -236,8 +236,8 @@ put_elsewhere limit now (Leased l' ∷ line) r l own none =
     (ap (λ rs. rs ++ map (keep_for true r) (rows_left limit now line)) (sym (keep_other r (list_any (ends_lease l') line) (has_staged l' line) (list_any (is_work_on l'.node) (recorded line)) (nat_lt now (l'.id + limit)) l' other)))
 put_elsewhere limit now (x ∷ line) r l own none = put_elsewhere limit now line r l own (or_parts (ends_lease l x) (list_any (ends_lease l) line) none).1
 
-two : {xs ys us vs : List Row} → xs ≡ us → ys ≡ vs → xs ++ ys ≡ us ++ vs
-two p q = rw (p, q) refl
+append_both : {xs ys us vs : List Row} → xs ≡ us → ys ≡ vs → xs ++ ys ≡ us ++ vs
+append_both p q = rw (p, q) refl
 
 -- of a lease that is not the last one of the record's node
 put_row : (limit now : ℕ) (line : List Entry) (r : BenchRecord) (l : Lease) → list_any (λ row. is_work_on row.lease.node r) (rows_left limit now line) ≡ true
@@ -254,14 +254,14 @@ rows_put limit now [] r some = absurd (false≢true some)
 rows_put limit now (Leased l ∷ line) r some =
     rw (map-append (keep_for true r) (row_left limit now line (Leased l)) (rows_left limit now line))
     (⊎_elim
-    (λ there. two (put_row limit now line r l there) (rows_put limit now line r there))
+    (λ there. append_both (put_row limit now line r l there) (rows_put limit now line r there))
     (λ none.
     let here : list_any (λ row. is_work_on row.lease.node r) (row_left limit now line (Leased l)) ≡ true =
     ⊎_elim (λ h. h) (λ h. absurd (true≢false (sym h ∙ none)))
     (or_cases (list_any (λ row. is_work_on row.lease.node r) (row_left limit now line (Leased l))) (list_any (λ row. is_work_on row.lease.node r) (rows_left limit now line))
     (sym (list_any-append (λ row. is_work_on row.lease.node r) (row_left limit now line (Leased l)) (rows_left limit now line)) ∙ some)) in
     let live = any_row_from r (list_any (ends_lease l) line) (has_staged l line) (list_any (is_work_on l.node) (recorded line)) (nat_lt now (l.id + limit)) l here in
-    two (put_own limit now line r l live.0 ∙ keep_own r (list_any (ends_lease l) line) (has_staged l line) (list_any (is_work_on l.node) (recorded line)) (nat_lt now (l.id + limit)) l live.0 here)
+    append_both (put_own limit now line r l live.0 ∙ keep_own r (list_any (ends_lease l) line) (has_staged l line) (list_any (is_work_on l.node) (recorded line)) (nat_lt now (l.id + limit)) l live.0 here)
     (put_elsewhere limit now line r l live.0 live.1))
     (cases_Bool (list_any (λ row. is_work_on row.lease.node r) (rows_left limit now line))))
 rows_put limit now (x ∷ line) r some = rows_put limit now line r some

@@ -61,8 +61,8 @@ asks_for_search front found s worker given grows answers answered sight =
     }
 
 -- the pass enters, and the session answers
-pub searches : (front entered found left : List Entry) (s : CoreState) (worker : ℕ) (answer : Result Lease LeaseRefusal) → GrowsByTurns front entered → entered ≡ found → Leases found left worker answer
+pub leased_asks_for_search : (front entered found left : List Entry) (s : CoreState) (worker : ℕ) (answer : Result Lease LeaseRefusal) → GrowsByTurns front entered → entered ≡ found → Leases found left worker answer
     → IfOk answer (λ given. lease_answer s worker ≡ Ok given) → IfOk answer (λ given. is_at_sight draughts s.settings.pieces given.position ≡ false) → IfOk answer (AsksForSearch front)
-searches front entered found left s worker (Ok given) entering whole turn answered sight =
+leased_asks_for_search front entered found left s worker (Ok given) entering whole turn answered sight =
     asks_for_search front found s worker given (subst (λ line. GrowsByTurns front line) whole entering) turn.1 answered sight
-searches front entered found left s worker (Err refusal) entering whole turn answered sight = tt
+leased_asks_for_search front entered found left s worker (Err refusal) entering whole turn answered sight = tt

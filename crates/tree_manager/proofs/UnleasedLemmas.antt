@@ -49,7 +49,7 @@ none_lives [] kept waiting = refl
 none_lives (row ∷ rows) kept waiting = absurd (true≢false (sym kept.0 ∙ waiting.0))
 
 -- so none lives where each that lives has its result
-pub unleased : (line : List Entry) (core : Core) → IsCoreOf line core → core.staged ≡ [] → Each (λ row. row.kept ≡ true) core.state.leases.rows → core.state.leases.rows ≡ []
-unleased line core stands none kept =
+pub none_leased : (line : List Entry) (core : Core) → IsCoreOf line core → core.staged ≡ [] → Each (λ row. row.kept ≡ true) core.state.leases.rows → core.state.leases.rows ≡ []
+none_leased line core stands none kept =
     none_lives core.state.leases.rows kept
     (subst (λ (rows : List Row). Each IsWaiting rows) (sym stands.state.rows) (all_wait core.state.leases.limit core.state.given line (sym stands.staged ∙ none)))

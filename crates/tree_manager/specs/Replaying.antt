@@ -8,10 +8,9 @@ use Rattle.disk_journal.specs.declared.payload.Payload.{Payload}
 use Rattle.disk_journal.specs.declared.refusal.JournalRefusal.{JournalRefusal}
 use Rattle.disk_journal.specs.declared.refusal.JournalRefusal.TheVariants.{DiskFault, NotAJournal, OtherTable, Damaged, Memory}
 use Rattle.bench_records.specs.declared.records.BenchRecord.{BenchRecord}
-use Rattle.bench_records.specs.declared.refusal.RecordRefusal.{RecordRefusal}
-use Rattle.bench_records.specs.declared.refusal.RecordRefusal.TheVariants.{BadKind, BadField, Trailing}
-use Rattle.bench_records.specs.declared.refusal.RecordRefusal.TheVariants as text
 use Rattle.bench_records.specs.Texts.{IsText}
+use Rattle.bench_core.specs.declared.refusals.ReplayRefusal.{ReplayRefusal}
+use Rattle.bench_core.specs.declared.refusals.ReplayRefusal.TheVariants as replay
 use Rattle.bench_core.specs.declared.settings.Settings.{Settings}
 use Rattle.bench_core.specs.Growing.{IsLawfulRecord, IsForestOf}
 use Rattle.bench_core.specs.Cores.{Core, new_core}
@@ -44,12 +43,11 @@ pub record ReplayStopsAt (k : ℕ) (payloads : List Payload) (at : ℕ) : Type 0
   pub unlawful : (r : BenchRecord) → IsText k records r payload.bytes.items
       → ¬ IsLawfulRecord k roots r
 
--- the refusal of a payload at this place that is no record's text
-abbrev pub refusal_of_text : ℕ → RecordRefusal → JournalRefusal
-refusal_of_text at BadKind = Damaged at
-refusal_of_text at (BadField place) = Damaged at
-refusal_of_text at (Trailing place) = Damaged at
-refusal_of_text at (text.Memory error) = Memory error
+-- the refusal of a payload at this place that is not replayed
+abbrev pub refusal_of_payload : ℕ → ReplayRefusal → JournalRefusal
+refusal_of_payload at (replay.Unread fault) = Damaged at
+refusal_of_payload at replay.Unlawful = Damaged at
+refusal_of_payload at (replay.Memory error) = Memory error
 
 -- why payloads are not replayed; want of memory may come with any
 abbrev pub RefusesPayloads : ℕ → List Payload → JournalRefusal → Type 0

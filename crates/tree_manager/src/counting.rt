@@ -14,7 +14,7 @@ impl RootCounts {
     ghost use Rattle.tree_manager.specs.Turns.{AreRootCounts};
 
     /// Those of a tree. It looks at each root once.
-    pub(crate) fn of(tree: &Tree) -> RootCounts
+    pub fn of(tree: &Tree) -> RootCounts
         ensures { AreRootCounts result tree.now.forest }
     {
         let all = tree.roots();

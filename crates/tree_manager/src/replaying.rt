@@ -6,25 +6,22 @@ ghost use Rattle.strategy_certificate.specs.declared.oracle.Answer.{Answer};
 ghost use Rattle.strategy_certificate.specs.Tables.{IsSoundTable, IsTableSize};
 ghost use Rattle.tree_manager.specs.declared.marks.Mark.TheVariants.{Put};
 ghost use Rattle.tree_manager.specs.Receipts.{SpellsRecords};
-ghost use Rattle.tree_manager.specs.Replaying.{IsReplayedCore, RefusesPayloads, payload_texts, refusal_of_text};
-ghost use Rattle.bench_core.specs.declared.settings.TheConstants.{MOST_WORK, MOST_LEASE};
+ghost use Rattle.tree_manager.specs.Replaying.{IsReplayedCore, RefusesPayloads, payload_texts, refusal_of_payload};
 
 use crate::marks::Mark;
 use bench_core::{Bench, ReplayRefusal, Settings};
-use bench_records::{RecordRefusal, decode};
 use disk_journal::{JournalRefusal, Payload};
 use std::alloc::{AllocError, Global};
 use strategy_certificate::Oracle;
 
-/// The refusal of a payload at this place that is no record's text.
-fn refusal_at(at: u64, refusal: RecordRefusal) -> JournalRefusal
-    ensures { result ≡ refusal_of_text at refusal }
+/// The refusal of a payload at this place that is not replayed.
+fn refusal_at(at: u64, refusal: ReplayRefusal) -> JournalRefusal
+    ensures { result ≡ refusal_of_payload at refusal }
 {
     match refusal {
-        RecordRefusal::BadKind => JournalRefusal::Damaged(at),
-        RecordRefusal::BadField(_) => JournalRefusal::Damaged(at),
-        RecordRefusal::Trailing(_) => JournalRefusal::Damaged(at),
-        RecordRefusal::Memory(error) => JournalRefusal::Memory(error),
+        ReplayRefusal::Unread(_) => JournalRefusal::Damaged(at),
+        ReplayRefusal::Unlawful => JournalRefusal::Damaged(at),
+        ReplayRefusal::Memory(error) => JournalRefusal::Memory(error),
     }
 }
 
@@ -40,10 +37,6 @@ pub fn replay_payloads<O: Oracle>(
 ) -> Result<Bench, JournalRefusal>
     requires tables { O.piece_limit oracle.now ≡ s.pieces }
     requires pieces { IsTableSize s.pieces }
-    requires depth { s.depth ≤ 12 }
-    requires budget { s.budget ≤ MOST_WORK }
-    requires lasts { 1 ≤ s.lease }
-    requires lease { s.lease ≤ MOST_LEASE }
     requires table { (answer : Board → Option Answer) × IsSoundTable draughts s.pieces answer }
     ensures replayed { IfOk result (IsReplayedCore s) }
     ensures spelled { IfOk result
@@ -52,14 +45,8 @@ pub fn replay_payloads<O: Oracle>(
 {
     let mut bench = Bench::new(alloc, s)?;
     for payload in payloads {
-        let record = match decode(alloc, &payload.bytes, s.pieces) {
-            Ok(record) => record,
-            Err(refusal) => return Err(refusal_at(payload.at, refusal)),
-        };
-        match bench.replay(record, oracle) {
-            Ok(()) => {}
-            Err(ReplayRefusal::Memory(error)) => return Err(error.into()),
-            Err(ReplayRefusal::Unlawful) => return Err(JournalRefusal::Damaged(payload.at)),
+        if let Err(refusal) = bench.replay(&payload.bytes, oracle) {
+            return Err(refusal_at(payload.at, refusal));
         }
     }
     Ok(bench)
@@ -86,10 +73,6 @@ pub(crate) fn replay_all<O: Oracle>(
 ) -> Result<(Bench, Vec<Mark>), JournalRefusal>
     requires tables { O.piece_limit oracle.now ≡ s.pieces }
     requires pieces { IsTableSize s.pieces }
-    requires depth { s.depth ≤ 12 }
-    requires budget { s.budget ≤ MOST_WORK }
-    requires lasts { 1 ≤ s.lease }
-    requires lease { s.lease ≤ MOST_LEASE }
     requires table { (answer : Board → Option Answer) × IsSoundTable draughts s.pieces answer }
     ensures replayed { IfOk result (λ r. IsReplayedCore s r.0) }
     ensures spelled { IfOk result

@@ -4,7 +4,6 @@ ghost use Rattle.std.specs.List.{AllByRecursion as Each};
 ghost use Rattle.draughts_board.specs.Board.{Board};
 ghost use Rattle.proof_tree.specs.Sound.{root_positions};
 ghost use Rattle.lease_table.specs.Rows.{is_live_row};
-ghost use Rattle.bench_records.specs.declared.records.BenchRecord.{BenchRecord as Record};
 ghost use Rattle.bench_records.specs.declared.records.BenchRecord.TheVariants.{Begin};
 ghost use Rattle.bench_records.specs.Texts.{IsText};
 ghost use Rattle.bench_core.specs.Records.{begun, is_work};
@@ -60,7 +59,7 @@ pub(crate) fn stage_root<D: Disk, O: Oracle>(
     ensures may { OnOk result (MayStage bench.old (Begin p)) }
     ensures grows { OnOk result (CanApplyAll bench.new) }
     ensures journal { OnOk result ((text : List ℕ)
-        × ((before : List Record) → IsText bench.old.state.settings.pieces before (Begin p) text)
+        × IsText bench.old.state.settings.pieces (bench.old.records ++ bench.old.staged) (Begin p) text
         × (journal.new ≡ record journal.old { staged = journal.old.staged ++ text ∷ [] })) }
     ensures bench_stays { OnErr result (bench.new ≡ bench.old) }
     ensures journal_stays { OnErr result (journal.new ≡ journal.old) }
@@ -114,8 +113,8 @@ pub(crate) fn stage_roots<D: Disk, O: Oracle>(
     ensures may { OnOk result (MayStageRoots bench.old added.now) }
     ensures grows { CanApplyAll bench.new }
     ensures journal { OnOk result ((texts : List (List ℕ))
-        × ((before : List Record)
-        → SpellsRecords bench.old.state.settings.pieces before (map Begin added.now) texts)
+        × SpellsRecords bench.old.state.settings.pieces (bench.old.records ++ bench.old.staged)
+        (map Begin added.now) texts
         × (journal.new ≡ record journal.old { staged = journal.old.staged ++ texts })) }
     ensures bench_stays { OnErr result (bench.new ≡ bench.old) }
     ensures journal_stays { OnErr result (journal.new ≡ journal.old) }

@@ -58,7 +58,6 @@ impl<D: Disk> Model for Session<D> {
 
 impl<D: Disk> Session<D> {
     ghost use Rattle.proof_tree.specs.declared.tree.TheConstants.{MOST_ROOTS};
-    ghost use Rattle.bench_core.specs.declared.settings.TheConstants.{MOST_WORK, MOST_LEASE};
     ghost use Rattle.std.specs.List.{AllByRecursion as Each};
     ghost use Rattle.bench_disk.specs.Disk.{NothingPending};
     ghost use Rattle.bench_disk.specs.Runs.{Leaves};
@@ -94,10 +93,6 @@ impl<D: Disk> Session<D> {
         oracle: &O,
     ) -> Result<Session<D>, (D, JournalRefusal)>
         requires tables { O.piece_limit oracle.now ≡ s.pieces }
-        requires depth { s.depth ≤ 12 }
-        requires budget { s.budget ≤ MOST_WORK }
-        requires lasts { 1 ≤ s.lease }
-        requires lease { s.lease ≤ MOST_LEASE }
         ensures pieces { IfOk result (λ session. session.core.state.settings.pieces ≡ s.pieces) }
         ensures attached { IfOk result
             (λ session. IsAttachedTo D.Disk s disk session) }
@@ -364,8 +359,15 @@ impl<D: Disk> Session<D> {
     }
 
     /// Stages a result that is made already, as `stage` does, and answers with the number of its record in the journal, from
-    /// 1. It copies no certificate and encodes nothing.
+    /// 1. It copies no certificate, and of the record's text it makes the numbers of positions alone.
     pub fn stage_numbered(&mut self, found: LeaseResult) -> Result<u64, StageRefusal>
+        ensures appends { OnOk result
+            (Appends self.old (entry.Put (record_of found.lease found.outcome)) self.new) }
+        ensures unfailed { OnOk result (is_failed self.old.line ≡ false) }
+        ensures live { OnOk result
+            (Contains self.old.core.state.leases.rows (unkept found.lease)) }
+        ensures refused { IfErr result
+            (RefusesStage self.old.line self.old.core.state found.lease) }
         ensures unchanged { OnErr result (self.new ≡ self.old) }
         ensures grows { GrowsByTurns self.old.line self.new.line }
         ensures turn { StagesNumbered self.old.line self.new.line
@@ -386,6 +388,7 @@ impl<D: Disk> Session<D> {
         ensures appends { self.old.core.staged ≢ [] → IfOk result
             (λ receipt. Appends self.old (entry.Acked receipt.moment) self.new) }
         ensures none_staged { OnOk result (self.new.core.staged ≡ []) }
+        ensures stands { OnOk result (IsCoreOf self.new.line self.new.core) }
         ensures number { IfOk result (λ receipt. receipt.number ≡ length (recorded self.new.line)) }
         ensures moment { IfOk result (λ receipt. receipt.moment ≡ D.moment self.new.disk) }
         ensures later { D.faults self.old.disk ≤ D.faults self.new.disk }

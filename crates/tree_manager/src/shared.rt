@@ -146,7 +146,7 @@ impl<D: Disk> SharedBench<D> {
     /// Stages the result of a lease's search, in one turn, and keeps the lease for it. The answer is the number of its record
     /// in the journal, from 1. A refusal drops the outcome. `Stale` comes where the lease does not live, or has its result.
     ///
-    /// The record is encoded before the turn. Where there is no memory for it, no turn is taken.
+    /// The record's sheet is made before the turn. Where there is no memory for it, no turn is taken.
     pub fn stage<R: Wait>(
         &self,
         rt: &R,

@@ -1,4 +1,4 @@
-// What a value under the lock offers.
+//! What a value under the lock offers.
 ghost use Rattle.std.specs.Prelude.{◌≡◌, ℕ, List, length};
 
 /// A value that stands for a list of entries, its history.

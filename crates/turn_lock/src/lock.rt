@@ -1,4 +1,4 @@
-// The lock, its passes, and their calls.
+//! The lock, its passes, and their calls.
 ghost use Rattle.std.specs.Prelude.{◌≡◌, ◌⊎◌, ◌+◌, ◌^◌, ◌<◌, true, false, [], ◌∷◌, length, Some, IfOk, IfErr};
 ghost use Rattle.turn_lock.specs.Growth.{GrowsTo};
 ghost use Rattle.turn_lock.specs.Seen.{seen, IsBetweenCalls};

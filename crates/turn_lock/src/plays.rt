@@ -1,4 +1,4 @@
-// What each step on the lock's table tells the seat that makes it. No value of these types is made.
+//! What each step on the lock's table tells the seat that makes it. No value of these types is made.
 ghost use Rattle.std.specs.Prelude.{List, []};
 ghost use Rattle.turn_lock.specs.Told.{TakesTurn, TakesValue, NotesEntries, GivesTurn, KeepsLonger};
 ghost use Rattle.turn_lock.specs.Views.{joining, gone};

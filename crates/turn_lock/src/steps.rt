@@ -1,4 +1,4 @@
-// The steps of the lock, each on a seat at its table.
+//! The steps of the lock, each on a seat at its table.
 ghost use Rattle.std.specs.Prelude.{◌≡◌, ◌⊎◌, ◌+◌, ◌^◌, ◌<◌, [], ◌∷◌, length, None};
 ghost use Rattle.turn_lock.specs.Growth.{GrowsTo};
 ghost use Rattle.turn_lock.specs.Views.{outside, entering, holding};

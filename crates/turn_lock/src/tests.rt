@@ -1,7 +1,7 @@
-// Threads at the lock, and values that may not be dropped.
-//
-// Each function here is proved too, the dearer the more it calls and compares. So one function
-// leads the threads, and one compares what they leave.
+//! Threads at the lock, and values that may not be dropped.
+//!
+//! Each function here is proved too, the dearer the more it calls and compares. So one function
+//! leads the threads, and one compares what they leave.
 ghost use Rattle.std.specs.Prelude.{◌<◌, All, IfOk};
 ghost use Rattle.turn_lock.specs.Seen.{IsOutside};
 

@@ -1,5 +1,5 @@
-// What a seat at the lock's table knows, and the rule of that table. No value of these types is
-// made.
+//! What a seat at the lock's table knows, and the rule of that table. No value of these types is
+//! made.
 ghost use Rattle.std.specs.Prelude.{ℕ, List};
 
 use crate::kept::Kept;

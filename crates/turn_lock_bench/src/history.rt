@@ -1,4 +1,4 @@
-// The value that lock and mutex keep: the turns that were taken.
+//! The value that lock and mutex keep: the turns that were taken.
 ghost use Rattle.std.specs.Prelude.{◌≡◌, ◌++◌, ◌∷◌, [], length, OnOk, OnErr};
 
 use std::alloc::{AllocError, Global};

@@ -1,4 +1,4 @@
-// What to run, and how it is asked for.
+//! What to run, and how it is asked for.
 use anyhow::{Context, Result, bail, ensure};
 
 /// Who keeps the history.

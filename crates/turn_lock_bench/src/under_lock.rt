@@ -1,4 +1,4 @@
-// Threads at the turn lock.
+//! Threads at the turn lock.
 ghost use Rattle.std.specs.Prelude.{◌≡◌, List, [], ◌∷◌, ◌++◌, All, OnOk, IfOk};
 ghost use Rattle.turn_lock_bench.specs.declared.history.Turn.{Turn};
 ghost use Rattle.turn_lock.specs.Seen.{IsOutside};

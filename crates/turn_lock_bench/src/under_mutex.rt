@@ -1,4 +1,4 @@
-// Threads at std's `Mutex`, which do the same.
+//! Threads at std's `Mutex`, which do the same.
 use crate::history::{History, Turn};
 use crate::job::Job;
 use std::alloc::{AllocError, Global};

@@ -1,1 +1,2 @@
 pub mod SearchingLemmas
+pub mod TogetherLemmas

@@ -7,6 +7,7 @@ use Rattle.bench_disk.specs.declared.disk.Disk.{Ghosts}
 use Rattle.draughts_board.specs.Board.{Board}
 use Rattle.draughts_board.specs.Draughts.{draughts}
 use Rattle.draughts_board.specs.Game.{is_at_sight}
+use Rattle.certificate_checker.specs.declared.outcomes.TheConstants.{MOST_DEPTH}
 use Rattle.certificate_checker.specs.declared.outcomes.Outcome.{Outcome}
 use Rattle.certificate_checker.specs.declared.outcomes.Outcome.TheVariants.{Solved, Exhausted}
 use Rattle.strategy_certificate.specs.declared.certificates.Certificate.{Certificate}
@@ -23,6 +24,7 @@ use Rattle.tree_manager.specs.Lines.{attachment_of}
 use Rattle.tree_manager.specs.Sessions.{SessionState, IsAttachedTo}
 use Rattle.tree_manager.specs.Turns.{GrowsByTurns, AsksForSearch, Leases}
 use Rattle.tree_manager.proofs.CoreLemmas.{replayed_attachment}
+use Rattle.tree_manager.proofs.PickLemmas.{lease_settings}
 use Rattle.tree_manager.proofs.SearchLemmas.{pieces_stay, depth_stays, asks_for_search}
 use Rattle.tree_manager.proofs.TurnLemmas.{grows_same}
 use Rattle.worker_gate.specs.declared.worker.Ended.TheVariants.{Spent, Failed}
@@ -39,30 +41,41 @@ found_here given outcome found is h =
     let answer = subst (IsOutcomeOf given) is h in
     (given.position, All-weaker (IsFinding given.pieces given.position) (λ c. c.position ≡ given.position) (λ c finding. finding.position) found answer.each)
 
+-- a lease that a state answers can be searched with the state's tables
+pub leased_can_be : (k : ℕ) (s : CoreState) (worker : ℕ) (given : Lease) → k ≡ s.settings.pieces → s.settings.depth ≤ MOST_DEPTH → lease_answer s worker ≡ Ok given
+    → is_at_sight draughts s.settings.pieces given.position ≡ false → CanSearchLeaf k given
+leased_can_be k s worker given tables shallow answered sight =
+    let settings = lease_settings s worker given answered in
+    record {
+      tables = tables ∙ sym settings.0;
+      depth = subst (λ n. n ≤ MOST_DEPTH) (sym settings.1) shallow;
+      undecided = subst (λ n. is_at_sight draughts n given.position ≡ false) (sym tables) sight;
+    }
+
 pub leaf_can_be : (k : ℕ) (front : List Entry) (given : Lease) → CanSearch k front → AsksForSearch front given → CanSearchLeaf k given
 leaf_can_be k front given can asks =
     let same : k ≡ given.pieces = can.tables ∙ sym asks.pieces in
     record {
       tables = same;
-      depth = subst (λ n. n ≤ 12) (sym asks.depth) can.depth;
+      depth = subst (λ n. n ≤ MOST_DEPTH) (sym asks.depth) can.depth;
       undecided = subst (λ n. is_at_sight draughts n given.position ≡ false) (sym same) asks.undecided;
     }
 
 pub can_search_on : (k : ℕ) (old new : List Entry) → CanSearch k old → GrowsByTurns old new → CanSearch k new
 can_search_on k old new can grows = record {
   tables = can.tables ∙ sym (pieces_stay old new grows);
-  depth = subst (λ n. n ≤ 12) (sym (depth_stays old new grows)) can.depth;
+  depth = subst (λ n. n ≤ MOST_DEPTH) (sym (depth_stays old new grows)) can.depth;
 }
 
 -- the settings that a session was attached with are those of its line
 pub can_search_attached : {D : Type 0} (g : Ghosts D) (s : Settings) (disk : D) (new : SessionState D) (k : ℕ) (front : List Entry)
-    → IsAttachedTo g s disk new → s.pieces ≡ k → s.depth ≤ 12 → front ≡ new.line → CanSearch k front
-can_search_attached g s disk new k front begins pieces depth same =
+    → IsAttachedTo g s disk new → s.pieces ≡ k → front ≡ new.line → CanSearch k front
+can_search_attached g s disk new k front begins pieces same =
     let attached : attachment_of front ≡ Some begins.attachment = ap attachment_of (same ∙ begins.line) ∙ replayed_attachment begins.replayed begins.attachment in
     let first : (of : Attachment → ℕ) → option_map_or of (attachment_of front) 0 ≡ of begins.attachment = λ of. ap (λ (o : Option Attachment). option_map_or of o 0) attached in
     record {
       tables = sym pieces ∙ sym (first (λ a. a.pieces) ∙ ap (λ (a : Attachment). a.pieces) begins.is);
-      depth = subst (λ n. n ≤ 12) (sym (first (λ a. a.depth) ∙ ap (λ (a : Attachment). a.depth) begins.is)) depth;
+      depth = subst (λ n. n ≤ MOST_DEPTH) (sym (first (λ a. a.depth) ∙ ap (λ (a : Attachment). a.depth) begins.is)) s.shallow;
     }
 
 -- ---- what a turn leaves a worker with

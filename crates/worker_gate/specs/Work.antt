@@ -1,5 +1,6 @@
 -- What work on a session needs, and what it comes to.
 use Rattle.std.specs.Prelude.{◌≡◌, ◌≤◌, ℕ, Bool, false, List, is_some, Err}
+use Rattle.certificate_checker.specs.declared.outcomes.TheConstants.{MOST_DEPTH}
 use Rattle.draughts_board.specs.Draughts.{draughts}
 use Rattle.draughts_board.specs.Game.{is_at_sight}
 use Rattle.certificate_checker.specs.declared.outcomes.Outcome.{Outcome}
@@ -15,15 +16,15 @@ use Rattle.worker_gate.specs.declared.worker.Ended.{Ended}
 use Rattle.worker_gate.specs.declared.worker.Ended.TheVariants.{Done, Spent, Failed, Memory}
 
 -- Leaves of the line's session can be searched with tables of so many pieces: these are its tables,
--- and it searches no deeper than 12 plies.
+-- and it searches no deeper than may be.
 pub record CanSearch (pieces : ℕ) (front : List Entry) : Type 0 where
   pub tables : pieces ≡ session_pieces front
-  pub depth : session_depth front ≤ 12
+  pub depth : session_depth front ≤ MOST_DEPTH
 
 -- .. and so this lease's leaf, which is not decided at sight
 pub record CanSearchLeaf (pieces : ℕ) (given : Lease) : Type 0 where
   pub tables : pieces ≡ given.pieces
-  pub depth : given.depth ≤ 12
+  pub depth : given.depth ≤ MOST_DEPTH
   pub undecided : is_at_sight draughts pieces given.position ≡ false
 
 -- the certificates that were found tell the value of their position

@@ -8,7 +8,9 @@
 //! of a state in which a worker is answered so; with `Failed` it ends with the fault of the disk. A
 //! gate that wants to see how many roots are settled is shown it in a turn that changes nothing.
 //! `run_workers` works in threads, and then in the caller. `search_together` searches leaves that a
-//! session alone has leased, in threads, and touches no session.
+//! session alone has leased, in threads, and touches no session: it answers each lease, in their
+//! order, by the outcome of its own search (`specs/Found.antt`). What a lease asks for is searched
+//! by `search_lease` alone, whose outcome is the lease's.
 //!
 //! That searches run at the same time is tested and not proved. That a worker who waits for a leaf
 //! sleeps is not proved.
@@ -16,14 +18,18 @@
 //! Tests: session_tests/src/workers.rt, worker_trial/src/main.rt
 #![tactic(auto)]
 
+mod found;
 mod gates;
 mod hand;
 mod pauses;
+mod searching;
 mod threads;
 mod together;
 mod worker;
 
+pub use found::LeafFound;
 pub use gates::{Gate, MeetGate, OpenGate};
+pub use searching::{can_search, search_lease};
 pub use threads::run_workers;
-pub use together::{LeafFound, search_together};
+pub use together::search_together;
 pub use worker::{Ended, work};

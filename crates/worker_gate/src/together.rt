@@ -1,12 +1,15 @@
 //! Leaves that threads search at the same time, without a session.
-ghost use Rattle.std.specs.Prelude.{◌≡◌, ◌≤◌, All};
+ghost use Rattle.std.specs.Prelude.{◌≡◌, ◌≤◌, All, IfOk};
 ghost use Rattle.bench_core.specs.Cores.{IsOutcomeOf};
+ghost use Rattle.worker_gate.specs.Found.{AreFoundOf};
 ghost use Rattle.worker_gate.specs.Work.{CanSearchLeaf, is_value_told};
 
+use crate::found::LeafFound;
 use crate::gates::Gate;
+use crate::searching::search_lease;
 use bench_core::LeaseResult;
 use certificate_checker::{Outcome, told_by_all};
-use leaf_search::{Memo, search};
+use leaf_search::Memo;
 use lease_table::Lease;
 use std::alloc::{AllocError, Global};
 use std::collections::VecDeque;
@@ -24,16 +27,7 @@ const REMEMBERED_DEEP: usize = 65_536;
 /// A search of this many plies takes less than making the larger memory.
 const SHALLOW: u8 = 4;
 
-/// What the search of a leaf found, made ready for staging.
-#[derive(Drop)]
-pub struct LeafFound {
-    pub result: LeaseResult,
-    /// It tells the value of the leaf's position.
-    pub tells_value: bool,
-    pub ghost value: { tells_value ≡ is_value_told result.outcome },
-}
-
-/// Searches these leaves in as many threads, and gives what it found in the order of the leases.
+/// Searches these leaves in as many threads, and gives what it found: one result for each lease, in their order.
 ///
 /// Each thread passes the gate before each of its searches, and shows it these counts where it wants to see them. Where no
 /// thread can be made, the leaves are searched one after another.
@@ -47,6 +41,7 @@ pub fn search_together<R: Threads + Sync, O: Oracle + Sync, G: Gate + Sync>(
     counts: RootCounts,
 ) -> Result<VecDeque<LeafFound>, AllocError>
     requires { All (CanSearchLeaf (O.piece_limit oracle.now)) leases.now }
+    ensures { IfOk result (λ found. AreFoundOf leases.now found.items) }
 {
     let each = leases.len().div_ceil(usize::from(workers).max(1)).max(1);
     let parts = thread::map_chunks(
@@ -56,6 +51,7 @@ pub fn search_together<R: Threads + Sync, O: Oracle + Sync, G: Gate + Sync>(
         each,
         &|_: usize, part: &[Lease]| -> Result<VecDeque<LeafFound>, AllocError>
             requires { All (CanSearchLeaf (O.piece_limit oracle.now)) part.now }
+            ensures { IfOk result (λ found. AreFoundOf part.now found.items) }
         { search_part(alloc, part, oracle, gate, counts) },
     )?;
     let mut found = VecDeque::new(alloc);
@@ -74,6 +70,7 @@ fn search_part<O: Oracle, G: Gate>(
     counts: RootCounts,
 ) -> Result<VecDeque<LeafFound>, AllocError>
     requires { All (CanSearchLeaf (O.piece_limit oracle.now)) leases.now }
+    ensures { IfOk result (λ found. AreFoundOf leases.now found.items) }
 {
     let mut memo = Memo::new(alloc, oracle.pieces(), remembered(leases))?;
     let mut found = VecDeque::new(alloc);
@@ -99,7 +96,6 @@ fn remembered(leases: &[Lease]) -> usize
 }
 
 /// Searches a leaf, and sees whether what it found tells the value of its position.
-#[tactic(auto, using(crate::proofs::SearchingLemmas::outcome_is))]
 fn find<O: Oracle>(
     alloc: Global,
     lease: &Lease,
@@ -108,16 +104,11 @@ fn find<O: Oracle>(
 ) -> Result<LeafFound, AllocError>
     requires settings { CanSearchLeaf (O.piece_limit oracle.now) lease.now }
     requires memo { memo.old ≡ O.piece_limit oracle.now }
+    ensures lease { IfOk result (λ found. found.result.lease ≡ lease.now) }
+    ensures own { IfOk result (λ found. IsOutcomeOf lease.now found.result.outcome) }
     ensures memo { memo.new ≡ memo.old }
 {
-    let outcome = search(
-        alloc,
-        &lease.position,
-        lease.goal,
-        lease.depth,
-        oracle,
-        memo,
-    )?;
+    let outcome = search_lease(alloc, lease, oracle, memo)?;
     let tells_value = tells_value(lease, &outcome);
     Ok(LeafFound {
         result: LeaseResult::new(alloc, lease, outcome)?,

@@ -8,9 +8,10 @@ ghost use Rattle.worker_gate.specs.Work.{CanSearch, CanSearchLeaf, ShowsEnd};
 use crate::gates::Gate;
 use crate::hand::{Hand, commit_unless_applied, release_leases, stage_results, take_leaves};
 use crate::pauses::Pause;
+use crate::searching::search_lease;
 use bench_core::{LeaseRefusal, LeaseResult};
 use bench_disk::Disk;
-use leaf_search::{Memo, search};
+use leaf_search::Memo;
 use lease_table::Lease;
 use std::alloc::{AllocError, Global};
 use std::collections::VecDeque;
@@ -200,8 +201,7 @@ fn search_leaves<R: Wait, D: Disk, O: Oracle, G: Gate>(
     Ok(())
 }
 
-/// Searches a leaf that was leased, and encodes what it found.
-#[tactic(auto, using(crate::proofs::SearchingLemmas::outcome_is))]
+/// Searches a leaf that was leased, and makes the sheet of what it found.
 fn search_leaf<O: Oracle>(
     alloc: Global,
     lease: &Lease,
@@ -213,14 +213,7 @@ fn search_leaf<O: Oracle>(
     ensures lease { IfOk result (λ found. found.lease ≡ lease.now) }
     ensures memo { memo.new ≡ memo.old }
 {
-    let outcome = search(
-        alloc,
-        &lease.position,
-        lease.goal,
-        lease.depth,
-        oracle,
-        memo,
-    )?;
+    let outcome = search_lease(alloc, lease, oracle, memo)?;
     LeaseResult::new(alloc, lease, outcome)
 }
 

@@ -1,5 +1,6 @@
 //! The roots, and a disk on which they are begun.
-ghost use Rattle.std.specs.Prelude.{◌≡◌};
+ghost use Rattle.std.specs.Prelude.{◌≡◌, ◌≤◌};
+ghost use Rattle.bench_core.specs.declared.settings.TheConstants.{MOST_LEASE};
 
 use anyhow::Result;
 use bench_core::Settings;
@@ -44,10 +45,9 @@ const BUDGET: u32 = 1_000;
 
 /// How a session searches in which a lease lasts for so many leases given.
 pub(crate) fn settings(lease: u32) -> Settings
-    ensures pieces { result.pieces ≡ 2 }
-    ensures depth { result.depth ≡ 0 }
-    ensures budget { result.budget ≡ 1000 }
-    ensures lease { result.lease ≡ lease }
+    requires first { 1 ≤ lease }
+    requires last { lease ≤ MOST_LEASE }
+    ensures { result.pieces ≡ 2 }
 {
     Settings {
         pieces: 2,

@@ -4,7 +4,7 @@ ghost use Rattle.bench_disk.specs.Disk.{IsHonest};
 ghost use Rattle.bench_edges.specs.Words.{IsWithinLimits};
 ghost use Rattle.bench_edges.specs.declared.words.Command.TheVariants as commands;
 ghost use Rattle.journal_runs.specs.Journals.{IsTrueAccount, LeavesJournal, Resumes, account_of};
-ghost use Rattle.journal_runs.specs.Limits.{AreWithinLimits};
+ghost use Rattle.strategy_certificate.specs.Tables.{IsTableSize};
 ghost use Rattle.opening_bench.specs.Bench.{ComesBeforeDisk};
 ghost use Rattle.opening_bench.specs.Disks.{IsRefusedRun, LeavesDisk};
 ghost use Rattle.opening_bench.specs.Solving.{roots_of_openings};
@@ -59,13 +59,13 @@ pub(crate) fn run_by<R: Threads + Wait + Sync, D: Disk + Send, G: Gate + Sync>(
     disk: D,
     gate: &G,
 ) -> (D, Result<Written, Refusal>)
-    requires { AreWithinLimits plan.now.settings }
+    requires { IsTableSize plan.now.settings.pieces }
     ensures leaves { LeavesJournal D.Disk plan.now.settings.pieces disk result.0 }
     ensures resumes { IsHonest D.TELLS → IfOk result.1 (λ output.
         Resumes D.Disk
         (account_of plan.now.account) plan.now.settings.pieces plan.now.settings.depth
-        plan.now.settings.budget positions.now disk result.0 output.text.items
-        output.is_settled) }
+        plan.now.settings.budget plan.now.settings.lease positions.now disk result.0
+        output.text.items output.is_settled) }
     ensures shows { IfOk result.1
         (λ output. IsTrueAccount plan.now.account positions.now output.text.items) }
     ensures refused { IfErr result.1

@@ -1,4 +1,6 @@
 //! A tree as a plain list of nodes, whose numbers are folded anew from the leaves each time.
+ghost use Rattle.std.specs.Prelude.{◌<◌};
+
 use draughts_board::{Position, Side};
 use proof_numbers::{Child, Facts, Number, Numbers};
 use proof_tree::Tree;
@@ -31,8 +33,6 @@ impl Dice {
         }
     }
 }
-
-ghost use Rattle.std.specs.Prelude.{◌<◌};
 
 /// A proof and a disproof number; none is infinite.
 #[derive(Clone, Copy)]

@@ -1,5 +1,6 @@
 use Rattle.std.proofs.Common.{refl}
 use Rattle.std.proofs.lemmas.Result.{err_from_is_err_and}
+use Rattle.disk_journal.proofs.LooksLemmas.{reads_so}
 use Rattle.journal_looks.proofs.FileLemmas.{explained_by_none}
 use Rattle.journal_looks.proofs.LookLemmas.{report_read, report_unread}
 use Rattle.journal_looks.proofs.looks.report.Goals as goal
@@ -32,3 +33,8 @@ pub returns-in_err-looked_of-clause-accepted : goal.returns-in_err-looked_of-cla
 returns-in_err-looked_of-clause-accepted g c honest k records read =
     let p = err_from_is_err_and c.from_residual-in_err-looked_of.result c.from_residual-in_err-looked_of.ensures.1 in
     rw (p.1, p.2) refl
+
+pub returns-in_err-looked_of-clause-reads : goal.returns-in_err-looked_of-clause-reads
+returns-in_err-looked_of-clause-reads g c =
+    let p = err_from_is_err_and c.from_residual-in_err-looked_of.result c.from_residual-in_err-looked_of.ensures.1 in
+    reads_so g.D.Disk _ _ _ _ c.in_ok-bench.ensures.reads (λ is. absurd (cc (p.1, p.2, is)))

@@ -1,5 +1,6 @@
 use Rattle.std.proofs.Common.{◌≡◌, ◌≤◌, ◌∙◌, inl, inr, refl, subst, sym}
 use Rattle.std.specs.Prelude.{true}
+use Rattle.certificate_checker.specs.declared.outcomes.TheConstants.{MOST_DEPTH}
 use Rattle.disk_journal.specs.declared.refusal.JournalRefusal.TheVariants as journal
 use Rattle.tree_manager.specs.Lines.{is_failed}
 use Rattle.journal_runs.specs.Ends.{HasWorked, IsWorkRefusal}
@@ -22,7 +23,7 @@ run_session-session-requires-clause-tables g c κs within = c.in-Ok.ensures.piec
 
 pub run_session-session-requires-clause-depth : goal.run_session-session-requires-clause-depth
 run_session-session-requires-clause-depth g c κs within =
-    subst (λ n. n ≤ 12) (sym (first_depth g.D.Disk _ c.args.disk _ c.in-Ok-attach.ensures.attached)) c.requires.1.0
+    subst (λ n. n ≤ MOST_DEPTH) (sym (first_depth g.D.Disk _ c.args.disk _ c.in-Ok-attach.ensures.attached)) c.args.plan.now.settings.shallow
 
 pub run_session-session-requires-clause-idle : goal.run_session-session-requires-clause-idle
 run_session-session-requires-clause-idle g c κs within =
@@ -44,7 +45,7 @@ returns-in-Ok-attach-clause-does g c = λ honest.
     let laws = g.met.D.Disk g.world.𝓛 g.world.𝓜 g.world.𝓡 ((λ s x. x), (λ x. x), (λ x. x), λ x. x) in
     let last = c.run_session-session.result.0 in
     let account = account_of c.args.plan.now.account in
-    if_ok (λ ran. HasWorked account c.in-Ok-attach.session c.args.positions.now last ran.text.items ran.is_settled) _ c.run_session-session.result.1
+    if_ok (λ ran. HasWorked account c.args.plan.now.settings.lease c.in-Ok-attach.session c.args.positions.now last ran.text.items ran.is_settled) _ c.run_session-session.result.1
     (λ ran worked.
     resumes_begun g.D.Disk _ c.args.disk _ c.in-Ok-attach.ensures.attached
     account c.args.positions.now last c.into_disk.result _ _ c.run_session-session.ensures.goes_on honest worked (c.into_disk.ensures.receipts honest)

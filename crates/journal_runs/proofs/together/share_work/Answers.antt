@@ -1,9 +1,12 @@
-use Rattle.std.proofs.Common.{sym, subst}
+use Rattle.std.proofs.Common.{ap, sym, subst}
 use Rattle.tree_manager.specs.Turns.{GrowsByTurns}
 use Rattle.worker_gate.specs.Work.{CanSearch}
 use Rattle.journal_runs.proofs.AloneLemmas.{searches_grown}
-use Rattle.journal_runs.proofs.TurnLemmas.{grows_then}
+use Rattle.journal_runs.proofs.TurnLemmas.{grows_none, grows_then}
 use Rattle.journal_runs.proofs.together.share_work.Goals as goal
+
+pub returns-in-Err-clause-grows : goal.returns-in-Err-clause-grows
+returns-in-Err-clause-grows g c = grows_none c.args.session.line c.in-Err.session.line (ap (λ s. s.line) c.in-Err.ensures.handed_back)
 
 pub run_workers-requires-clause-settings : goal.run_workers-requires-clause-settings
 run_workers-requires-clause-settings g c κs within =

@@ -13,7 +13,7 @@ returns-else-is_crowned_on c =
     let p = c.args.p.now in
     let path = c.args.path.now in
     let uncrowned : is_crowned_on (cell_at p (first_square path)) (last_square path) ≡ false =
-    (λ i. is_crowned_on (sym (c.at.ensures.value ∙ ap (cell_at p) c.first.ensures) i) (sym c.last.ensures i)) ∙ sym c.is_crowned_on.ensures ∙ c.if-is_crowned_on.false in
+    (λ i. is_crowned_on (sym (c.piece_at.ensures ∙ ap (cell_at p) c.first.ensures) i) (sym c.last.ensures i)) ∙ sym c.is_crowned_on.ensures ∙ c.if-is_crowned_on.false in
     ap not (c.is_any.ensures ∙ any-on_squares (stands_in c.args.targets) (goes_on p path) c.requires.targets)
     ∙ sym (nil-filter (goes_on p path) squares)
     ∙ ap (λ b. b || is_nil (further_jumps p path)) (sym uncrowned)

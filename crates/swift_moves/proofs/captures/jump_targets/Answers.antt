@@ -36,8 +36,8 @@ returns c n h =
     (from_here UpLeft c.leapt.result c.leapt.ensures) (from_here UpRight c.leapt-2.result c.leapt-2.ensures) (from_here DownLeft c.leapt-3.result c.leapt-3.ensures) (from_here DownRight c.leapt-4.result c.leapt-4.ensures) h in
     stands_in-and c.by_ways-landing.result (bit_or c.args.f.now.free c.bit.result) n
     ∙ (λ i. (c.by_ways-landing.ensures n h
-    ∙ (λ j. list_any (λ w. each w j) (ways_of c.at.result))
-    ∙ ap (λ (piece : Cell). list_any (λ w. lead w n) (ways_of piece)) (c.at.ensures.value ∙ ap (cell_at p) c.first-start.ensures)
+    ∙ (λ j. list_any (λ w. each w j) (ways_of c.piece_at.result))
+    ∙ ap (λ (piece : Cell). list_any (λ w. lead w n) (ways_of piece)) (c.piece_at.ensures ∙ ap (cell_at p) c.first-start.ensures)
     ∙ leads_behind may_jump (cell_at p s) x n (subst IsSquare c.last.ensures c.bit-here.ensures.range) h) i
     && (stands_in-or c.args.f.now.free c.bit.result n ∙ (λ j. c.requires.forces.free n h j || (c.bit.ensures.value n h ∙ ap (λ (k : ℕ). n == k) c.first-start.ensures) j)) i)
     ∙ jump_parts (is_square n && are_jump_apart x n && may_go (cell_at p s) x n) (is_enemy p (between x n)) (not (contains (jumped path) (between x n))) (is_free p n) (n == s)

@@ -1,4 +1,4 @@
 use Rattle.text_tests.proofs.records.expand_text.Goals as goal
 
-pub encode-requires : goal.encode-requires
-encode-requires c = (2, tt)
+pub encode_full-requires : goal.encode_full-requires
+encode_full-requires c = (2, tt)

@@ -21,7 +21,8 @@ returns-then-waiting-gt0-clause-within g c =
     kept_acked g.D.Disk
     c.args.marks.now.items c.push_reserved.new.self.items (vec_capacity c.args.marks.now) (vec_capacity c.push_reserved.new.self) c.args.due.now (c.args.due.now - c.staged-waiting.result) c.args.bench.now c.apply_staged.new.self c.args.journal.now c.commit.new.self c.in-Ok.receipt.moment
     c.requires.within unfailed c.push_reserved.ensures.items c.in-Ok.ensures.moment room (ap (λ n. c.args.due.now - n) waiting) c.apply_staged.ensures c.in-Ok.ensures.stays.0 c.in-Ok.ensures.staged line_whole c.in-Ok.ensures.count c.in-Ok.ensures.cause.later
-    c.in-Ok.ensures.payloads c.in-Ok.ensures.durable c.in-Ok.ensures.crash c.in-Ok.ensures.kept c.in-Ok.ensures.acknowledged
+    (λ honest. record { crash = c.in-Ok.ensures.crash honest; stays = c.in-Ok.ensures.kept honest })
+    (λ honest. record { has = c.in-Ok.ensures.payloads honest; settled = c.in-Ok.ensures.durable honest; acknowledged = c.in-Ok.ensures.acknowledged honest })
 
 pub returns-in-Err-clause-within : goal.returns-in-Err-clause-within
 returns-in-Err-clause-within g c =
@@ -31,7 +32,7 @@ returns-in-Err-clause-within g c =
     kept_broken g.D.Disk
     c.args.marks.now.items c.push_reserved-in-Err.new.self.items (vec_capacity c.args.marks.now) (vec_capacity c.push_reserved-in-Err.new.self) c.args.due.now c.args.bench.now c.args.journal.now c.commit.new.self c.faults-faults.result
     c.requires.within unfailed c.push_reserved-in-Err.ensures.items count c.in-Err.ensures.stays.0 failed c.in-Err.ensures.cause.fault c.in-Err.ensures.cause.later
-    c.in-Err.ensures.crash c.in-Err.ensures.kept
+    (λ honest. record { crash = c.in-Err.ensures.crash honest; stays = c.in-Err.ensures.kept honest })
 
 pub returns-then-waiting-gt0-clause-appends : goal.returns-then-waiting-gt0-clause-appends
 returns-then-waiting-gt0-clause-appends g c some =
@@ -61,7 +62,7 @@ pub returns-then-waiting-gt0-clause-since : goal.returns-then-waiting-gt0-clause
 returns-then-waiting-gt0-clause-since g c honest =
     let unfailed : c.args.journal.now.failed ≡ false = c.requires.unfailed in
     (goes_on g.D.Disk
-    (woven c.args.marks.now.items (c.args.bench.now.records ++ c.args.bench.now.staged)) c.args.marks.now.items (vec_capacity c.args.marks.now) c.args.due.now c.args.bench.now c.args.journal.now c.commit.new.self c.requires.within unfailed c.in-Ok.ensures.crash honest)
+    (woven c.args.marks.now.items (c.args.bench.now.records ++ c.args.bench.now.staged)) c.args.marks.now.items (vec_capacity c.args.marks.now) c.args.due.now c.args.bench.now c.args.journal.now c.commit.new.self c.requires.within unfailed (record { crash = c.in-Ok.ensures.crash honest; stays = c.in-Ok.ensures.kept honest }) honest)
 
 pub returns-else-waiting-gt0-clause-number : goal.returns-else-waiting-gt0-clause-number
 returns-else-waiting-gt0-clause-number g c =
@@ -87,7 +88,7 @@ pub returns-in-Err-clause-since : goal.returns-in-Err-clause-since
 returns-in-Err-clause-since g c honest =
     let unfailed : c.args.journal.now.failed ≡ false = c.requires.unfailed in
     (goes_on g.D.Disk
-    (woven c.args.marks.now.items (c.args.bench.now.records ++ c.args.bench.now.staged)) c.args.marks.now.items (vec_capacity c.args.marks.now) c.args.due.now c.args.bench.now c.args.journal.now c.commit.new.self c.requires.within unfailed c.in-Err.ensures.crash honest)
+    (woven c.args.marks.now.items (c.args.bench.now.records ++ c.args.bench.now.staged)) c.args.marks.now.items (vec_capacity c.args.marks.now) c.args.due.now c.args.bench.now c.args.journal.now c.commit.new.self c.requires.within unfailed (record { crash = c.in-Err.ensures.crash honest; stays = c.in-Err.ensures.kept honest }) honest)
 
 pub returns-in-Err-clause-refused : goal.returns-in-Err-clause-refused
 returns-in-Err-clause-refused g c =

@@ -1,4 +1,4 @@
-use Rattle.std.proofs.Common.{◌≡◌, ◌<◌, ◌∷◌, [], length, refl, sym, ◌∙◌, subst}
+use Rattle.std.proofs.Common.{◌≡◌, ◌<◌, ◌∷◌, ◌++◌, [], length, refl, sym, ◌∙◌, subst}
 use Rattle.bench_records.specs.declared.records.BenchRecord.TheVariants.{Begin}
 use Rattle.bench_records.specs.Texts.{IsText}
 use Rattle.bench_core.specs.Cores.{Core, IsForgotten}
@@ -10,7 +10,7 @@ use Rattle.tree_manager.proofs.roots.stage_root.Goals as goal
 pub stage-requires-clause-some : goal.stage-requires-clause-some
 stage-requires-clause-some g c =
     let text : c.deref.result.now ≡ c.in_ok-text.text.items = c.deref.ensures.value in
-    subst (λ t. 0 < length t) (sym text) (text_some c.args.bench.now.state.settings.pieces (Begin c.args.p) c.in_ok-text.text.items (c.in_ok-text.ensures.text []))
+    subst (λ t. 0 < length t) (sym text) (text_some c.args.bench.now.state.settings.pieces (c.args.bench.now.records ++ c.args.bench.now.staged) (Begin c.args.p) c.in_ok-text.text.items c.in_ok-text.ensures.text)
 
 pub returns-in-Err-clause-bench_stays : goal.returns-in-Err-clause-bench_stays
 returns-in-Err-clause-bench_stays g c =
@@ -24,4 +24,4 @@ returns-clause-bench g c = c.in_ok-text.ensures.staged ∙ root_staged c.args.be
 pub returns-clause-journal : goal.returns-clause-journal
 returns-clause-journal g c =
     let text : c.deref.result.now ≡ c.in_ok-text.text.items = c.deref.ensures.value in
-    (c.deref.result.now, (λ before. subst (λ t. IsText c.args.bench.now.state.settings.pieces before (Begin c.args.p) t) (sym text) (c.in_ok-text.ensures.text before)), c.in_default.ensures.ok)
+    (c.deref.result.now, subst (λ t. IsText c.args.bench.now.state.settings.pieces (c.args.bench.now.records ++ c.args.bench.now.staged) (Begin c.args.p) t) (sym text) c.in_ok-text.ensures.text, c.in_default.ensures.ok)

@@ -10,7 +10,7 @@ pub returns-in_default : goal.returns-in_default
 returns-in_default c =
     let b = c.self.inside in
     subst (λ (x : Core). IsTrue false ↔ Contains x.state.leases.rows (unkept c.args.lease.now)) c.self.view_is
-    ((λ t. absurd (false≢true t)), (λ there. absurd (c.in_default.not-Some c.args.lease.now (c.row.ensures ∙ looked_up b.leases b.given c.args.lease.now c.self.invariant.apart there))))
+    ((λ t. absurd (false≢true t)), (λ there. absurd (c.in_default.not-Some c.args.lease.now (c.row.ensures ∙ looked_up b.leases b.given c.args.lease.now c.self.invariant.bench.apart there))))
 
 pub returns-then-not-is_same_lease : goal.returns-then-not-is_same_lease
 returns-then-not-is_same_lease c =
@@ -18,7 +18,7 @@ returns-then-not-is_same_lease c =
     subst (λ (x : Core). IsTrue false ↔ Contains x.state.leases.rows (unkept c.args.lease.now)) c.self.view_is (
       (λ t. absurd (false≢true t)),
       (λ there.
-          let found : Some c.in-Some.row ≡ Some c.args.lease.now = sym c.in-Some.is ∙ (c.row.ensures ∙ looked_up b.leases b.given c.args.lease.now c.self.invariant.apart there) in
+          let found : Some c.in-Some.row ≡ Some c.args.lease.now = sym c.in-Some.is ∙ (c.row.ensures ∙ looked_up b.leases b.given c.args.lease.now c.self.invariant.bench.apart there) in
           let same : c.in-Some.row ≡ c.args.lease.now = cc in
           c.if-not-is_same_lease.ensures.1 same),
     )
@@ -27,7 +27,7 @@ pub returns-then-not-is_live : goal.returns-then-not-is_live
 returns-then-not-is_live c =
     let b = c.self.inside in
     subst (λ (x : Core). IsTrue false ↔ Contains x.state.leases.rows (unkept c.args.lease.now)) c.self.view_is
-    ((λ t. absurd (false≢true t)), (λ there. absurd (not_dead b.leases b.given c.args.lease.now c.self.invariant.apart there (sym c.is_live.ensures ∙ c.if-not-is_live.true))))
+    ((λ t. absurd (false≢true t)), (λ there. absurd (not_dead b.leases b.given c.args.lease.now c.self.invariant.bench.apart there (sym c.is_live.ensures ∙ c.if-not-is_live.true))))
 
 pub returns : goal.returns
 returns c =
@@ -36,6 +36,6 @@ returns c =
     let found = sym c.row.ensures ∙ (c.in-Some.is ∙ ap Some same) in
     let lives = sym c.is_live.ensures ∙ c.if-not-is_live.false in
     subst (λ (x : Core). IsTrue (not c.is_kept.result) ↔ Contains x.state.leases.rows (unkept c.args.lease.now)) c.self.view_is (
-      (λ t. stands b.leases b.given c.args.lease.now c.self.invariant.apart found lives (sym c.is_kept.ensures ∙ not-true c.is_kept.result t)),
-      (λ there. ap not (c.is_kept.ensures ∙ not_kept b.leases b.given c.args.lease.now c.self.invariant.apart there)),
+      (λ t. stands b.leases b.given c.args.lease.now c.self.invariant.bench.apart found lives (sym c.is_kept.ensures ∙ not-true c.is_kept.result t)),
+      (λ there. ap not (c.is_kept.ensures ∙ not_kept b.leases b.given c.args.lease.now c.self.invariant.bench.apart there)),
     )

@@ -29,7 +29,7 @@ returns-in_default-clause-refused c =
 pub give-requires-clause-new : goal.give-requires-clause-new
 give-requires-clause-new c =
     let b = c.self.inside in
-    no_row b.grown b.leases b.staged.items b.given b.work b.nodes_due b.settings c.self.invariant
+    no_row b.grown b.leases b.staged.items b.given b.work b.nodes_due b.settings c.self.invariant.bench
 
 pub give-requires-clause-free : goal.give-requires-clause-free
 give-requires-clause-free c =
@@ -46,8 +46,11 @@ invariant_of-self-2 c =
     c.lease_at-lease.ensures ∙ ap (λ (f : Forest). record (lease_of (core b.grown b.leases b.staged.items b.given b.work b.nodes_due b.settings).state c.args.worker c.in-Some.leaf) { position = node_position f c.in-Some.leaf.0 }) c.tree-3.ensures.forest in
     let new : c.give.new.self ≡ given_rows b.grown b.leases b.staged.items b.given b.work b.nodes_due b.settings (lease_of (core b.grown b.leases b.staged.items b.given b.work b.nodes_due b.settings).state c.args.worker c.in-Some.leaf) =
     c.in_ok-give.ensures.ok ∙ ap (λ (l : Lease). given_rows b.grown b.leases b.staged.items b.given b.work b.nodes_due b.settings l) is in
-    subst (λ (t : LeaseRows). IsBench (seen b.grown t b.staged.items (b.given + 1) b.work b.settings) b.grown t b.staged.items b.nodes_due) (sym new)
-    (bench_leased b.grown b.leases b.staged.items b.given b.work b.nodes_due b.settings c.args.worker c.in-Some.leaf found c.self.invariant)
+    record {
+      bench = subst (λ (t : LeaseRows). IsBench (seen b.grown t b.staged.items (b.given + 1) b.work b.settings) b.grown t b.staged.items b.nodes_due) (sym new)
+          (bench_leased b.grown b.leases b.staged.items b.given b.work b.nodes_due b.settings c.args.worker c.in-Some.leaf found c.self.invariant.bench);
+      names = c.self.invariant.names;
+    }
 
 pub returns-clause-answer : goal.returns-clause-answer
 returns-clause-answer c =
@@ -70,7 +73,7 @@ returns-clause-event c =
     let new : c.give.new.self ≡ given_rows b.grown b.leases b.staged.items b.given b.work b.nodes_due b.settings (lease_of (core b.grown b.leases b.staged.items b.given b.work b.nodes_due b.settings).state c.args.worker c.in-Some.leaf) =
     c.in_ok-give.ensures.ok ∙ ap (λ (l : Lease). given_rows b.grown b.leases b.staged.items b.given b.work b.nodes_due b.settings l) is in
     ap (λ (t : LeaseRows). seen b.grown t b.staged.items (b.given + 1) b.work b.settings) new
-    ∙ (leased_is b.grown b.leases b.staged.items b.given b.work b.nodes_due b.settings (lease_of (core b.grown b.leases b.staged.items b.given b.work b.nodes_due b.settings).state c.args.worker c.in-Some.leaf) refl c.self.invariant.core.state.lasts (leaf_free b.grown b.leases b.staged.items b.given b.work b.nodes_due b.settings c.in-Some.leaf found)
+    ∙ (leased_is b.grown b.leases b.staged.items b.given b.work b.nodes_due b.settings (lease_of (core b.grown b.leases b.staged.items b.given b.work b.nodes_due b.settings).state c.args.worker c.in-Some.leaf) refl c.self.invariant.bench.core.state.lasts (leaf_free b.grown b.leases b.staged.items b.given b.work b.nodes_due b.settings c.in-Some.leaf found)
     ∙ (ap (λ (l : Lease). leased_core (core b.grown b.leases b.staged.items b.given b.work b.nodes_due b.settings) l) (sym is)
     ∙ ap (λ (x : Core). record x { state = with_lease x.state c.lease_at-lease.result }) c.self.view_is))
 
@@ -82,5 +85,5 @@ returns-clause-sight c =
     let place : c.lease_at-lease.result.position ≡ node_position b.grown.forest c.in-Some.leaf.0 =
     ap (λ (l : Lease). l.position) c.lease_at-lease.ensures ∙ ap (λ (f : Forest). node_position f c.in-Some.leaf.0) c.tree-3.ensures.forest in
     let here = subst (λ (p : Board). is_at_sight draughts b.settings.pieces p ≡ false) (sym place)
-    (leaf_undecided s c.in-Some.leaf.1 c.in-Some.leaf.0 (λ n. is_leased b.leases n (b.given + 1)) c.self.invariant.core.state.sight found) in
+    (leaf_undecided s c.in-Some.leaf.1 c.in-Some.leaf.0 (λ n. is_leased b.leases n (b.given + 1)) c.self.invariant.bench.core.state.sight found) in
     subst (λ (x : Core). is_at_sight draughts x.state.settings.pieces c.lease_at-lease.result.position ≡ false) c.self.view_is here

@@ -12,7 +12,7 @@ returns-then-not-is_live-clause-stale c =
     let b = c.self.inside in (
       refl,
       subst (λ (x : Core). ¬ HasRow (λ row. row.kept ≡ false) x.state c.args.id) c.self.view_is
-          (no_release_of_dead b.grown b.leases b.staged.items b.given b.work b.nodes_due b.settings c.args.id c.self.invariant (sym c.if-not-is_live.ensures)),
+          (no_release_of_dead b.grown b.leases b.staged.items b.given b.work b.nodes_due b.settings c.args.id c.self.invariant.bench (sym c.if-not-is_live.ensures)),
     )
 
 pub returns-then-is_kept-clause-stale : goal.returns-then-is_kept-clause-stale
@@ -20,15 +20,18 @@ returns-then-is_kept-clause-stale c =
     let b = c.self.inside in (
       refl,
       subst (λ (x : Core). ¬ HasRow (λ row. row.kept ≡ false) x.state c.args.id) c.self.view_is
-          (no_release_of_kept b.grown b.leases b.staged.items b.given b.work b.nodes_due b.settings c.args.id c.self.invariant (sym c.if-is_kept.ensures)),
+          (no_release_of_kept b.grown b.leases b.staged.items b.given b.work b.nodes_due b.settings c.args.id c.self.invariant.bench (sym c.if-is_kept.ensures)),
     )
 
 pub invariant_of-self : goal.invariant_of-self
 invariant_of-self c =
     let b = c.self.inside in
     let can = can_release b.grown b.leases b.staged.items b.given b.work b.nodes_due b.settings c.args.id (sym c.if-not-is_live.ensures) (sym c.if-is_kept.ensures) in
-    subst (λ (t : LeaseRows). IsBench (seen b.grown t b.staged.items b.given b.work b.settings) b.grown t b.staged.items b.nodes_due) (sym c.end.ensures)
-    (bench_released b.grown b.leases b.staged.items b.given b.work b.nodes_due b.settings c.args.id can c.self.invariant)
+    record {
+      bench = subst (λ (t : LeaseRows). IsBench (seen b.grown t b.staged.items b.given b.work b.settings) b.grown t b.staged.items b.nodes_due) (sym c.end.ensures)
+          (bench_released b.grown b.leases b.staged.items b.given b.work b.nodes_due b.settings c.args.id can c.self.invariant.bench);
+      names = c.self.invariant.names;
+    }
 
 pub returns-clause-row : goal.returns-clause-row
 returns-clause-row c =

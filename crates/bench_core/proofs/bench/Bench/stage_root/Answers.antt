@@ -1,25 +1,45 @@
-use Rattle.std.proofs.Common.{rules, ◌≡◌, ◌≤◌, ◌<◌, ◌^◌, ◌+◌, length, refl, ap, sym, ◌∙◌, subst, arith}
+use Rattle.std.proofs.Common.{rules, ◌≡◌, ◌≤◌, ◌<◌, ◌^◌, ◌+◌, ◌++◌, ◌∷◌, [], List, map, length, refl, ap, sym, ◌∙◌, subst, arith}
 use Rattle.bench_records.specs.declared.records.BenchRecord.TheVariants as records
 use Rattle.certificate_checker.specs.Sight.{IsAtSight}
 use Rattle.bench_core.specs.Cores.{Core, MayStage, with_staged, CanApplyAll}
-use Rattle.bench_core.specs.Benches.{seen, IsBench}
-use Rattle.bench_core.proofs.StageLemmas.{bench_roomy, bench_begun, root_seen}
+use Rattle.bench_records.specs.Texts.{IsShortText, named_in}
+use Rattle.bench_core.specs.declared.staged.Staged.{Staged}
+use Rattle.bench_core.specs.declared.staged.Staged.TheVariants.{Begin}
+use Rattle.bench_core.specs.Naming.{AreNamesOf}
+use Rattle.bench_core.specs.Benches.{seen, record_staged, IsBench}
+use Rattle.bench_core.proofs.StageLemmas.{map_push, bench_roomy, bench_begun, root_seen}
+use Rattle.bench_core.proofs.NamingLemmas.{names_same, names_more, names_staged, short_text_of}
 use Rattle.bench_core.proofs.ApplyLemmas.{applies_all}
 use Rattle.bench_core.proofs.bench.Bench.stage_root.Goals as goal
 
 pub invariant_of-self : goal.invariant_of-self
 invariant_of-self c =
     let b = c.self.inside in
-    bench_roomy b.grown c.reserve.new.self b.leases b.staged.items b.given b.work b.nodes_due b.settings c.reserve.ensures.forest c.reserve.ensures.records b.staged.items refl c.self.invariant c.reserve.ensures.nodes c.reserve.ensures.room
+    record {
+      bench = bench_roomy b.grown c.reserve.new.self b.leases b.staged.items b.given b.work b.nodes_due b.settings c.reserve.ensures.forest c.reserve.ensures.records b.staged.items refl c.self.invariant.bench c.reserve.ensures.nodes c.reserve.ensures.room;
+      names = names_same b.grown.records c.reserve.new.self.records (map record_staged b.staged.items) (map record_staged b.staged.items) b.names b.names c.reserve.ensures.records refl refl c.self.invariant.names;
+    }
 
-pub invariant_of-self-in_err-push : goal.invariant_of-self-in_err-push
-invariant_of-self-in_err-push c =
+pub invariant_of-self-in_err-reserve-2 : goal.invariant_of-self-in_err-reserve-2
+invariant_of-self-in_err-reserve-2 c =
     let b = c.self.inside in
-    bench_roomy b.grown c.reserve.new.self b.leases b.staged.items b.given b.work b.nodes_due b.settings c.reserve.ensures.forest c.reserve.ensures.records c.push.new.self.items c.in_err-push.ensures.items c.self.invariant c.reserve.ensures.nodes c.reserve.ensures.room
+    record {
+      bench = bench_roomy b.grown c.reserve.new.self b.leases b.staged.items b.given b.work b.nodes_due b.settings c.reserve.ensures.forest c.reserve.ensures.records c.reserve-2.new.self.items c.reserve-2.ensures.items c.self.invariant.bench c.reserve.ensures.nodes c.reserve.ensures.room;
+      names = names_same b.grown.records c.reserve.new.self.records (map record_staged b.staged.items) (map record_staged c.reserve-2.new.self.items) b.names b.names c.reserve.ensures.records (ap (map record_staged) c.reserve-2.ensures.items) refl c.self.invariant.names;
+    }
+
+pub invariant_of-self-in_err-text : goal.invariant_of-self-in_err-text
+invariant_of-self-in_err-text c =
+    let b = c.self.inside in
+    record {
+      bench = bench_roomy b.grown c.reserve.new.self b.leases b.staged.items b.given b.work b.nodes_due b.settings c.reserve.ensures.forest c.reserve.ensures.records c.reserve-2.new.self.items c.reserve-2.ensures.items c.self.invariant.bench c.reserve.ensures.nodes c.reserve.ensures.room;
+      names = names_same b.grown.records c.reserve.new.self.records (map record_staged b.staged.items) (map record_staged c.reserve-2.new.self.items) b.names c.stage.new.self c.reserve.ensures.records (ap (map record_staged) c.reserve-2.ensures.items) c.in_err-text.ensures.err c.self.invariant.names;
+    }
 
 pub invariant_of-self-2 : goal.invariant_of-self-2
 invariant_of-self-2 c =
     let b = c.self.inside in
+    let items : c.push_reserved.new.self.items ≡ b.staged.items ++ (Begin c.args.root) ∷ [] = c.push_reserved.ensures.items ∙ ap (λ (l : List Staged). l ++ (Begin c.args.root) ∷ []) c.reserve-2.ensures.items in
     let total : c.in-Some.nodes ≡ b.nodes_due + 1 = search rules in
     let sight = subst (λ (x : Core). IsAtSight x.state.settings.pieces c.args.root) (sym c.self.view_is) c.requires.sight in
     let may = subst (λ (x : Core). MayStage x (records.Begin c.args.root.position)) (sym c.self.view_is) c.requires.may in
@@ -27,18 +47,26 @@ invariant_of-self-2 c =
     let long : c.len.result ≡ length b.staged.items = search rules in
     let count : b.work + (length b.staged.items + 1) < 2 ^ 64 = search rules in
     let room : length b.staged.items + 1 ≤ c.reserve.new.self.room = omega (arith, long, c.in_ok-reserve.ensures.enough.1) in
-    subst (λ n. IsBench (seen c.reserve.new.self b.leases c.push.new.self.items b.given b.work b.settings) c.reserve.new.self b.leases c.push.new.self.items n) (sym total)
-    (bench_begun b.grown c.reserve.new.self b.leases b.staged.items b.given b.work b.nodes_due b.settings c.reserve.ensures.forest c.reserve.ensures.records c.args.root c.push.new.self.items c.in_ok-push.ensures.items c.self.invariant sight may nodes room count)
+    record {
+      bench = subst (λ n. IsBench (seen c.reserve.new.self b.leases c.push_reserved.new.self.items b.given b.work b.settings) c.reserve.new.self b.leases c.push_reserved.new.self.items n) (sym total)
+          (bench_begun b.grown c.reserve.new.self b.leases b.staged.items b.given b.work b.nodes_due b.settings c.reserve.ensures.forest c.reserve.ensures.records c.args.root c.push_reserved.new.self.items items c.self.invariant.bench sight may nodes room count);
+      names = subst (λ rs. AreNamesOf rs (map record_staged c.push_reserved.new.self.items) c.stage.new.self) (sym c.reserve.ensures.records)
+          (subst (λ ss. AreNamesOf b.grown.records ss c.stage.new.self) (sym (ap (map record_staged) items ∙ map_push b.staged.items (Begin c.args.root)))
+          (names_staged b.grown.records (map record_staged b.staged.items) (records.Begin c.args.root.position) b.names c.stage.new.self c.self.invariant.names
+          (names_more b.names c.stage.new.self (records.Begin c.args.root.position) c.args.sheet.now c.requires.sheet c.in_ok-text.ensures.names)));
+    }
 
 pub returns-clause-staged : goal.returns-clause-staged
 returns-clause-staged c =
     let b = c.self.inside in
-    root_seen b.grown c.reserve.new.self b.leases b.staged.items b.given b.work b.nodes_due b.settings c.reserve.ensures.forest c.reserve.ensures.records c.args.root c.push.new.self.items c.in_ok-push.ensures.items
+    let items : c.push_reserved.new.self.items ≡ b.staged.items ++ (Begin c.args.root) ∷ [] = c.push_reserved.ensures.items ∙ ap (λ (l : List Staged). l ++ (Begin c.args.root) ∷ []) c.reserve-2.ensures.items in
+    root_seen b.grown c.reserve.new.self b.leases b.staged.items b.given b.work b.nodes_due b.settings c.reserve.ensures.forest c.reserve.ensures.records c.args.root c.push_reserved.new.self.items items
     ∙ ap (λ (x : Core). with_staged x (records.Begin c.args.root.position)) c.self.view_is
 
 pub returns-clause-grows : goal.returns-clause-grows
 returns-clause-grows c =
     let b = c.self.inside in
+    let items : c.push_reserved.new.self.items ≡ b.staged.items ++ (Begin c.args.root) ∷ [] = c.push_reserved.ensures.items ∙ ap (λ (l : List Staged). l ++ (Begin c.args.root) ∷ []) c.reserve-2.ensures.items in
     let total : c.in-Some.nodes ≡ b.nodes_due + 1 = search rules in
     let sight = subst (λ (x : Core). IsAtSight x.state.settings.pieces c.args.root) (sym c.self.view_is) c.requires.sight in
     let may = subst (λ (x : Core). MayStage x (records.Begin c.args.root.position)) (sym c.self.view_is) c.requires.may in
@@ -46,5 +74,12 @@ returns-clause-grows c =
     let long : c.len.result ≡ length b.staged.items = search rules in
     let count : b.work + (length b.staged.items + 1) < 2 ^ 64 = search rules in
     let room : length b.staged.items + 1 ≤ c.reserve.new.self.room = omega (arith, long, c.in_ok-reserve.ensures.enough.1) in
-    applies_all c.reserve.new.self b.leases c.push.new.self.items b.given b.work (b.nodes_due + 1) b.settings
-    (bench_begun b.grown c.reserve.new.self b.leases b.staged.items b.given b.work b.nodes_due b.settings c.reserve.ensures.forest c.reserve.ensures.records c.args.root c.push.new.self.items c.in_ok-push.ensures.items c.self.invariant sight may nodes room count)
+    applies_all c.reserve.new.self b.leases c.push_reserved.new.self.items b.given b.work (b.nodes_due + 1) b.settings
+    (bench_begun b.grown c.reserve.new.self b.leases b.staged.items b.given b.work b.nodes_due b.settings c.reserve.ensures.forest c.reserve.ensures.records c.args.root c.push_reserved.new.self.items items c.self.invariant.bench sight may nodes room count)
+
+pub returns-clause-short : goal.returns-clause-short
+returns-clause-short c =
+    let b = c.self.inside in
+    subst (λ (x : Core). IsShortText (named_in [] (x.records ++ x.staged)) (records.Begin c.args.root.position) c.in_ok-text.text.items) c.self.view_is
+    (short_text_of b.grown.records (map record_staged b.staged.items) (records.Begin c.args.root.position) c.args.kind c.args.sheet.now c.in_ok-text.text.items b.names c.stage.new.self
+    c.self.invariant.names c.requires.kind c.requires.sheet c.in_ok-text.ensures.text c.in_ok-text.ensures.names c.in_ok-text.ensures.few)

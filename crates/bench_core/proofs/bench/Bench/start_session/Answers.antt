@@ -9,7 +9,10 @@ use Rattle.bench_core.proofs.bench.Bench.start_session.Goals as goal
 pub invariant_of-self : goal.invariant_of-self
 invariant_of-self c =
     let b = c.self.inside in
-    bench_budget (seen b.grown b.leases b.staged.items b.given b.work b.settings) b.grown b.leases b.staged.items b.nodes_due c.min.result c.self.invariant
+    record {
+      bench = bench_budget (seen b.grown b.leases b.staged.items b.given b.work b.settings) b.grown b.leases b.staged.items b.nodes_due c.min.result c.self.invariant.bench;
+      names = c.self.invariant.names;
+    }
 
 pub returns : goal.returns
 returns c =

@@ -1,7 +1,7 @@
 use Rattle.disk_journal.proofs.LooksLemmas.{reads_stays}
 use Rattle.opening_bench.proofs.CertificateLemmas.{certified_says}
 use Rattle.opening_bench.proofs.LookingLemmas.{look_accepts, look_answers, memory_accepts, no_error}
-use Rattle.opening_bench.proofs.CauseLemmas.{uncertified}
+use Rattle.opening_bench.proofs.CauseLemmas.{uncertified_is_caused}
 use Rattle.opening_bench.proofs.commands.certify.certify.Goals as goal
 
 pub returns-in-Ok-clause-says : goal.returns-in-Ok-clause-says
@@ -27,4 +27,4 @@ returns-in-Err-clause-looked g c honest cause stands = look_answers _ _ c.in-Err
 
 pub returns-in-Err-clause-refused : goal.returns-in-Err-clause-refused
 returns-in-Err-clause-refused g c =
-    uncertified g.D.Disk _ c.args.root c.args.disk c.certify.new.disk c.in-Err.refusal c.from.result c.from.ensures c.in-Err.ensures.reads.cause c.in-Err.ensures.refused
+    uncertified_is_caused g.D.Disk _ c.args.root c.args.disk c.certify.new.disk c.in-Err.refusal c.from.result c.from.ensures c.in-Err.ensures.reads.cause c.in-Err.ensures.refused

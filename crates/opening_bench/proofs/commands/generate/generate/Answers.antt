@@ -1,14 +1,12 @@
 use Rattle.opening_bench.proofs.CountingLemmas.{counts_say}
-use Rattle.std.proofs.Common.{◌≡◌, ◌≤◌, arith, inl, refl, rules}
+use Rattle.std.proofs.Common.{◌≡◌, inl, refl, rules}
 use Rattle.std.proofs.lemmas.Result.{IfErr-weaker}
 use Rattle.opening_bench.specs.Bench.{ComesBeforeDisk}
 use Rattle.opening_bench.proofs.CauseLemmas.{counts_answer, counts_refuse}
 use Rattle.opening_bench.proofs.commands.generate.generate.Goals as goal
 
 pub run_by-requires-after_bounds : goal.run_by-requires-after_bounds
-run_by-requires-after_bounds g c κs within =
-    let few : c.args.count ≤ 2000 = c.requires.1.1 in
-    (inl refl, (omega arith, (omega (arith, few), (omega arith, omega arith))))
+run_by-requires-after_bounds g c κs within = inl refl
 
 pub returns-in-Ok-clause-unused : goal.returns-in-Ok-clause-unused
 returns-in-Ok-clause-unused g c =

@@ -43,7 +43,7 @@ invariant_of-result g c =
       within =
           kept_begun g.D.Disk
           rs c.push_reserved.new.self.items (vec_capacity c.push_reserved.new.self) c.start_session.new.self log a payloads
-          marks (new_begun c.args.s core c.start_session.new.self (min core.state.settings.budget (1000000 - count_by is_work rs)) a c.in-Ok-replay_all.ensures.replayed c.start_session.ensures c.requires.lasts budget refl k refl)
+          marks (new_begun c.args.s core c.start_session.new.self (min core.state.settings.budget (1000000 - count_by is_work rs)) a c.in-Ok-replay_all.ensures.replayed c.start_session.ensures c.args.s.lasts budget refl k refl)
           spelled pieces c.in-Ok.ensures.state.1 c.in-Ok.ensures.state.3 number faults room
           (λ tells. (
             subst (λ n. n ≤ g.D.Disk.moment log.disk) (sym opened) c.in-Ok.ensures.reached,
@@ -89,7 +89,7 @@ returns-clause-attached g c =
         lawful = (core.state.forest, c.in-Ok-replay_all.ensures.replayed.forest);
       };
       is = same_attachment _ _ _ _ _ _ c.args.s.depth _ _ c.args.s.lease opened faults budget k;
-      core = new_begun c.args.s core c.start_session.new.self (min core.state.settings.budget (1000000 - count_by is_work rs)) a c.in-Ok-replay_all.ensures.replayed c.start_session.ensures c.requires.lasts began refl k refl;
+      core = new_begun c.args.s core c.start_session.new.self (min core.state.settings.budget (1000000 - count_by is_work rs)) a c.in-Ok-replay_all.ensures.replayed c.start_session.ensures c.args.s.lasts began refl k refl;
     }
 
 pub returns-in-Err-replay_all-clause-refused : goal.returns-in-Err-replay_all-clause-refused

@@ -5,6 +5,7 @@ use Rattle.tree_manager.specs.Turns.{Commits}
 use Rattle.tree_manager.proofs.TurnLemmas.{commit_turn, commits_grow}
 use Rattle.tree_manager.proofs.WorksLemmas.{commit_works}
 use Rattle.tree_manager.specs.Keeping.{parts_of, state_of}
+use Rattle.tree_manager.proofs.HistoryLaws.{history_stands}
 use Rattle.tree_manager.proofs.RootlessLemmas.{commit_rootless}
 use Rattle.tree_manager.proofs.session.Session.commit.Goals as goal
 
@@ -38,3 +39,6 @@ returns-clause-works g c =
     let unfailed : c.self.inside.journal.failed ≡ false = cc (c.if-is_failed.false, c.is_failed.ensures) in
     commit_works (state_of (parts_of c.self.inside.marks c.self.inside.due c.self.inside.bench c.self.inside.journal)) (state_of (parts_of c.commit_parts.new.marks c.commit_parts.new.due c.commit_parts.new.bench c.commit_parts.new.journal)) c.commit_parts.result
     (whole_before c.commit_parts.result _ (sym c.self.invariant.within.failed ∙ unfailed)) (λ whole. c.commit_parts.ensures.idle) c.commit_parts.ensures.appends
+
+pub returns-clause-stands : goal.returns-clause-stands
+returns-clause-stands g c = whole_before c.commit_parts.result _ (history_stands _ _ c.commit_parts.ensures.within.history).0

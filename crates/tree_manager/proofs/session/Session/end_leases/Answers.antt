@@ -1,7 +1,7 @@
 use Rattle.std.proofs.Common.{◌∙◌}
 use Rattle.tree_manager.proofs.IdLemmas.{ended_all, ended_none, ended_step}
 use Rattle.tree_manager.proofs.HistoryLaws.{history_stands}
-use Rattle.tree_manager.proofs.UnleasedLemmas.{unleased}
+use Rattle.tree_manager.proofs.UnleasedLemmas.{none_leased}
 use Rattle.tree_manager.proofs.session.Session.end_leases.Goals as goal
 
 pub loop-id-init : goal.loop-id-init
@@ -23,7 +23,7 @@ returns-clause-ended g c = ended_all c.args.self.now c.loop-id.self c.loop-id.in
 pub returns-clause-unleased : goal.returns-clause-unleased
 returns-clause-unleased g c none =
     let ended = ended_all c.args.self.now c.loop-id.self c.loop-id.invariant c.in_default.ensures.first in
-    unleased c.loop-id.self.line c.loop-id.self.core (history_stands c.loop-id.self.line c.loop-id.self.core c.in_default.ensures.history).0 (ended.staged ∙ none) ended.kept
+    none_leased c.loop-id.self.line c.loop-id.self.core (history_stands c.loop-id.self.line c.loop-id.self.core c.in_default.ensures.history).0 (ended.staged ∙ none) ended.kept
 
 pub returns-clause-stands : goal.returns-clause-stands
 returns-clause-stands g c = (history_stands c.loop-id.self.line c.loop-id.self.core c.in_default.ensures.history).0

@@ -21,7 +21,7 @@ use Rattle.tree_manager.proofs.session.Session.stage_result.Goals as goal
 pub stage-requires-clause-some : goal.stage-requires-clause-some
 stage-requires-clause-some g c =
     let text : c.deref.result.now ≡ c.in_ok-text.text.items = c.deref.ensures.value in
-    subst (λ t. 0 < length t) (sym text) (text_some c.self.inside.bench.state.settings.pieces (record_of c.args.found.lease c.args.found.outcome) c.in_ok-text.text.items (c.in_ok-text.ensures.text []))
+    subst (λ t. 0 < length t) (sym text) (text_some c.self.inside.bench.state.settings.pieces (c.self.inside.bench.records ++ c.self.inside.bench.staged) (record_of c.args.found.lease c.args.found.outcome) c.in_ok-text.text.items c.in_ok-text.ensures.text)
 
 pub invariant_of-self-in-Err : goal.invariant_of-self-in-Err
 invariant_of-self-in-Err g c =
@@ -48,7 +48,7 @@ invariant_of-self-2 g c =
     let text : c.deref.result.now ≡ c.in_ok-text.text.items = c.deref.ensures.value in
     let more : vec_capacity c.self.inside.marks ≤ vec_capacity c.push_reserved.new.self = omega (arith, c.push_reserved.ensures.capacity) in
     record {
-      within = kept_result g.D.Disk c.self.inside.marks.items c.push_reserved.new.self.items (vec_capacity c.self.inside.marks) (vec_capacity c.push_reserved.new.self) c.self.inside.due core c.ready_result.new.self r c.deref.result.now c.self.inside.journal c.stage.new.self c.self.invariant.within unfailed c.push_reserved.ensures.items c.in_ok-text.ensures.may (outcome_result core c.args.found.lease c.args.found.outcome c.in_ok-text.ensures.may) (λ before. subst (λ t. IsText core.state.settings.pieces before r t) (sym text) (c.in_ok-text.ensures.text before)) c.in_ok-text.ensures.staged c.in_ok-text.ensures.grows c.in_default.ensures.ok more;
+      within = kept_result g.D.Disk c.self.inside.marks.items c.push_reserved.new.self.items (vec_capacity c.self.inside.marks) (vec_capacity c.push_reserved.new.self) c.self.inside.due core c.ready_result.new.self r c.deref.result.now c.self.inside.journal c.stage.new.self c.self.invariant.within unfailed c.push_reserved.ensures.items c.in_ok-text.ensures.may (outcome_result core c.args.found.lease c.args.found.outcome c.in_ok-text.ensures.may) (subst (λ t. IsText core.state.settings.pieces (core.records ++ core.staged) r t) (sym text) c.in_ok-text.ensures.text) c.in_ok-text.ensures.staged c.in_ok-text.ensures.grows c.in_default.ensures.ok more;
       rootless = λ whole. ap (λ (x : Core). begun x.staged) c.in_ok-text.ensures.staged
           ∙ result_rootless core.staged c.args.found.lease c.args.found.outcome (c.self.invariant.rootless (sym c.self.invariant.within.failed ∙ unfailed));
     }
