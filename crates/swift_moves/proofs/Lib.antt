@@ -9,6 +9,7 @@ pub mod LegalLists
 pub mod CellsAfter
 pub mod MovedMasks
 pub mod StepsApart
+pub mod StepMeaning
 pub mod CapturePrefixes
 pub mod ForcesOf
 pub mod JumpedOver

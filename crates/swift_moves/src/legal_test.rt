@@ -50,7 +50,7 @@ fn is_capture(p: &Position, f: &Forces, path: &[Square]) -> bool
 
 /// The piece on the one square may step to the other.
 #[inline]
-fn is_step(p: &Position, f: &Forces, from: Square, to: Square) -> bool
+pub(crate) fn is_step(p: &Position, f: &Forces, from: Square, to: Square) -> bool
     requires { AreForces p.now f.now }
     ensures { result ≡ is_step p.now from to }
 {
