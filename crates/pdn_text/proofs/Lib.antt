@@ -1,6 +1,8 @@
 pub mod FirstPlaces
 pub mod WordFields
+pub mod PairWords
 pub mod FormChoice
+pub mod SkippedRuns
 pub mod GameFold
 pub mod Reached
 pub mod ItemAnswers

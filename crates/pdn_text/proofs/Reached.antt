@@ -1,12 +1,12 @@
 -- How far a text has been read.
-use Rattle.std.proofs.Common.{◌≡◌, ◌∙◌, ℕ, suc, ◌<◌, ◌≤◌, List, [], ◌∷◌, ◌++◌, length, drop, Some, None, refl, sym, ap, subst, arith, append-nil}
+use Rattle.std.proofs.Common.{◌≡◌, ◌∙◌, ℕ, suc, ◌+◌, ◌<◌, ◌≤◌, List, [], ◌∷◌, ◌++◌, length, drop, Some, None, refl, sym, ap, subst, arith, append-nil}
 use Rattle.std.specs.Prelude.{option_to_list}
 use Rattle.std.proofs.lemmas.List.Concat.{flat_map-append}
 use Rattle.std.specs.Bool.{OnFalse}
 use Rattle.pdn_text.specs.Gathering.{Progress, no_game, taken, all_taken, games_of, IsRefusedAs}
 use Rattle.pdn_text.specs.Grammar.{IsItemOfText, IsPdnFault, form_at}
-use Rattle.pdn_text.specs.Signs.{pdn_wants_memory}
-use Rattle.pdn_text.specs.Pdn.{Refused, beginning, AreItemsOfText, signs, ReadsTo, Reads, StandsFirst, BeginsOneMore}
+use Rattle.pdn_text.specs.Signs.{pdn_wants_memory, skipped}
+use Rattle.pdn_text.specs.Pdn.{Refused, beginning, behind_skipped, AreItemsOfText, signs, ReadsTo, Reads, StandsFirst, BeginsOneMore}
 use Rattle.pdn_text.specs.declared.TheConstants.{MOST_GAMES}
 use Rattle.pdn_text.specs.declared.game.Game.{Game}
 use Rattle.pdn_text.specs.declared.items.Item.{Item}
@@ -15,6 +15,7 @@ use Rattle.pdn_text.specs.declared.refusal.PdnRefusal.{PdnRefusal}
 use Rattle.pdn_text.specs.declared.refusal.PdnRefusal.TheVariants as refusal
 use Rattle.pdn_text.proofs.GameFold.{gathered_make, all_taken-append}
 use Rattle.pdn_text.proofs.ItemAnswers.{never_too_many}
+use Rattle.pdn_text.proofs.SkippedRuns.{along_run, blank_item, one_inside}
 
 -- the text is items up to this place, and this is what they say of games
 pub record Reached (text : List ℕ) (at : ℕ) (p : Progress) : Type 0 where
@@ -123,3 +124,9 @@ refused_many text at p item sign (refusal.OpenTag n) r is some many = absurd man
 refused_many text at p item sign (refusal.OpenComment n) r is some many = absurd many
 refused_many text at p item sign (refusal.OpenVariation n) r is some many = absurd many
 refused_many text at p item sign (refusal.BadMove n) r is some many = absurd many
+
+-- bytes that are items by themselves and say nothing
+pub reached_run : (text : List ℕ) (at to : ℕ) (p : Progress) → to ≡ behind_skipped text at → Reached text at p → Reached text to p
+reached_run text at to p e r =
+    subst (λ place. Reached text place p) (sym e)
+    (along_run text (λ place. Reached text place p) (λ k b rest here s h. reached_skip text k p (skipped (k + 1)) h (blank_item text k b rest here s) refl (one_inside text k b rest here)) at (drop at text) refl r)

@@ -1,7 +1,9 @@
 -- What a whole text is: games, or refused.
-use Rattle.std.specs.Prelude.{◌≡◌, ℕ, suc, ◌≤◌, List, [], ◌∷◌, ◌++◌, length, drop, flat_map, option_to_list, if◌then◌else◌}
+use Rattle.std.specs.Prelude.{◌≡◌, ℕ, suc, ◌+◌, ◌≤◌, not, List, [], ◌∷◌, ◌++◌, length, drop, flat_map, option_to_list, if◌then◌else◌}
 use Rattle.std.specs.Str.{bytes_eq}
 use Rattle.std.specs.Prelude.{take}
+use Rattle.std.specs.List.{position_or_len}
+use Rattle.pdn_text.specs.Bytes.{is_skipped}
 use Rattle.pdn_text.specs.Games.{Make}
 use Rattle.pdn_text.specs.Grammar.{IsItemOfText, IsPdnFault, form_at}
 use Rattle.pdn_text.specs.declared.TheConstants.{MOST_GAMES}
@@ -14,6 +16,10 @@ use Rattle.pdn_text.specs.declared.refusal.PdnRefusal.TheVariants.{TooManyGames}
 -- where the items begin: behind the byte order mark, if one stands at the front
 abbrev pub beginning : List ℕ → ℕ
 beginning text = if bytes_eq (take 3 text) (239 ∷ 187 ∷ 191 ∷ []) then 3 else 0
+
+-- behind the bytes from a place on that are items by themselves and say nothing
+abbrev pub behind_skipped : List ℕ → ℕ → ℕ
+behind_skipped text at = at + position_or_len (λ b. not (is_skipped b)) (drop at text)
 
 -- Between two places the text is these items, one straight behind the other.
 abbrev pub AreItemsOfText : List ℕ → ℕ → List Item → ℕ → Type 0

@@ -1,5 +1,5 @@
 -- Words: results, move numbers and moves.
-use Rattle.std.specs.Prelude.{ℕ, ◌+◌, ◌-◌, ◌*◌, List, [], ◌∷◌, Bool, not, ◌&&◌, ◌||◌, ◌==◌, nat_le, if◌then◌else◌, length, map, Option, Some, None, codes}
+use Rattle.std.specs.Prelude.{◌≡◌, ℕ, ◌+◌, ◌-◌, ◌*◌, List, [], ◌∷◌, Bool, true, false, not, ◌&&◌, ◌||◌, ◌==◌, nat_le, if◌then◌else◌, length, map, Option, Some, None, codes}
 use Rattle.std.specs.List.{list_all, slice_split}
 use Rattle.std.specs.Str.{bytes_eq}
 use Rattle.draughts_board.specs.Geometry.{is_square}
@@ -56,6 +56,17 @@ move_of word = separated word (path_of word)
 abbrev pub move_or_bad : Option (List ℕ) → Word
 move_or_bad (Some squares) = Move squares
 move_or_bad None = Bad
+
+-- A word is these two numbers with one separator between, so it is no number.
+pub record IsPair (word : List ℕ) (first last : ℕ) : Type 0 where
+  pub squares : map number (fields word) ≡ first ∷ last ∷ []
+  pub no_number : is_number word ≡ false
+  pub one_separator : (is_crossed word || is_dashed word) ≡ true
+
+-- what a word of these two numbers is
+abbrev pub pair_word : ℕ → ℕ → Word
+pair_word first last =
+    if is_square first && is_square last then Move (first ∷ last ∷ []) else Bad
 
 -- what a word is: the first that fits of a result, a move number and a move
 unfoldable pub word_of : List ℕ → Word

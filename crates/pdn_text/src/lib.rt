@@ -29,5 +29,5 @@ pub const MOST_GAMES: usize = 4096;
 
 pub use game::{Game, MoveText, Tag};
 pub use items::{Item, Sign};
-pub use reader::{beginning, item_at, read_games};
+pub use reader::{beginning, behind_skipped, item_at, read_games};
 pub use refusal::PdnRefusal;

@@ -3,13 +3,14 @@ ghost use Rattle.std.specs.Prelude.{◌≡◌, ◌<◌, ◌≤◌, drop, length,
 ghost use Rattle.std.specs.Bool.{OnFalse};
 ghost use Rattle.shared_words.specs.Answers.{IsExact, listed};
 ghost use Rattle.pdn_text.specs.Grammar.{IsItemOfText, IsPdnFault, begins_line, form_at};
-ghost use Rattle.pdn_text.specs.Pdn.{Reads, Refused, beginning};
+ghost use Rattle.pdn_text.specs.Pdn.{Reads, Refused, beginning, behind_skipped};
 ghost use Rattle.pdn_text.specs.Signs.{pdn_wants_memory};
 
 use crate::game::Game;
 use crate::gather::Gathered;
 use crate::items::{Item, item_of};
 use crate::refusal::PdnRefusal;
+use crate::runs::skipped_len;
 use std::alloc::Global;
 
 /// The games of a text in Portable Draughts Notation, in the order of the text, or the fault that
@@ -33,14 +34,16 @@ fn read_items(alloc: Global, text: &[u8]) -> Result<Vec<Game>, PdnRefusal>
     ensures refused { IfErr result (λ e. OnFalse (pdn_wants_memory e) (Refused text.now e)) }
 {
     let mut gathered = Gathered::new(alloc);
-    let mut at = beginning(text);
+    let first = beginning(text);
+    let mut at = behind_skipped(text, first);
     while at < text.len() {
         let Item { end, sign } = item_at(alloc, text, at)?;
+        let next = behind_skipped(text, end);
         match sign {
             Some(sign) => gathered.take(sign)?,
             None => {}
         }
-        at = end;
+        at = next;
     }
     Ok(gathered.finish()?)
 }
@@ -57,6 +60,17 @@ pub fn item_at(alloc: Global, text: &[u8], at: usize) -> Result<Item, PdnRefusal
     ensures inside { IfOk result (λ item. item.end ≤ length text.now) }
 {
     item_of(alloc, begins_line(text, at), text, at)
+}
+
+/// The first place, from this one on, where no byte stands that is an item by itself and says nothing of a
+/// game: a blank, the end of a line, `.`, `!` or `?`. [`item_at`] gives each of them too.
+pub fn behind_skipped(text: &[u8], at: usize) -> usize
+    requires { at ≤ length text.now }
+    ensures value { result ≡ behind_skipped text.now at }
+    ensures onward { at ≤ result }
+    ensures inside { result ≤ length text.now }
+{
+    at + skipped_len(text.split_at(at).1)
 }
 
 /// Where the items begin: behind the byte order mark, if one stands at the front.

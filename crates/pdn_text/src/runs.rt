@@ -1,7 +1,7 @@
 //! How long the runs of bytes at the front of a text are.
 ghost use Rattle.std.specs.Prelude.{◌≡◌, ◌≤◌, not, length};
 ghost use Rattle.std.specs.List.{position_or_len};
-ghost use Rattle.pdn_text.specs.Bytes.{is_blank};
+ghost use Rattle.pdn_text.specs.Bytes.{is_blank, is_skipped};
 ghost use Rattle.pdn_text.specs.Grammar.{line_len, digits_len, word_len};
 ghost use Rattle.pdn_text.specs.Scans.{name_len};
 
@@ -30,6 +30,25 @@ pub(crate) fn word_len(rest: &[u8]) -> usize
 {
     rest.iter()
         .position(|b| !(b.is_ascii_digit() || *b == b'-' || *b == b'x' || *b == b'/'))
+        .unwrap_or(rest.len())
+}
+
+/// How many bytes at the front say nothing of a game, each as an item: blanks, ends of lines, `.`, `!` and
+/// `?`.
+pub(crate) fn skipped_len(rest: &[u8]) -> usize
+    ensures value { result ≡ position_or_len (λ b. not (is_skipped b)) rest.now }
+    ensures within { result ≤ length rest.now }
+{
+    rest.iter()
+        .position(|b| {
+            !(*b == b' '
+                || *b == b'\t'
+                || *b == b'\r'
+                || *b == b'\n'
+                || *b == b'.'
+                || *b == b'!'
+                || *b == b'?')
+        })
         .unwrap_or(rest.len())
 }
 

@@ -1,9 +1,9 @@
 //! Words: results, move numbers and moves.
-ghost use Rattle.std.specs.Prelude.{◌≡◌, false, IfSome, IfNone};
+ghost use Rattle.std.specs.Prelude.{◌≡◌, ◌+◌, ◌-◌, ◌*◌, ◌==◌, ◌||◌, true, false, IfSome, IfNone};
 ghost use Rattle.std.specs.List.{AllPass};
 ghost use Rattle.draughts_board.specs.Geometry.{IsSquare, is_square};
 ghost use Rattle.std.specs.Char.{is_ascii_digit};
-ghost use Rattle.pdn_text.specs.Words.{is_result, is_number, word_of, move_of, path_of, is_crossed, is_dashed, number};
+ghost use Rattle.pdn_text.specs.Words.{is_result, is_number, word_of, move_of, path_of, is_crossed, is_dashed, number, IsPair, pair_word};
 
 use crate::runs::digits_len;
 use draughts_board::{Move, Square};
@@ -24,6 +24,8 @@ pub(crate) fn word_of(word: &[u8]) -> Word
 {
     if is_result(word) {
         Word::Result
+    } else if let Some((first, last)) = pair_of(word) {
+        pair_word(first, last)
     } else if is_number(word) {
         Word::Number
     } else {
@@ -31,6 +33,62 @@ pub(crate) fn word_of(word: &[u8]) -> Word
             Some(squares) => Word::Move(squares),
             None => Word::Bad,
         }
+    }
+}
+
+/// The byte separates two squares: `-` or `x`.
+fn is_separator(byte: u8) -> bool
+    ensures { result ≡ (byte == 45 || byte == 120) }
+{
+    byte == b'-' || byte == b'x'
+}
+
+/// What one digit stands for, or two.
+fn pair_number(tens: u8, ones: u8) -> u8
+    requires tens { is_ascii_digit tens ≡ true }
+    requires ones { is_ascii_digit ones ≡ true }
+    ensures { result ≡ 10 * (tens - 48) + (ones - 48) }
+{
+    10 * (tens - b'0') + (ones - b'0')
+}
+
+/// The two numbers of a word that is one or two digits, a separator, and one or two digits. Most moves are
+/// written so.
+fn pair_of(word: &[u8]) -> Option<(u8, u8)>
+    ensures { IfSome result (λ pair. IsPair word.now pair.0 pair.1) }
+{
+    match word {
+        [a, sign, c] if a.is_ascii_digit() && is_separator(*sign) && c.is_ascii_digit() => Some((
+            *a - b'0',
+            *c - b'0',
+        )),
+        [a, sign, c, d]
+            if a.is_ascii_digit()
+                && is_separator(*sign)
+                && c.is_ascii_digit()
+                && d.is_ascii_digit() => Some((*a - b'0', pair_number(*c, *d))),
+        [a, b, sign, c]
+            if a.is_ascii_digit()
+                && b.is_ascii_digit()
+                && is_separator(*sign)
+                && c.is_ascii_digit() => Some((pair_number(*a, *b), *c - b'0')),
+        [a, b, sign, c, d]
+            if a.is_ascii_digit()
+                && b.is_ascii_digit()
+                && is_separator(*sign)
+                && c.is_ascii_digit()
+                && d.is_ascii_digit() => Some((pair_number(*a, *b), pair_number(*c, *d))),
+        _ => None,
+    }
+}
+
+/// What the word of these two numbers is.
+fn pair_word(first: u8, last: u8) -> Word
+    ensures { result ≡ pair_word first last }
+{
+    match (Square::new(first), Square::new(last)) {
+        (Some(from), Some(to)) => Word::Move(Move::direct(from, to)),
+        _ => Word::Bad,
     }
 }
 
