@@ -3,6 +3,8 @@ pub mod TableRanks
 pub mod ClaimLemmas
 pub mod PartLemmas
 pub mod MergeLemmas
+pub mod PlaceLemmas
 pub mod GoodMerges
 pub mod RowLemmas
 pub mod WinInOne
+pub mod RankLemmas

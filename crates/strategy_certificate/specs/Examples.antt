@@ -1,10 +1,10 @@
 -- Worked examples, one a field, on the White win in one: in W:W16,23:B12 the step 23-19 leaves
 -- Black without a move.
-use Rattle.std.specs.Prelude.{◌≡◌, ℕ, List, [], ◌∷◌, Option, Some, None, map}
+use Rattle.std.specs.Prelude.{◌≡◌, ◌+◌, ◌^◌, ℕ, List, [], ◌∷◌, Option, Some, None, map}
 use Rattle.draughts_board.specs.declared.pieces.Side.TheVariants.{Black, White}
 use Rattle.draughts_board.specs.Board.{Board}
 use Rattle.draughts_board.specs.Draughts.{draughts}
-use Rattle.draughts_board.specs.Examples.{man_blocked, man_to_block}
+use Rattle.draughts_board.specs.Examples.{king_alone, man_blocked, man_to_block, man_to_lose}
 use Rattle.strategy_certificate.specs.declared.oracle.Answer.{Answer}
 use Rattle.strategy_certificate.specs.declared.oracle.Answer.TheVariants as answer
 use Rattle.strategy_certificate.specs.declared.entries.WinEntry.{WinEntry}
@@ -12,7 +12,10 @@ use Rattle.strategy_certificate.specs.declared.claims.Claim.TheVariants.{Win, Ho
 use Rattle.strategy_certificate.specs.declared.certificates.Part.TheVariants as part
 use Rattle.strategy_certificate.specs.Tables.{IsRight}
 use Rattle.strategy_certificate.specs.Parts.{WinList, HoldList, merged_wins, merged_holds, hold_of}
+use Rattle.strategy_certificate.specs.Places.{StandsAt}
 use Rattle.strategy_certificate.specs.Certificates.{IsGoodWinPart, IsGoodHoldPart, IsGoodBy, claim_of, due_claims}
+use Rattle.strategy_certificate.specs.Claims.{HasShortRanks}
+use Rattle.strategy_certificate.specs.ShortRanks.{IsShortened}
 
 -- a table that answers nothing: both positions have three pieces
 abbrev pub no_answer : Board → Option Answer
@@ -87,6 +90,31 @@ pub record WorkedMerges : Type 0 where
   pub kept_hold :
       merged_holds ((man_to_block, Some (16 ∷ 11 ∷ [])) ∷ []) (hold_of win_in_one).entries
       ≡ (man_to_block, Some (16 ∷ 11 ∷ [])) ∷ (man_blocked, None) ∷ []
+
+-- ---- places and ranks
+
+pub record WorkedPlaces : Type 0 where
+  -- Places are counted from 0, and no position stands at two.
+  pub first : StandsAt win_in_one.entries 0 man_to_block
+  pub second : StandsAt win_in_one.entries 1 man_blocked
+  pub not_first : ¬ StandsAt win_in_one.entries 0 man_blocked
+  pub past : ¬ StandsAt win_in_one.entries 2 man_blocked
+
+-- four positions with these ranks
+abbrev pub ranked : ℕ → ℕ → ℕ → ℕ → WinList
+ranked a b c d =
+    white_wins ((man_to_block, with_rank a None) ∷ (man_blocked, with_rank b None)
+    ∷ (man_to_lose, with_rank c None) ∷ (king_alone, with_rank d None) ∷ [])
+
+pub record WorkedRanks : Type 0 where
+  -- Of 2^50, 7, 7 and 2^60 the second rank in order comes first, then the first twice, then the third.
+  pub in_order : IsShortened (ranked (2 ^ 50) 7 7 (2 ^ 60))
+      (ranked (2 ^ 32 + 1) (2 ^ 32) (2 ^ 32) (2 ^ 32 + 2))
+  pub not_as_they_come : ¬ IsShortened (ranked (2 ^ 50) 7 7 (2 ^ 60))
+      (ranked (2 ^ 32) (2 ^ 32 + 1) (2 ^ 32 + 1) (2 ^ 32 + 2))
+  -- Ranks are short up to 2^40.
+  pub at_most : HasShortRanks (part.Win (ranked (2 ^ 40) 7 7 0))
+  pub one_more : ¬ HasShortRanks (part.Win (ranked 7 7 (2 ^ 40 + 1) 0))
 
 -- ---- certificates
 

@@ -1,6 +1,6 @@
 //! Worked examples of the definitions: each function does nothing, and its contract is a record of
 //! `specs/Examples.antt`, one field an example.
-ghost use Rattle.strategy_certificate.specs.Examples.{WorkedAnswers, WorkedParts, WorkedMerges, WorkedCertificates};
+ghost use Rattle.strategy_certificate.specs.Examples.{WorkedAnswers, WorkedParts, WorkedMerges, WorkedPlaces, WorkedRanks, WorkedCertificates};
 
 /// Which answers are right of a blocked position and of the one before it.
 pub fn worked_answers()
@@ -15,6 +15,16 @@ pub fn worked_parts()
 /// Merging: a smaller rank, an equal one, a greater one, and holds.
 pub fn worked_merges()
     ensures { WorkedMerges }
+{}
+
+/// Where positions stand in a part.
+pub fn worked_places()
+    ensures { WorkedPlaces }
+{}
+
+/// Ranks and the short ones that replace them.
+pub fn worked_ranks()
+    ensures { WorkedRanks }
 {}
 
 /// A good certificate, and parts that are not due.

@@ -4,7 +4,7 @@ ghost use Rattle.strategy_certificate.specs.Parts.{merged_holds};
 
 use crate::entries::note_rules;
 use crate::merging::add_all_new;
-use crate::rows::{add_new_row, find_row, row_at};
+use crate::rows::{add_new_row, find_row, place_of_row, row_at};
 use draughts_board::{Move, Position, Side};
 use indexmap::IndexMap;
 use std::alloc::{AllocError, Global};
@@ -36,6 +36,7 @@ impl Model for HoldPart {
 impl HoldPart {
     ghost use Rattle.std.specs.Prelude.{◌≡◌, ◌∷◌, [], ◌++◌, ◌<◌, ◌↔◌, ◌==◌, ℕ, List, Option, Contains, slice_get, length, take, IfOk, IsNone, MatchBool, OnOk, OnErr, if◌then◌else◌};
     ghost use Rattle.strategy_certificate.specs.Parts.{HasEntry, IsHoldList, IsHoldRow};
+    ghost use Rattle.strategy_certificate.specs.Places.{StandsAt};
 
     /// A part of this side without entries.
     pub fn new(alloc: Global, side: Side) -> Result<HoldPart, AllocError>
@@ -94,6 +95,13 @@ impl HoldPart {
         ensures none { IsNone result ↔ (¬ HasEntry self.now.entries p.now) }
     {
         find_row(&self.entries, p)
+    }
+
+    /// The place of this position's entry, counted from 0; none exactly where it has none.
+    pub fn place(&self, p: &Position) -> Option<usize>
+        ensures { (i : ℕ) → (result ≡ Some i) ↔ StandsAt self.now.entries i p.now }
+    {
+        place_of_row(&self.entries, p)
     }
 
     /// Adds an entry behind the others, unless the position has one; tells whether it had none. The

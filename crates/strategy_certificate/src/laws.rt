@@ -1,5 +1,6 @@
 //! Laws over the definitions: each function does nothing, and its contract is the law.
 ghost use Rattle.draughts_board.specs.Game.{Game, TakesTurns};
+ghost use Rattle.strategy_certificate.specs.ShortRanks.{OneShortPart, ShortPartsAreGood};
 ghost use Rattle.strategy_certificate.specs.Laws.{ShownWinsAreTrue, ShownHoldsAreTrue, OneSoundTable, TableRanksAreLow, GoodWinPartsWin, GoodHoldPartsHold, GoodCertificatesAreTrue, GoodByEachTable, MergedWinsAreGood, MergedHoldsAreGood, GoodWinsHold};
 
 /// What a sound table shows is true, in any game of two players who move in turn, and there is one
@@ -30,4 +31,10 @@ pub fn merged_parts_are_good()
     ensures wins { MergedWinsAreGood }
     ensures holds { MergedHoldsAreGood }
     ensures as_hold { GoodWinsHold }
+{}
+
+/// There is one part with short ranks, and of a good part it is good.
+pub fn short_parts_are_good()
+    ensures one { OneShortPart }
+    ensures good { ShortPartsAreGood }
 {}

@@ -9,7 +9,8 @@
 //! of entries: one is added only if its position has none, a part is cut back to its first entries,
 //! and parts are merged exactly. `table_rank`, `table_holds` and `is_held` say exactly what a table
 //! shows for a side, and what a hold part shows beside it. Each rank in a sound table of at most
-//! three pieces is below 651,010.
+//! three pieces is below 651,010. So a good win part stays good where its ranks are replaced, in
+//! their order, by the short ones from 2^32 on.
 //!
 //! Tests: proof_tests/src/parts.rt
 #![tactic(auto)]
@@ -23,6 +24,7 @@ pub mod laws;
 mod merging;
 mod oracle;
 mod rows;
+mod shortening;
 mod shown;
 mod win_parts;
 
@@ -31,5 +33,6 @@ pub use claims::Claim;
 pub use entries::{MOST_FOUND_RANK, MOST_RANK, WinEntry};
 pub use hold_parts::{HoldPart, merge_holds};
 pub use oracle::{Answer, Oracle, TABLE_POSITIONS};
+pub use shortening::{FIRST_SHORT_RANK, has_short_ranks, is_short};
 pub use shown::{is_held, table_holds, table_rank};
-pub use win_parts::{WinPart, as_hold, merge_wins};
+pub use win_parts::{WinPart, as_hold, merge_wins, short_ranks};

@@ -1,7 +1,8 @@
 //! The rows of a part, whatever stands beside each position: what parts of both kinds do alike.
-ghost use Rattle.std.specs.Prelude.{◌≡◌, ◌∷◌, [], ◌++◌, ◌<◌, ◌≤◌, ◌+◌, ◌↔◌, Contains, IsNone, is_none, IsOk, IfOk, MatchBool, OnErr, length, slice_get, if◌then◌else◌};
+ghost use Rattle.std.specs.Prelude.{◌≡◌, ◌∷◌, [], ◌++◌, ◌<◌, ◌≤◌, ◌+◌, ◌↔◌, Contains, IsNone, is_none, IsOk, IfOk, MatchBool, OnErr, ℕ, Option, length, slice_get, if◌then◌else◌};
 ghost use Rattle.indexmap.specs.IndexMap.{spare};
 ghost use Rattle.strategy_certificate.specs.Parts.{HasDistinctPositions, HasEntry, entry_of};
+ghost use Rattle.strategy_certificate.specs.Places.{StandsAt};
 
 use draughts_board::Position;
 use indexmap::IndexMap;
@@ -27,6 +28,14 @@ pub(crate) fn find_row<E: Copy>(rows: &IndexMap<Position, E>, p: &Position) -> O
     ensures none { IsNone result ↔ (¬ HasEntry rows.now.entries p.now) }
 {
     rows.get(p).copied()
+}
+
+/// The place of this position's row, counted from 0; none exactly where it has none.
+pub(crate) fn place_of_row<E: Copy>(rows: &IndexMap<Position, E>, p: &Position) -> Option<usize>
+    requires { HasDistinctPositions rows.now.entries }
+    ensures { (i : ℕ) → (result ≡ Some i) ↔ StandsAt rows.now.entries i p.now }
+{
+    rows.get_index_of(p)
 }
 
 /// Adds a row behind the others, unless its position has one; tells whether it had none. The

@@ -1,11 +1,15 @@
 //! Strategies by which a side wins.
 ghost use Rattle.std.specs.Prelude.{◌≡◌, IfOk, OnOk, OnErr};
 ghost use Rattle.strategy_certificate.specs.Parts.{merged_wins, hold_of};
+ghost use Rattle.strategy_certificate.specs.Claims.{HasShortRanks};
+ghost use Rattle.strategy_certificate.specs.ShortRanks.{IsShortened};
+ghost use Rattle.strategy_certificate.specs.declared.certificates.Part.TheVariants as parts;
 
 use crate::entries::{MOST_RANK, WinEntry, note_rules};
 use crate::hold_parts::HoldPart;
 use crate::merging::{improve_all, without_ranks};
-use crate::rows::{add_new_row, find_row, row_at};
+use crate::rows::{add_new_row, find_row, place_of_row, row_at};
+use crate::shortening::{ranks_of, with_short_ranks};
 use draughts_board::{Position, Side};
 use indexmap::IndexMap;
 use std::alloc::{AllocError, Global};
@@ -38,6 +42,7 @@ impl WinPart {
     ghost use Rattle.std.specs.Prelude.{◌≡◌, ◌∷◌, [], ◌++◌, ◌≤◌, ◌<◌, ◌↔◌, ◌==◌, ℕ, Option, Contains, slice_get, length, take, IfOk, IfSome, IsNone, MatchBool, OnOk, OnErr, if◌then◌else◌};
     ghost use Rattle.draughts_board.specs.Board.{IsLawful};
     ghost use Rattle.strategy_certificate.specs.Parts.{HasEntry, IsInRange, IsWinList, IsWinRow};
+    ghost use Rattle.strategy_certificate.specs.Places.{StandsAt};
     ghost use Rattle.strategy_certificate.specs.declared.entries.WinEntry.{WinEntry};
 
     /// A part of this side without entries.
@@ -89,6 +94,13 @@ impl WinPart {
         ensures valid { IfSome result IsInRange }
     {
         find_row(&self.entries, p)
+    }
+
+    /// The place of this position's entry, counted from 0; none exactly where it has none.
+    pub fn place(&self, p: &Position) -> Option<usize>
+        ensures { (i : ℕ) → (result ≡ Some i) ↔ StandsAt self.now.entries i p.now }
+    {
+        place_of_row(&self.entries, p)
     }
 
     /// Adds an entry behind the others, unless the position has one; tells whether it had none. The
@@ -153,4 +165,20 @@ pub fn as_hold(alloc: Global, part: &WinPart) -> Result<HoldPart, AllocError>
 {
     let entries = without_ranks(alloc, &part.entries)?;
     Ok(HoldPart::of(part.side, entries))
+}
+
+/// The same strategy with short ranks, in the order of its own.
+///
+/// A part of 2^32 different ranks or more is answered as want of memory.
+pub fn short_ranks(alloc: Global, part: &WinPart) -> Result<WinPart, AllocError>
+    ensures shortened { IfOk result (IsShortened part.now) }
+    ensures short { IfOk result (λ short. HasShortRanks (parts.Win short)) }
+{
+    let ranks = ranks_of(alloc, &part.entries)?;
+    if ranks.len() >= 1 << 32 {
+        return Err(AllocError);
+    }
+    let entries = with_short_ranks(alloc, &part.entries, &ranks)?;
+    let side = part.side;
+    Ok(WinPart { side, entries })
 }
