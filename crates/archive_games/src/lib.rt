@@ -13,19 +13,18 @@
 //! Tests: archive_tests/src/games.rt
 #![tactic(auto)]
 
-mod game;
-mod kept;
 mod marks;
-mod notes;
 mod numbers;
 mod reader;
 mod reading;
 mod results;
+mod runs;
 mod scopes;
 mod tags;
 
+pub use archive_records::{
+    ArchiveGame, ArchiveMove, ArchiveTag, FoundPosition, FoundResult, Note, NoteKind, Weight,
+};
 pub use archive_text::{FeedRefusal, Place};
 pub use archive_words::Outcome;
-pub use game::{ArchiveGame, ArchiveMove, ArchiveTag, FoundPosition, FoundResult};
-pub use notes::{Note, NoteKind, Weight};
 pub use reader::ArchiveReader;

@@ -1,53 +1,54 @@
 //! Signs among moves.
 ghost use Rattle.std.specs.Prelude.{◌≡◌, ◌≤◌, ◌<◌};
 
-use crate::notes::NoteKind;
 use crate::reading::{Mode, Reading};
+use archive_records::NoteKind;
 use archive_text::{Place, Sign};
-use archive_words::Join;
+use archive_words::{Join, is_cross, is_judgement, is_letter, is_silent};
 use std::alloc::AllocError;
 
-/// The sign ends what is passed over.
-fn ends_skipping(letter: char) -> bool {
-    matches!(letter, ' ' | '\n' | '{' | '(' | '[' | ';')
+/// How great a number may be before another digit is taken; further ones are passed over.
+const MOST_FIGURE: u32 = 100_000;
+
+/// The number with one more digit.
+fn longer(value: u32, digit: u32) -> u32
+    requires { digit < 256 }
+{
+    if value < MOST_FIGURE {
+        value * 10 + digit
+    } else {
+        value
+    }
 }
 
-/// The letter looks like the cross of a capture; the two others are Cyrillic.
-fn is_cross(letter: char) -> bool {
-    matches!(letter, 'x' | 'X' | '\u{445}' | '\u{425}')
+/// What a digit stands for.
+fn digit_of(byte: u8) -> u32
+    ensures { result < 256 }
+{
+    u32::from(byte.wrapping_sub(b'0'))
 }
 
-/// The sign is a letter of a word.
-fn is_letter(letter: char) -> bool {
-    letter.is_ascii_alphabetic()
-        || (letter >= '\u{c0}' && letter < '\u{2000}' && letter != '×' && letter != '÷')
-}
-
-/// A sign that judges a move, or begins an evaluation or a number for a judgement.
-fn is_judgement(letter: char) -> bool {
-    matches!(
-        letter,
-        '$' | '+' | '=' | '±' | '∓' | '⩲' | '⩱' | '~' | '#' | '^' | '∞' | '%' | '□' | '■'
-    )
-}
-
-/// A sign that says nothing.
-fn is_silent(letter: char) -> bool {
-    matches!(letter, ' ' | '!' | '?' | ',' | '"' | '\'' | '>' | '|' | '_')
+/// The number with these digits behind it.
+fn with_digits(first: u32, digits: &[u8]) -> u32 {
+    let mut value = first;
+    for digit in digits {
+        value = longer(value, digit_of(*digit));
+    }
+    value
 }
 
 impl Reading {
-    /// A sign among moves.
+    /// A sign among moves. A blank, an end of a line, and what opens something end what is passed over.
     pub(crate) fn in_moves(&mut self, sign: Sign) -> Result<(), AllocError>
         requires { sign.place.byte ≤ self.old.kept.reached }
         ensures { self.new.kept.reached ≡ self.old.kept.reached }
     {
-        if self.is_skipping && !ends_skipping(sign.letter) {
+        if self.is_skipping && !matches!(sign.letter, ' ' | '\n' | '{' | '(' | '[' | ';') {
             return Ok(());
         }
         self.is_skipping = false;
         if let Some(digit) = sign.letter.to_digit(10) {
-            return self.digit(digit, sign);
+            return self.digit(digit, sign.place);
         }
         if is_letter(sign.letter) {
             return self.letter(sign);
@@ -63,9 +64,9 @@ impl Reading {
 
     /// A digit. A `*` straight before it marks the move that it begins. A dash straight before it, apart
     /// from the move before, makes it an evaluation.
-    fn digit(&mut self, digit: u32, sign: Sign) -> Result<(), AllocError>
-        requires place { sign.place.byte ≤ self.old.kept.reached }
-        requires small { digit < 10 }
+    fn digit(&mut self, digit: u32, place: Place) -> Result<(), AllocError>
+        requires place { place.byte ≤ self.old.kept.reached }
+        requires small { digit < 256 }
         ensures { self.new.kept.reached ≡ self.old.kept.reached }
     {
         self.is_star = false;
@@ -73,15 +74,32 @@ impl Reading {
         if self.is_dash_apart && self.before.letter == '-' {
             self.run.close();
             self.is_skipping = true;
-            return self.stray(sign.place, NoteKind::Clock);
+            return self.stray(place, NoteKind::Clock);
         }
         match self.figure {
             None => {
-                self.token_place = sign.place;
+                self.token_place = place;
                 self.figure = Some(digit);
             }
-            Some(value) if value < 100_000 => self.figure = Some(value * 10 + digit),
-            Some(_) => {}
+            Some(value) => self.figure = Some(longer(value, digit)),
+        }
+        Ok(())
+    }
+
+    /// Digits that stand together, the first of them at this place.
+    pub(crate) fn digits(&mut self, digits: &[u8], place: Place) -> Result<(), AllocError>
+        requires { place.byte ≤ self.old.kept.reached }
+        ensures { self.new.kept.reached ≡ self.old.kept.reached }
+    {
+        let [first, more @ ..] = digits else {
+            return Ok(());
+        };
+        if self.is_skipping {
+            return Ok(());
+        }
+        self.digit(digit_of(*first), place)?;
+        if let Some(value) = self.figure {
+            self.figure = Some(with_digits(value, more));
         }
         Ok(())
     }

@@ -1,9 +1,8 @@
 //! Numbers, and the moves, results and numbers of moves that they make.
 ghost use Rattle.std.specs.Prelude.{◌≡◌, ◌≤◌};
 
-use crate::game::ArchiveMove;
-use crate::notes::NoteKind;
 use crate::reading::Reading;
+use archive_records::{ArchiveMove, NoteKind};
 use archive_text::{Place, Sign};
 use archive_words::Meaning;
 use draughts_board::Move;
@@ -30,6 +29,9 @@ impl Reading {
     pub(crate) fn end_run(&mut self) -> Result<(), AllocError>
         ensures { self.new.kept.reached ≡ self.old.kept.reached }
     {
+        if self.run.is_empty() {
+            return Ok(());
+        }
         let meaning = self.run.meaning();
         let place = self.run_place;
         self.run.clear();
@@ -93,7 +95,7 @@ impl Reading {
     }
 
     /// The number of a move.
-    fn number(&mut self, number: u32) -> Result<(), AllocError>
+    pub(crate) fn number(&mut self, number: u32) -> Result<(), AllocError>
         ensures { self.new.kept.reached ≡ self.old.kept.reached }
     {
         let place = self.run_place;

@@ -1,11 +1,10 @@
 //! The games of an archive, as its bytes come.
 ghost use Rattle.std.specs.Prelude.{◌≡◌, ◌≤◌, ◌+◌, All, IfOk, IfSome, OnOk, OnErr, IfErr, length, max};
-ghost use Rattle.archive_games.specs.Inside.{IsGameWithin};
+ghost use Rattle.archive_records.specs.Inside.{IsGameWithin};
 ghost use Rattle.archive_text.specs.Fed.{IsFeedCause, bytes_fed};
 
-use crate::game::ArchiveGame;
-use crate::notes::{Note, NoteKind};
 use crate::reading::{Mode, Reading};
+use archive_records::{ArchiveGame, Note, NoteKind};
 use archive_text::{ArchiveText, FeedRefusal, Place, Sign};
 use std::alloc::{AllocError, Global};
 
@@ -95,11 +94,29 @@ impl ArchiveReader {
     {
         while let Some(sign) = self.text.next_sign() {
             self.reading.take(sign)?;
+            self.take_plain()?;
             if let Some(game) = self.reading.kept.next_ended() {
                 return Ok(Some(game));
             }
         }
         Ok(None)
+    }
+
+    /// Takes the plain text that stands next, where many signs may be taken at once.
+    fn take_plain(&mut self) -> Result<(), AllocError>
+        ensures fed { bytes_fed self.new.text ≡ bytes_fed self.old.text }
+        ensures still { self.old.text.place.byte ≤ self.new.text.place.byte }
+    {
+        let most = self.reading.most_plain();
+        let place = self.text.place();
+        let plain = self.text.plain(most);
+        let len = plain.len();
+        if len == 0 {
+            return Ok(());
+        }
+        let taken = self.reading.take_plain(plain, place);
+        self.text.pass(len);
+        taken
     }
 
     /// The next game; none where more bytes are wanted, or the archive has ended. It is to be called

@@ -1,7 +1,7 @@
 //! The state of reading, and what becomes of it with each sign.
 ghost use Rattle.std.specs.Prelude.{◌≡◌, ◌≤◌, max};
 
-use crate::kept::Kept;
+use archive_records::Kept;
 use archive_text::{Place, Sign};
 use archive_words::{Outcome, Run, Word};
 use draughts_board::Side;

@@ -1,9 +1,8 @@
 //! Words, results and ends of games.
 ghost use Rattle.std.specs.Prelude.{◌≡◌, ◌≤◌, IfSome};
 
-use crate::game::FoundResult;
-use crate::notes::NoteKind;
 use crate::reading::Reading;
+use archive_records::{FoundResult, NoteKind};
 use archive_text::Place;
 use archive_words::{Outcome, Said};
 use draughts_board::Side;

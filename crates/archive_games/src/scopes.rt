@@ -1,16 +1,19 @@
 //! Signs in comments, variations, tags and positions.
 ghost use Rattle.std.specs.Prelude.{◌≡◌, ◌≤◌};
 
-use crate::notes::NoteKind;
 use crate::reading::{Mode, Reading};
+use archive_records::NoteKind;
 use archive_text::{Place, Sign};
 use std::alloc::AllocError;
 
 /// How many bytes the text of a tag or of a position has at most.
-const MOST_TEXT: usize = 65536;
+pub(crate) const MOST_TEXT: usize = 65536;
 
 /// Appends a letter in UTF-8.
 fn push_letter(text: &mut Vec<u8>, letter: char) -> Result<(), AllocError> {
+    if letter.is_ascii() {
+        return text.push(letter as u8).map_err(|_| AllocError);
+    }
     let mut bytes = [0u8; 4];
     text.extend_from_slice(letter.encode_utf8(&mut bytes).as_bytes())
 }
@@ -114,6 +117,16 @@ impl Reading {
             self.last_ink = letter;
         }
         push_letter(&mut self.text, letter)
+    }
+
+    /// Plain text in a tag: no sign in it ends the tag, begins another or is a quotation mark.
+    pub(crate) fn add_plain(&mut self, plain: &[u8]) -> Result<(), AllocError>
+        ensures { self.new.kept.reached ≡ self.old.kept.reached }
+    {
+        if let Some(ink) = plain.iter().rfind(|b| **b != b' ') {
+            self.last_ink = *ink as char;
+        }
+        self.text.extend_from_slice(plain)
     }
 
     /// A sign in a tag. It ends with a `]` outside quotation marks, behind one, or at the end of a line;

@@ -1,9 +1,8 @@
 //! Tags and positions.
 ghost use Rattle.std.specs.Prelude.{◌≡◌};
 
-use crate::game::{ArchiveTag, FoundPosition};
-use crate::notes::NoteKind;
 use crate::reading::{Mode, Reading};
+use archive_records::{ArchiveTag, FoundPosition, NoteKind};
 use archive_words::{
     GameKind, Outcome, TagName, TagText, clean_fen, game_kind, is_like_fen, is_strict_name,
     tag_name, tag_text, unescaped,
@@ -18,10 +17,13 @@ impl Reading {
     {
         self.mode = Mode::Moves;
         let text = mem::replace(&mut self.text, Vec::new(self.alloc));
-        match tag_text(&text) {
+        let taken = match tag_text(&text) {
             Some(tag) => self.tag(tag),
             None => self.stray(self.opened, NoteKind::NoTag),
-        }
+        };
+        // The next tag's text takes the memory of this one's.
+        self.text = text;
+        taken
     }
 
     /// A tag.

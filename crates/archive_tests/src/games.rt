@@ -14,11 +14,11 @@ fn take_games(reader: &mut ArchiveReader, games: &mut Vec<ArchiveGame>) -> Resul
     Ok(())
 }
 
-/// The games of an archive that is fed in pieces of seven bytes.
-fn games_of(alloc: Global, archive: &[u8]) -> Result<Vec<ArchiveGame>, FeedRefusal> {
+/// The games of an archive that is fed in pieces of so many bytes, at least one.
+fn games_of(alloc: Global, archive: &[u8], piece: usize) -> Result<Vec<ArchiveGame>, FeedRefusal> {
     let mut reader = ArchiveReader::new(alloc);
     let mut games = Vec::new(alloc);
-    for piece in archive.chunks(7) {
+    for piece in archive.chunks(piece.max(1)) {
         reader.feed(piece)?;
         take_games(&mut reader, &mut games)?;
     }
@@ -26,6 +26,9 @@ fn games_of(alloc: Global, archive: &[u8]) -> Result<Vec<ArchiveGame>, FeedRefus
     take_games(&mut reader, &mut games)?;
     Ok(games)
 }
+
+/// In pieces of how many bytes an archive is fed: a run of plain text is cut at the end of a piece.
+const PIECES: [usize; 3] = [1, 7, 1000];
 
 /// What is compared of a game: its number, line, tags, moves, and whether it is left out.
 fn row_of(game: &ArchiveGame) -> (u64, u64, usize, usize, bool) {
@@ -44,23 +47,29 @@ const ARCHIVE: &[u8] = b"Hello\n[Event \"a\"]\n[White Smith]\n1. 11-15 22-18 Dra
 
 #[test]
 fn games_are_found_behind_a_fault(rt: HostRuntime) -> Result<(), Fail> {
-    let games = games_of(rt.alloc(), ARCHIVE)?;
     let wanted = [
         (1, 2, 2, 2, false),
         (2, 5, 1, 2, true),
         (3, 7, 1, 1, false),
         (4, 10, 0, 2, false),
     ];
-    assert_eq!(rt; games.len(), 4);
-    for (game, wanted) in games.iter().zip(wanted) {
-        assert_eq!(rt; row_of(game), wanted);
+    for piece in PIECES {
+        let games = games_of(rt.alloc(), ARCHIVE, piece)?;
+        assert_eq!(rt; games.len(), 4);
+        for (game, wanted) in games.iter().zip(wanted) {
+            assert_eq!(rt; row_of(game), wanted);
+        }
     }
     Ok(())
 }
 
-/// The first note of the first game of an archive.
-fn first_note(alloc: Global, archive: &[u8]) -> Result<Option<(u64, u64, NoteKind)>, FeedRefusal> {
-    let games = games_of(alloc, archive)?;
+/// The first note of the first game of an archive that is fed in pieces of so many bytes.
+fn first_note(
+    alloc: Global,
+    archive: &[u8],
+    piece: usize,
+) -> Result<Option<(u64, u64, NoteKind)>, FeedRefusal> {
+    let games = games_of(alloc, archive, piece)?;
     let Some(game) = games.first() else {
         return Ok(None);
     };
@@ -104,8 +113,10 @@ static TOLD: [(&[u8], u64, u64, NoteKind); 6] = [
 #[test]
 fn doubts_are_told(rt: HostRuntime) -> Result<(), Fail> {
     for (archive, line, column, kind) in TOLD {
-        let found = first_note(rt.alloc(), archive)?;
-        assert_eq!(rt; found, Some((line, column, kind)));
+        for piece in PIECES {
+            let found = first_note(rt.alloc(), archive, piece)?;
+            assert_eq!(rt; found, Some((line, column, kind)));
+        }
     }
     Ok(())
 }

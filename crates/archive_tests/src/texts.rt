@@ -73,3 +73,29 @@ fn signs_have_places(rt: HostRuntime) -> Result<(), Fail> {
     assert_eq!(rt; text.next_sign().is_none(), true);
     Ok(())
 }
+
+/// How many bytes of plain text stand behind the first sign, where at most so many are asked.
+fn plain_behind(alloc: Global, source: &[u8], most: usize) -> Result<usize, FeedRefusal> {
+    let mut text = ArchiveText::new(alloc);
+    text.feed(source)?;
+    text.end();
+    let _ = text.next_sign();
+    Ok(text.plain(most).len())
+}
+
+#[test]
+fn plain_text_stands_ahead(rt: HostRuntime) -> Result<(), Fail> {
+    let rows: [(&[u8], usize, usize); 6] = [
+        (b"[Event \"a\"]", 100, 6),
+        (b"[Event \"a\"]", 4, 4),
+        (b"a11-15\n", 100, 5),
+        (b"<b 11-15>", 100, 0),
+        (b"\xff\xfea\0b\0", 100, 0),
+        (b"a&b", 100, 0),
+    ];
+    for (source, most, wanted) in rows {
+        let found = plain_behind(rt.alloc(), source, most)?;
+        assert_eq!(rt; found, wanted);
+    }
+    Ok(())
+}

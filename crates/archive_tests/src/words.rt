@@ -1,7 +1,7 @@
 //! What words of an archive say, written by hand.
 use archive_words::{
     GameKind, Join, Meaning, Outcome, Run, Said, TagName, Word, clean_fen, game_kind, is_like_fen,
-    is_strict_name, tag_name, tag_text, unescaped,
+    is_strict_name, number_at, pair_at, tag_name, tag_text, unescaped,
 };
 use std::test::Fail;
 
@@ -52,6 +52,31 @@ static RUNS: [(&[u32], Join, &str); 10] = [
 fn runs_have_meanings(rt: HostRuntime) {
     for (numbers, join, wanted) in RUNS {
         assert_eq!(rt; kind_of(run_of(numbers, join)), wanted);
+    }
+}
+
+/// What stands at the front of a text among moves: the two numbers and the bytes of a move, or the
+/// number and the bytes of a move's number.
+fn front_of(text: &[u8]) -> (Option<(u32, u32, usize)>, Option<(u32, usize)>) {
+    (
+        pair_at(text).map(|pair| (pair.first, pair.second, pair.len)),
+        number_at(text).map(|found| (found.number, found.len)),
+    )
+}
+
+#[test]
+fn moves_and_numbers_stand_at_the_front(rt: HostRuntime) {
+    let rows: [(&[u8], Option<(u32, u32, usize)>, Option<(u32, usize)>); 7] = [
+        (b"11-15 22-18", Some((11, 15, 6)), None),
+        (b"9x2 ", Some((9, 2, 4)), None),
+        (b"12. 11-15", None, Some((12, 4))),
+        (b"11-15", None, None),
+        (b"11-15x18 ", None, None),
+        (b"100-20 ", None, None),
+        (b"0. ", None, None),
+    ];
+    for (text, pair, number) in rows {
+        assert_eq!(rt; front_of(text), (pair, number));
     }
 }
 

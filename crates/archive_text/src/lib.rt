@@ -11,6 +11,7 @@
 //! Tests: archive_tests/src/texts.rt
 #![tactic(auto)]
 
+mod ahead;
 mod characters;
 mod encoding;
 mod markup;

@@ -24,6 +24,7 @@ pub(crate) fn is_line_end(letter: char) -> bool
 }
 
 impl Place {
+    ghost use Rattle.archive_text.specs.Ahead.{IsAlong};
     ghost use Rattle.archive_text.specs.Places.{line_behind, column_behind};
 
     /// The first place of a source.
@@ -54,6 +55,17 @@ impl Place {
                 column: self.column + 1,
                 byte,
             }
+        }
+    }
+    /// The place so many characters of one byte further on the same line.
+    pub fn along(self, count: usize) -> Place
+        requires { self.byte + count ≤ 2 ^ 62 }
+        ensures { IsAlong self count result }
+    {
+        Place {
+            line: self.line,
+            column: self.column + count as u64,
+            byte: self.byte + count as u64,
         }
     }
 }

@@ -1,6 +1,7 @@
 //! The text of an archive, as its bytes come.
-ghost use Rattle.std.specs.Prelude.{◌≡◌, ◌≤◌, ◌<◌, ◌+◌, ◌^◌, length, IfSome, IfNone, OnOk, OnErr, IfErr};
+ghost use Rattle.std.specs.Prelude.{◌≡◌, ◌≤◌, ◌<◌, ◌+◌, ◌-◌, ◌^◌, length, take, drop, IfSome, IfNone, OnOk, OnErr, IfErr};
 
+use crate::ahead::{MOST_RUN, first_bytes, plain_len};
 use crate::encoding::{Encoding, mark_of};
 use crate::markup::{Told, letter_told};
 use crate::places::Place;
@@ -52,7 +53,9 @@ pub struct ArchiveText {
 }
 
 impl ArchiveText {
+    ghost use Rattle.archive_text.specs.Ahead.{IsAlong, ahead, reads_bytes};
     ghost use Rattle.archive_text.specs.Fed.{IsFeedCause, IsNextPlace, bytes_fed};
+    ghost use Rattle.archive_text.specs.Lines.{is_plain, run_of};
 
     /// A source of which nothing was fed yet.
     pub fn new(alloc: Global) -> ArchiveText
@@ -163,6 +166,20 @@ impl ArchiveText {
         Some((letter, place))
     }
 
+    /// The next byte, where it is a sign of its own: a printable character of ASCII that begins no
+    /// reference and no tag of HTML, or LF.
+    fn lone_byte(&self) -> Option<u8>
+        ensures { IfSome result (λ _. self.now.at < length self.now.held.items) }
+    {
+        let byte = *self.ahead().first()?;
+        let is_lone = byte == b'\n' || (b' ' <= byte && byte <= b'~');
+        if is_lone && byte != b'&' && byte != b'<' {
+            Some(byte)
+        } else {
+            None
+        }
+    }
+
     /// The next sign of the source; none where more bytes are wanted, or the source has ended.
     pub fn next_sign(&mut self) -> Option<Sign>
         ensures fed { bytes_fed self.new ≡ bytes_fed self.old }
@@ -170,11 +187,64 @@ impl ArchiveText {
         ensures behind { IfSome result (λ sign. sign.place.byte < self.new.place.byte) }
         ensures still { self.old.place.byte ≤ self.new.place.byte }
     {
+        if let Some(byte) = self.lone_byte() {
+            let letter = byte as char;
+            let place = self.place;
+            self.at += 1;
+            self.place = place.behind(letter, 1);
+            return Some(Sign { letter, place });
+        }
         while let Some((letter, place)) = self.step() {
             if let Some(letter) = letter {
                 return Some(Sign { letter, place });
             }
         }
         None
+    }
+
+    /// A byte of ASCII that stands next is a character of its own: it is not in UTF-16, not before the
+    /// mark, and not inside a tag of HTML.
+    fn reads_bytes(&self) -> bool
+        ensures { result ≡ reads_bytes self.now }
+    {
+        match self.encoding {
+            Encoding::Bytes => self.is_begun && !self.is_in_tag,
+            Encoding::LowFirst => false,
+            Encoding::HighFirst => false,
+        }
+    }
+
+    /// The next bytes, where a byte of ASCII is a character of its own.
+    fn ahead(&self) -> &[u8]
+        ensures ahead { result.now ≡ ahead self.now }
+        ensures inside { length result.now ≤ length self.now.held.items - self.now.at }
+    {
+        if self.reads_bytes() {
+            first_bytes(&self.held[self.at..], MOST_RUN)
+        } else {
+            &self.held[..0]
+        }
+    }
+
+    /// The plain text that stands next, at most so many bytes: each is a sign of its own. There may be
+    /// more behind it.
+    pub fn plain(&self, most: usize) -> &[u8]
+        ensures plain { result.now ≡ take most (run_of is_plain (ahead self.now)) }
+        ensures inside { self.now.place.byte + length result.now ≤ bytes_fed self.now }
+    {
+        let ahead = self.ahead();
+        let len = plain_len(ahead).min(most);
+        &ahead[..len]
+    }
+
+    /// Passes over so many bytes, which are signs of their own on this line, as [`ArchiveText::plain`]
+    /// gives them.
+    pub fn pass(&mut self, count: usize)
+        requires { self.old.place.byte + count ≤ bytes_fed self.old }
+        ensures fed { bytes_fed self.new ≡ bytes_fed self.old }
+        ensures place { IsAlong self.old.place count self.new.place }
+    {
+        self.at += count;
+        self.place = self.place.along(count);
     }
 }

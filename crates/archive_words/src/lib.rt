@@ -11,13 +11,17 @@
 
 mod fens;
 mod outcome;
+mod pairs;
 mod runs;
+mod signs;
 mod tags;
 mod words;
 
 pub use fens::{clean_fen, is_like_fen};
 pub use outcome::Outcome;
+pub use pairs::{Numbered, Pair, number_at, pair_at};
 pub use runs::{Join, Meaning, Run};
+pub use signs::{is_cross, is_judgement, is_letter, is_silent};
 pub use tags::{
     GameKind, TagName, TagText, game_kind, is_strict_name, tag_name, tag_text, unescaped,
 };

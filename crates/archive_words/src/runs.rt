@@ -64,6 +64,9 @@ fn square_of(number: u32) -> Option<Square>
 fn path_of(numbers: &[u32]) -> Option<Move>
     ensures { IfSome result (λ path. path ≡ numbers.now) }
 {
+    if let [from, to] = numbers {
+        return Some(Move::direct(square_of(*from)?, square_of(*to)?));
+    }
     if numbers.is_empty() || numbers.len() > MOST_NUMBERS {
         return None;
     }
@@ -76,10 +79,13 @@ fn path_of(numbers: &[u32]) -> Option<Move>
 }
 
 impl Run {
-    ghost use Rattle.archive_words.specs.Runs.{IsOver};
+    ghost use Rattle.std.specs.Prelude.{◌<◌, ◌==◌, ◌++◌, ◌∷◌, [], false, length};
+    ghost use Rattle.archive_words.specs.Runs.{IsNew, IsOver, joined_by};
 
     /// A run without numbers.
-    pub fn new() -> Run {
+    pub fn new() -> Run
+        ensures { IsNew result }
+    {
         Run {
             numbers: ArrayVec::new(),
             is_open: false,
@@ -90,25 +96,40 @@ impl Run {
     }
 
     /// No number stands in it.
-    pub fn is_empty(&self) -> bool {
+    pub fn is_empty(&self) -> bool
+        ensures { result ≡ (length self.now.numbers.items == 0) }
+    {
         self.numbers.is_empty()
     }
 
     /// A sign stands behind its last number, so that the next number belongs to it.
-    pub fn is_open(&self) -> bool {
+    pub fn is_open(&self) -> bool
+        ensures { result ≡ self.now.is_open }
+    {
         self.is_open
     }
 
     /// The number that stands in it alone, if one does.
-    pub fn lone(&self) -> Option<u32> {
+    pub fn lone(&self) -> Option<u32>
+        ensures some { IfSome result (λ number. self.now.numbers.items ≡ number ∷ []) }
+        ensures closed { IfSome result (λ _. self.now.is_open ≡ false) }
+    {
         match self.numbers.as_slice() {
             [number] if !self.is_open => Some(*number),
             _ => None,
         }
     }
 
-    /// Takes a number behind the last sign.
-    pub fn push(&mut self, number: u32) {
+    /// Takes a number behind the last sign. A run of [`MOST_NUMBERS`] keeps no further one.
+    pub fn push(&mut self, number: u32)
+        ensures numbers { length self.old.numbers.items < MOST_NUMBERS
+            → self.new.numbers.items ≡ self.old.numbers.items ++ number ∷ [] }
+        ensures full { length self.old.numbers.items ≡ MOST_NUMBERS
+            → self.new.numbers.items ≡ self.old.numbers.items }
+        ensures closed { self.new.is_open ≡ false }
+        ensures slash { self.new.has_slash ≡ self.old.has_slash }
+        ensures clock { self.new.is_clock ≡ self.old.is_clock }
+    {
         self.is_open = false;
         if self.numbers.is_full() {
             self.is_long = true;
@@ -118,7 +139,9 @@ impl Run {
     }
 
     /// Takes a sign behind the last number.
-    pub fn join(&mut self, join: Join) {
+    pub fn join(&mut self, join: Join)
+        ensures { self.new ≡ joined_by join self.old }
+    {
         self.is_open = true;
         match join {
             Join::Colon => {}
@@ -126,17 +149,22 @@ impl Run {
                 self.has_slash = true;
                 self.is_clock = false;
             }
-            Join::Dash | Join::Cross => self.is_clock = false,
+            Join::Dash => self.is_clock = false,
+            Join::Cross => self.is_clock = false,
         }
     }
 
     /// Takes the last sign back.
-    pub fn close(&mut self) {
+    pub fn close(&mut self)
+        ensures { self.new ≡ record self.old { is_open = false } }
+    {
         self.is_open = false;
     }
 
     /// Begins anew.
-    pub fn clear(&mut self) {
+    pub fn clear(&mut self)
+        ensures { IsNew self.new }
+    {
         self.numbers.clear();
         self.is_open = false;
         self.is_long = false;

@@ -32,8 +32,12 @@ pub struct Word {
 }
 
 impl Word {
+    ghost use Rattle.std.specs.Prelude.{◌≡◌, ◌==◌, ◌<◌, [], true, false, length};
+
     /// A word without letters.
-    pub fn new() -> Word {
+    pub fn new() -> Word
+        ensures { (result.letters.items ≡ []) × (result.is_long ≡ false) }
+    {
         Word {
             letters: ArrayVec::new(),
             is_long: false,
@@ -41,12 +45,18 @@ impl Word {
     }
 
     /// It has no letter.
-    pub fn is_empty(&self) -> bool {
+    pub fn is_empty(&self) -> bool
+        ensures { result ≡ (length self.now.letters.items == 0) }
+    {
         self.letters.is_empty()
     }
 
-    /// Takes a letter.
-    pub fn push(&mut self, letter: char) {
+    /// Takes a letter. A word of 16 keeps no further one.
+    pub fn push(&mut self, letter: char)
+        ensures some { 0 < length self.new.letters.items }
+        ensures full { length self.old.letters.items ≡ MOST_LETTERS
+            → (self.new.letters.items ≡ self.old.letters.items) × (self.new.is_long ≡ true) }
+    {
         let small = if letter.is_ascii() {
             letter.to_ascii_lowercase() as u8
         } else {
@@ -60,7 +70,9 @@ impl Word {
     }
 
     /// Begins anew.
-    pub fn clear(&mut self) {
+    pub fn clear(&mut self)
+        ensures { (self.new.letters.items ≡ []) × (self.new.is_long ≡ false) }
+    {
         self.letters.clear();
         self.is_long = false;
     }

@@ -2,7 +2,7 @@
 use Rattle.std.proofs.Common.{◌≡◌, ◌∙◌, ℕ, ◌+◌, ◌<◌, List, [], ◌∷◌, ◌++◌, length, get_or, take, Some, refl, sym, ap}
 use Rattle.std.specs.Prelude.{map}
 use Rattle.std.proofs.lemmas.List.{map-append}
-use Rattle.archive_games.specs.declared.game.ArchiveMove.{ArchiveMove}
+use Rattle.archive_records.specs.declared.game.ArchiveMove.{ArchiveMove}
 use Rattle.draughts_board.specs.Board.{Board}
 use Rattle.pdn_openings.specs.Playing.{meaning_of}
 use Rattle.pdn_openings.proofs.Steps.{take-one_more}

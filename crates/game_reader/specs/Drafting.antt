@@ -1,8 +1,8 @@
 -- What a game of an archive is played as.
 use Rattle.std.specs.Prelude.{◌≡◌, ℕ, List, map, take, Option, Some, None}
-use Rattle.archive_games.specs.declared.game.ArchiveGame.{ArchiveGame}
-use Rattle.archive_games.specs.declared.game.ArchiveMove.{ArchiveMove}
-use Rattle.archive_games.specs.declared.game.FoundPosition.{FoundPosition}
+use Rattle.archive_records.specs.declared.game.ArchiveGame.{ArchiveGame}
+use Rattle.archive_records.specs.declared.game.ArchiveMove.{ArchiveMove}
+use Rattle.archive_records.specs.declared.game.FoundPosition.{FoundPosition}
 use Rattle.draughts_board.specs.Board.{Board}
 use Rattle.fen_text.specs.Spelled.{Spells}
 use Rattle.game_reader.specs.declared.drafting.DraftOutcome.{DraftOutcome}

@@ -1,2 +1,4 @@
 pub mod Drafting
 pub mod Writing
+pub mod Counting
+pub mod Scores

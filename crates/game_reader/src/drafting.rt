@@ -1,7 +1,10 @@
 //! A game of an archive, played on a draft.
-ghost use Rattle.std.specs.Prelude.{◌≡◌, OnOk, IfNone, IfOk, IfSome, Some, map};
+ghost use Rattle.std.specs.Prelude.{◌≡◌, OnOk, IfNone, IfOk, IfSome, Option, Some, map};
+ghost use Rattle.draughts_board.specs.Board.{Board};
 ghost use Rattle.strict_games.specs.Drafts.{begins, led_to};
 ghost use Rattle.game_reader.specs.Drafting.{BeginsAs, IsDraftedAs, squares_of};
+ghost use Rattle.game_reader.specs.Scores.{score_of, score_of_outcome};
+ghost use Rattle.archive_records.specs.declared.notes.NoteKind.TheVariants as kinds;
 
 use archive_games::{ArchiveGame, ArchiveMove, ArchiveTag, FoundPosition, Note, NoteKind, Outcome};
 use draughts_board::{Position, ResolveRefusal};
@@ -48,6 +51,7 @@ fn play_all(draft: &mut Draft, moves: &[ArchiveMove]) -> Result<Option<Note>, Al
         (led_to (Some draft.old.here) (map squares_of moves.now) ≡ Some draft.new.here)) }
     ensures same { OnOk result (draft.new.set_up ≡ draft.old.set_up) }
 {
+    draft.reserve(moves.len())?;
     for (i, written) in moves.iter().enumerate() {
         let ply = i as u64 + 1;
         let kind = match draft.play_written(&written.squares) {
@@ -92,7 +96,10 @@ pub fn drafted(alloc: Global, game: &ArchiveGame, plies: usize) -> Result<DraftO
 }
 
 /// The note on a game whose own position is no FEN.
-pub fn position_fault(alloc: Global, game: &ArchiveGame) -> Option<Note> {
+pub fn position_fault(alloc: Global, game: &ArchiveGame) -> Option<Note>
+    ensures kind { IfSome result (λ note. note.kind ≡ kinds.BadPosition) }
+    ensures none { IfNone result ((set_up : Option Board) × BeginsAs game.now.position set_up) }
+{
     match begun(alloc, &game.position) {
         Some(_) => None,
         None => Some(note_on(game, NoteKind::BadPosition)),
@@ -100,7 +107,9 @@ pub fn position_fault(alloc: Global, game: &ArchiveGame) -> Option<Note> {
 }
 
 /// A note on a game as a whole, at its position, if it has one of its own, or its beginning.
-fn note_on(game: &ArchiveGame, kind: NoteKind) -> Note {
+fn note_on(game: &ArchiveGame, kind: NoteKind) -> Note
+    ensures { result.kind ≡ kind }
+{
     let place = match &game.position {
         Some(found) => found.place,
         None => game.begins,
@@ -109,14 +118,25 @@ fn note_on(game: &ArchiveGame, kind: NoteKind) -> Note {
 }
 
 /// The result as the strict profile writes it: `*` where words alone name who won.
-pub fn score_of(game: &ArchiveGame) -> Score {
+pub fn score_of(game: &ArchiveGame) -> Score
+    ensures { result ≡ score_of game.now.result }
+{
     match &game.result {
         None => Score::Unknown,
-        Some(found) => match found.outcome {
-            Outcome::FirstWins => Score::OneNil,
-            Outcome::SecondWins => Score::NilOne,
-            Outcome::Draw => Score::Halves,
-            Outcome::BlackWins | Outcome::WhiteWins | Outcome::Unfinished => Score::Unknown,
-        },
+        Some(found) => score_of_outcome(found.outcome),
+    }
+}
+
+/// The outcome as the strict profile writes it.
+fn score_of_outcome(outcome: Outcome) -> Score
+    ensures { result ≡ score_of_outcome outcome }
+{
+    match outcome {
+        Outcome::FirstWins => Score::OneNil,
+        Outcome::SecondWins => Score::NilOne,
+        Outcome::Draw => Score::Halves,
+        Outcome::BlackWins => Score::Unknown,
+        Outcome::WhiteWins => Score::Unknown,
+        Outcome::Unfinished => Score::Unknown,
     }
 }

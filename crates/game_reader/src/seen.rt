@@ -1,30 +1,84 @@
 //! The games that were seen, to tell the same game twice.
+use draughts_board::Square;
+use fen_text::print_fen;
 use indexmap::IndexMap;
-use sha2::{Digest, Sha256};
+use sha2::{Digest, Sha512};
 use std::alloc::{AllocError, Global};
+use strict_games::{Draft, Score};
 
-/// The number of the first game with each text, by the text's digest.
+/// For how many bytes there is room at once.
+const ROOM: usize = 512;
+
+/// The number of the first game with each text, by the first 128 bits of a SHA-512 of what the text
+/// says.
 #[derive(Drop)]
 pub struct Seen {
     games: IndexMap<(u64, u64), u64>,
 }
 
+/// Appends the squares of a move, the last one with 64 added.
+fn push_squares(bytes: &mut Vec<u8>, path: &[Square]) -> Result<(), AllocError> {
+    if let [first @ .., last] = path {
+        for square in first {
+            bytes.push(square.number())?;
+        }
+        bytes.push(last.number() + 64)?;
+    }
+    Ok(())
+}
+
+/// What a draft's text with this result says, in few bytes: the FEN, each tag with byte 10 behind its
+/// name and its value, byte 10, the result, the moves.
+fn told_by(alloc: Global, draft: &Draft, score: Score) -> Result<Vec<u8>, AllocError> {
+    let mut bytes = Vec::with_capacity(alloc, ROOM)?;
+    if let Some(p) = draft.set_up() {
+        bytes.extend_from_slice(print_fen(p).as_bytes())?;
+    }
+    for tag in draft.tags() {
+        bytes.push(b'\n')?;
+        bytes.extend_from_slice(tag.name.as_slice())?;
+        bytes.push(b'\n')?;
+        bytes.extend_from_slice(tag.value.as_slice())?;
+    }
+    bytes.extend_from_slice(b"\n\n")?;
+    bytes.push(score as u8)?;
+    for squares in draft.moves() {
+        push_squares(&mut bytes, squares.path())?;
+    }
+    Ok(bytes)
+}
+
+/// The first 128 bits of the SHA-512 of these bytes.
+fn key_of(bytes: &[u8]) -> (u64, u64) {
+    let [a, b, c, d, e, f, g, h, i, j, k, l, m, n, o, p, ..] = Sha512::digest(bytes);
+    (
+        u64::from_be_bytes([a, b, c, d, e, f, g, h]),
+        u64::from_be_bytes([i, j, k, l, m, n, o, p]),
+    )
+}
+
 impl Seen {
+    ghost use Rattle.std.specs.Prelude.{◌≡◌, []};
+
     /// No game.
-    pub fn new(alloc: Global) -> Seen {
+    pub fn new(alloc: Global) -> Seen
+        ensures { result.games.entries ≡ [] }
+    {
         Seen {
             games: IndexMap::new(alloc),
         }
     }
 
-    /// The number of the first game with this text, if there was one; else this game is the first.
-    pub fn first_with(&mut self, text: &[u8], number: u64) -> Result<Option<u64>, AllocError> {
-        let digest = Sha256::digest(text);
-        let [a, b, c, d, e, f, g, h, i, j, k, l, m, n, o, p, ..] = digest;
-        let key = (
-            u64::from_be_bytes([a, b, c, d, e, f, g, h]),
-            u64::from_be_bytes([i, j, k, l, m, n, o, p]),
-        );
+    /// The number of the first game whose text with this result is the same, if there was one; else
+    /// this game is the first.
+    pub fn first_same(
+        &mut self,
+        alloc: Global,
+        draft: &Draft,
+        score: Score,
+        number: u64,
+    ) -> Result<Option<u64>, AllocError> {
+        let key = key_of(&told_by(alloc, draft, score)?);
         if let Some(first) = self.games.get(&key) {
             return Ok(Some(*first));
         }

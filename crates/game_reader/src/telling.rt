@@ -59,8 +59,14 @@ pub struct Counts {
 }
 
 impl Counts {
+    ghost use Rattle.std.specs.Prelude.{◌≡◌, ◌==◌, ◌&&◌};
+    ghost use Rattle.archive_records.specs.Weights.{weight_of};
+    ghost use Rattle.game_reader.specs.Counting.{no_counts, with_game, with_note};
+
     /// Nothing counted.
-    pub fn new() -> Counts {
+    pub fn new() -> Counts
+        ensures { result ≡ no_counts }
+    {
         Counts {
             games: 0,
             left_out: 0,
@@ -71,7 +77,9 @@ impl Counts {
     }
 
     /// Counts a game.
-    pub fn game(&mut self, is_written: bool) {
+    pub fn game(&mut self, is_written: bool)
+        ensures { self.new ≡ with_game is_written self.old }
+    {
         self.games = self.games.saturating_add(1);
         if !is_written {
             self.left_out = self.left_out.saturating_add(1);
@@ -79,18 +87,21 @@ impl Counts {
     }
 
     /// Nothing is at fault or doubtful.
-    pub fn is_clean(&self) -> bool {
+    pub fn is_clean(&self) -> bool
+        ensures { result ≡ (self.now.faults == 0 && self.now.doubts == 0 && self.now.left_out == 0) }
+    {
         self.faults == 0 && self.doubts == 0 && self.left_out == 0
     }
 
     /// Counts a note.
-    pub fn note(&mut self, kind: NoteKind) {
-        let count = match kind.weight() {
-            Weight::Fault => &mut self.faults,
-            Weight::Doubt => &mut self.doubts,
-            Weight::Change => &mut self.changes,
-        };
-        *count = count.saturating_add(1);
+    pub fn note(&mut self, kind: NoteKind)
+        ensures { self.new ≡ with_note (weight_of kind) self.old }
+    {
+        match kind.weight() {
+            Weight::Fault => self.faults = self.faults.saturating_add(1),
+            Weight::Doubt => self.doubts = self.doubts.saturating_add(1),
+            Weight::Change => self.changes = self.changes.saturating_add(1),
+        }
     }
 
     /// Appends the line that counts: `games 10 left-out 1 faults 1 doubts 3 changes 2`.

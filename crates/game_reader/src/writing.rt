@@ -109,10 +109,9 @@ fn text_of(
     let Some(draft) = judged(alloc, game, ALL_PLIES)? else {
         return Ok(None);
     };
-    let Some(text) = draft.text(score_of(game), Layout::Lines)? else {
-        return Ok(None);
-    };
-    if let Some(first) = seen.first_with(&text, game.number)? {
+    let score = score_of(game);
+    let text = draft.text(score, Layout::Lines)?;
+    if let Some(first) = seen.first_same(alloc, &draft, score, game.number)? {
         game.notes.push(Note {
             place: game.begins,
             kind: NoteKind::SameGame { first },
@@ -285,9 +284,8 @@ fn write_group<K: Sink>(
     ensures { OnOk result (WritesGames (K.taken sink.old) (K.taken sink.new)) }
 {
     if let Some((position, games)) = groups.group(place) {
-        if let Some(text) = group_text(alloc, &position, games)? {
-            write_all(sink, &text)?;
-        }
+        let text = group_text(alloc, &position, games)?;
+        write_all(sink, &text)?;
     }
     Ok(())
 }

@@ -1,6 +1,6 @@
 -- One game more in its group, and the text of a group.
 use Rattle.std.proofs.Common.{◌≡◌, ◌∙◌, ℕ, Bool, true, false, List, [], ◌∷◌, ◌++◌, Option, Some, None, Result, Ok, Err, OnOk, IfOk, refl, ap, subst}
-use Rattle.std.specs.Prelude.{IfSome, codes, unwrap_or}
+use Rattle.std.specs.Prelude.{codes, unwrap_or}
 use Rattle.std.specs.Map.{lookup}
 use Rattle.std.proofs.lemmas.Result.{on_ok_weaker}
 use Rattle.indexmap.specs.IndexMap.{insert_entry}
@@ -9,7 +9,8 @@ use Rattle.draughts_board.specs.Same.{same_board-Decides}
 use Rattle.strict_games.specs.Drafts.{Drafted, IsTextOf}
 use Rattle.strict_games.specs.Grouping.{Group, grouped_by, grouped_with}
 use Rattle.strict_games.specs.Groups.{IsGroupText, Lists}
-use Rattle.strict_games.specs.Tags.{cleaned}
+use Rattle.strict_games.specs.Tags.{cleaned, tag_fault}
+use Rattle.strict_games.specs.declared.tags.TagRefusal.{TagRefusal}
 
 -- a group is taken out and put back with one game more
 put-taken : (same : Board → Board → Bool) (p : Board) → same p p ≡ true → (groups : List Group) (game : ℕ)
@@ -32,13 +33,16 @@ added r old mid new p game games more left taken pushed put =
     on_ok_weaker r (λ e. e ∙ same) put
 
 -- the text of the draft that a group makes
-pub group_found : {V E : Type 0} (items : V → List ℕ) (r : Result (Option V) E) (p : Board) (games list : List ℕ) (draft : Drafted)
+pub group_found : {V E : Type 0} (items : V → List ℕ) (r : Result V E) (p : Board) (games list : List ℕ) (draft : Drafted)
     → draft ≡ record { set_up = Some p; tags = record { name = codes "Games"; value = cleaned list } ∷ []; moves = []; here = p } → Lists games list
-    → IfOk r (λ found. IfSome found (λ v. IsTextOf draft (items v))) → IfOk r (λ found. IfSome found (λ v. IsGroupText p games (items v)))
-group_found items (Ok (Some v)) p games list draft is lists text = record {
+    → IfOk r (λ v. IsTextOf draft (items v)) → IfOk r (λ v. IsGroupText p games (items v))
+group_found items (Ok v) p games list draft is lists text = record {
   list = list;
   lists = lists;
   is_text = subst (λ (d : Drafted). IsTextOf d (items v)) is text;
 }
-group_found items (Ok None) p games list draft is lists text = tt
 group_found items (Err e) p games list draft is lists text = tt
+
+-- a tag of this name is refused for want of memory alone
+pub games_taken : (list : List ℕ) (e : TagRefusal) → tag_fault (codes "Games") list ≡ Some e → ⊥
+games_taken list e h = let s : ◌≡◌ {A = Option TagRefusal} None (Some e) = h in absurd (cc)

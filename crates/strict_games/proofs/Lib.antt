@@ -3,5 +3,8 @@ pub mod Longer
 pub mod Joining
 pub mod Spelled
 pub mod Counted
-pub mod ReadBack
+pub mod Pages
+pub mod Words
+pub mod Printed
 pub mod Grouped
+pub mod LonePaths

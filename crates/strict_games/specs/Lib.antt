@@ -2,6 +2,8 @@ pub mod GameTexts
 pub mod Drafts
 pub mod Playing
 pub mod Tags
+pub mod Drafting
 pub mod Grouping
 pub mod Groups
-pub mod Reading
+pub mod Spelling
+pub mod Pages

@@ -1,16 +1,16 @@
 //! A game that is being written.
-ghost use Rattle.std.specs.Prelude.{◌≡◌, IfOk, IfSome};
+ghost use Rattle.std.specs.Prelude.{◌≡◌, IfOk};
+ghost use Rattle.strict_games.specs.Drafts.{begins};
 
 use crate::printing::{Layout, Score, printed};
-use crate::reading_back::{begins, is_read_as};
-use crate::spelling::written_as;
+use crate::spelling::move_meant;
 use crate::tags::{TagRefusal, cleaned, tag_fault};
 use draughts_board::{Move, Position, ResolveRefusal, Square};
 use pdn_text::Tag;
 use shared_words::ItemList;
 use std::alloc::{AllocError, Global};
 use std::marker::Model;
-use swift_moves::{apply, resolve};
+use swift_moves::apply;
 
 /// A game that is being written: where it begins, its tags, its moves, and the position that they
 /// lead to.
@@ -24,8 +24,8 @@ pub struct Draft {
 }
 
 impl Model for Draft {
-    ghost use Rattle.std.specs.Prelude.{◌≡◌, Some};
-    ghost use Rattle.strict_games.specs.Drafts.{Drafted, begins, led_to};
+    ghost use Rattle.strict_games.specs.Drafting.{IsDraft};
+    ghost use Rattle.strict_games.specs.Drafts.{Drafted};
 
     ghost Value = { Drafted };
 
@@ -36,7 +36,17 @@ impl Model for Draft {
       here = d.here;
     } };
 
-    ghost invariant = { λ d. led_to (Some (begins d.set_up)) d.moves.items ≡ Some d.here };
+    ghost invariant = { λ d. IsDraft d.set_up d.tags.items d.moves.items d.here };
+}
+
+/// Where a game begins: from its own position, if it has one, else from the start.
+fn begins(set_up: &Option<Position>) -> Position
+    ensures { result ≡ begins set_up.now }
+{
+    match set_up {
+        Some(p) => *p,
+        None => Position::start(),
+    }
 }
 
 impl Draft {
@@ -69,6 +79,34 @@ impl Draft {
         self.here
     }
 
+    /// The position of its own that it begins from, if it has one.
+    pub fn set_up(&self) -> &Option<Position>
+        ensures { result.now ≡ self.now.set_up }
+    {
+        &self.set_up
+    }
+
+    /// Its tags, beside that of its position.
+    pub fn tags(&self) -> &[Tag]
+        ensures { result.now ≡ self.now.tags }
+    {
+        self.tags.as_slice()
+    }
+
+    /// Its moves, each with the squares that it is written with.
+    pub fn moves(&self) -> &[Move]
+        ensures { result.now ≡ self.now.moves }
+    {
+        self.moves.as_slice()
+    }
+
+    /// Makes room for so many further moves.
+    pub fn reserve(&mut self, moves: usize) -> Result<(), AllocError>
+        ensures { self.new ≡ self.old }
+    {
+        self.moves.reserve(moves)
+    }
+
     /// Adds a tag behind those that the game has. The bytes 10 and 13 of its value become blanks.
     ///
     /// Refused are a name that is not a letter followed by letters, digits and `_`; the name `FEN`,
@@ -97,7 +135,7 @@ impl Draft {
     }
 
     /// Plays the legal move that is written with these ends and, if any are named, these squares in
-    /// between, as [`resolve`] says. After a refusal the game is what it was.
+    /// between, as `swift_moves::resolve` says. After a refusal the game is what it was.
     pub fn play(
         &mut self,
         from: Square,
@@ -109,15 +147,11 @@ impl Draft {
             (meaning self.old.here (matches self.old.here from middle.now to) ≡ Err cause)) }
         ensures err { OnErr result (self.new ≡ self.old) }
     {
-        let played = resolve(self.alloc, &self.here, from, middle, to)?;
-        let written = match written_as(self.alloc, &self.here, from, middle, to, &played) {
-            Ok(written) => written,
-            Err(error) => return Err(ResolveRefusal::Memory(error)),
-        };
+        let found = move_meant(self.alloc, &self.here, from, middle, to)?;
         self.moves
-            .push(written)
+            .push(found.written)
             .map_err(|_| ResolveRefusal::Memory(AllocError))?;
-        self.here = apply(&self.here, &played);
+        self.here = apply(&self.here, &found.played);
         Ok(())
     }
 
@@ -135,24 +169,18 @@ impl Draft {
     }
 
     /// The game's text with this result, which ends with byte 10: `[FEN "..."]` first where the game
-    /// has a position of its own, the tags, the moves with their numbers, the result. It is read
-    /// back before it is given out; none is given out where it is not read as this game.
-    pub fn text(&self, score: Score, layout: Layout) -> Result<Option<Vec<u8>>, AllocError>
-        ensures { IfOk result (λ text. IfSome text (λ bytes. IsTextOf self.now bytes.items)) }
+    /// has a position of its own, the tags, the moves with their numbers, the result.
+    pub fn text(&self, score: Score, layout: Layout) -> Result<Vec<u8>, AllocError>
+        ensures { IfOk result (λ text. IsTextOf self.now text.items) }
     {
-        let text = printed(
+        printed(
             self.alloc,
             &self.set_up,
-            &self.tags,
+            self.tags.as_slice(),
             begins(&self.set_up).to_move(),
-            &self.moves,
+            self.moves.as_slice(),
             score,
             layout,
-        )?;
-        if is_read_as(self.alloc, &text, &self.set_up, &self.tags, &self.moves)? {
-            Ok(Some(text))
-        } else {
-            Ok(None)
-        }
+        )
     }
 }

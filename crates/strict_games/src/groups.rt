@@ -1,5 +1,5 @@
 //! Games grouped by the position that they lead to.
-ghost use Rattle.std.specs.Prelude.{◌≡◌, [], IfOk, IfSome, OnOk, unwrap_or};
+ghost use Rattle.std.specs.Prelude.{◌≡◌, [], IfOk, OnOk, unwrap_or};
 ghost use Rattle.std.specs.Map.{lookup};
 ghost use Rattle.draughts_board.specs.Board.{same_board};
 ghost use Rattle.indexmap.specs.IndexMap.{insert_entry};
@@ -115,20 +115,20 @@ fn put_back(
 }
 
 /// A game of one line that stands for all games that lead to a position: `[FEN ".."]`, and the tag
-/// `Games` with their numbers as ranges, `12, 40-43`. None is given out where it is not read as that.
+/// `Games` with their numbers as ranges, `12, 40-43`.
+#[tactic(auto, using(crate::proofs::Grouped::games_taken))]
 pub fn group_text(
     alloc: Global,
     position: &Position,
     games: &[u32],
-) -> Result<Option<Vec<u8>>, AllocError>
-    ensures { IfOk result (λ text. IfSome text (λ bytes.
-        IsGroupText position.now games.now bytes.items)) }
+) -> Result<Vec<u8>, AllocError>
+    ensures { IfOk result (λ text. IsGroupText position.now games.now text.items) }
 {
     let mut draft = Draft::new(alloc, Some(*position));
     let list = listed(alloc, games)?;
     match draft.tag(b"Games", &list) {
         Ok(()) => draft.text(Score::Unknown, Layout::OneLine),
         Err(TagRefusal::Memory(error)) => Err(error),
-        Err(_) => Ok(None),
+        Err(_) => unreachable!(),
     }
 }

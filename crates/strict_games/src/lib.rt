@@ -6,9 +6,9 @@
 //! [`OpeningGroups`] gathers games by the position that they lead to, and [`group_text`] writes one
 //! game for all of a group, with a tag that lists them.
 //!
-//! Proved: a move is taken only if it means exactly one legal move. A text is given out only if
-//! `read_games` reads it as exactly one game, with the draft's tags and moves, which begins where the
-//! draft began and leads to the position where it stands. A group's tag lists each of its games once.
+//! Proved: a move is taken only if it means exactly one legal move. `read_games` reads a draft's text
+//! as exactly one game, with the draft's tags and moves, which begins where the draft began and leads
+//! to the position where it stands. A group's tag lists each of its games once.
 //!
 //! Tests: text_tests/src/drafts.rt
 #![tactic(auto)]
@@ -16,10 +16,10 @@
 mod draft;
 mod groups;
 pub mod laws;
-mod one_game;
+mod lone;
 mod printing;
 mod ranges;
-mod reading_back;
+mod wording;
 mod spelling;
 mod tags;
 

@@ -48,7 +48,7 @@ fn a_game(rt: HostRuntime) -> Result<(), Fail> {
         draft.play(square(&rt, 24), &[], square(&rt, 20)),
         Err(ResolveRefusal::Illegal)
     );
-    let text = draft.text(Score::Halves, Layout::Lines)?.ok_or("unread")?;
+    let text = draft.text(Score::Halves, Layout::Lines)?;
     assert_eq!(rt;
         text.as_slice(),
         b"[Event \"a \\\"b\\\" \\\\c\"]\n[GameType \"21,W\"]\n1. 11-15 22-18 2. 15x22 1/2-1/2\n".as_slice()
@@ -86,7 +86,7 @@ fn own_positions(rt: HostRuntime) -> Result<(), Fail> {
     for ((fen, moves, due), score) in games.iter().zip(scores) {
         let mut draft = Draft::new(rt.alloc(), Some(read_fen(fen.as_bytes())?));
         play(&rt, &mut draft, moves)?;
-        let text = draft.text(score, Layout::OneLine)?.ok_or("unread")?;
+        let text = draft.text(score, Layout::OneLine)?;
         assert_eq!(rt; text.as_slice(), due.as_bytes());
         all.extend_from_slice(&text)?;
     }
@@ -111,11 +111,8 @@ fn groups(rt: HostRuntime) -> Result<(), Fail> {
     groups.add(Position::start(), 44)?;
     groups.add(other, 45)?;
     assert_eq!(rt; groups.len(), 2);
-    let text = match groups.group(0) {
-        Some((position, games)) => group_text(rt.alloc(), &position, games)?,
-        None => None,
-    };
-    let text = text.ok_or("unread")?;
+    let (position, games) = groups.group(0).ok_or("no group")?;
+    let text = group_text(rt.alloc(), &position, games)?;
     assert_eq!(rt;
         text.as_slice(),
         b"[FEN \"W:W21:B1\"] [Games \"12, 40-43, 45\"] *\n".as_slice()
