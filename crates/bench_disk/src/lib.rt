@@ -37,7 +37,7 @@ pub use call::Call;
 pub use disk::{Disk, DiskFault, MOST_LENGTH};
 pub use failing_disk::{FailingDisk, FaultDisk, FuseDisk};
 pub use failing_plan::{FailingCalls, Fuse, Plan};
-pub use file_disk::{FileDisk, PathFile};
+pub use file_disk::{Access, FileDisk, PathFile};
 pub use file_handle::FileHandle;
 pub use handle_disk::HandleDisk;
 pub use memory_disk::MemoryDisk;
