@@ -14,7 +14,7 @@ fn take_games(reader: &mut ArchiveReader, games: &mut Vec<ArchiveGame>) -> Resul
     Ok(())
 }
 
-/// The games of an archive that is fed in pieces of so many bytes, at least one.
+/// The games of an archive that is fed in pieces of `piece` bytes, at least one.
 fn games_of(alloc: Global, archive: &[u8], piece: usize) -> Result<Vec<ArchiveGame>, FeedRefusal> {
     let mut reader = ArchiveReader::new(alloc);
     let mut games = Vec::new(alloc);
@@ -63,7 +63,7 @@ fn games_are_found_behind_a_fault(rt: HostRuntime) -> Result<(), Fail> {
     Ok(())
 }
 
-/// The first note of the first game of an archive that is fed in pieces of so many bytes.
+/// The first note of the first game of an archive that is fed in pieces of `piece` bytes.
 fn first_note(
     alloc: Global,
     archive: &[u8],

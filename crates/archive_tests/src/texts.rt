@@ -74,7 +74,7 @@ fn signs_have_places(rt: HostRuntime) -> Result<(), Fail> {
     Ok(())
 }
 
-/// How many bytes of plain text stand behind the first sign, where at most so many are asked.
+/// How many bytes of plain text stand behind the first sign, where at most this number is asked.
 fn plain_behind(alloc: Global, source: &[u8], most: usize) -> Result<usize, FeedRefusal> {
     let mut text = ArchiveText::new(alloc);
     text.feed(source)?;

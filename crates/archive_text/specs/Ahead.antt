@@ -19,7 +19,7 @@ reads_bytes text = are_bytes text.encoding && (text.is_begun && not text.is_in_t
 abbrev pub ahead : ArchiveText → List ℕ
 ahead text = if reads_bytes text then take MOST_RUN (drop text.at text.held.items) else []
 
--- a place so many characters of one byte further on the same line
+-- the place `count` characters of one byte further on the same line
 abbrev pub IsAlong : Place → ℕ → Place → Type 0
 IsAlong place count further =
     (further.line ≡ place.line) × (further.column ≡ place.column + count)

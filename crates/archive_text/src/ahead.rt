@@ -6,7 +6,7 @@ ghost use Rattle.archive_text.specs.Lines.{is_plain};
 /// How many bytes are looked at ahead for a run that is taken at once.
 pub(crate) const MOST_RUN: usize = 256;
 
-/// The first bytes, at most so many.
+/// The first bytes, at most `most`.
 pub(crate) fn first_bytes(rest: &[u8], most: usize) -> &[u8]
     ensures value { result.now ≡ take most rest.now }
     ensures inside { length result.now ≤ length rest.now }

@@ -57,7 +57,7 @@ impl Place {
             }
         }
     }
-    /// The place so many characters of one byte further on the same line.
+    /// The place `count` characters of one byte further on the same line.
     pub fn along(self, count: usize) -> Place
         requires { self.byte + count ≤ 2 ^ 62 }
         ensures { IsAlong self count result }

@@ -226,7 +226,7 @@ impl ArchiveText {
         }
     }
 
-    /// The plain text that stands next, at most so many bytes: each is a sign of its own. There may be
+    /// The plain text that stands next, at most `most` bytes: each is a sign of its own. There may be
     /// more behind it.
     pub fn plain(&self, most: usize) -> &[u8]
         ensures plain { result.now ≡ take most (run_of is_plain (ahead self.now)) }
@@ -237,7 +237,7 @@ impl ArchiveText {
         &ahead[..len]
     }
 
-    /// Passes over so many bytes, which are signs of their own on this line, as [`ArchiveText::plain`]
+    /// Passes over `count` bytes, which are signs of their own on this line, as [`ArchiveText::plain`]
     /// gives them.
     pub fn pass(&mut self, count: usize)
         requires { self.old.place.byte + count ≤ bytes_fed self.old }

@@ -38,7 +38,7 @@ logged (Expand n ∷ log) puts = records.Expand n ∷ logged log puts
 logged (Solve p ∷ log) [] = []
 logged (Solve p ∷ log) (put ∷ puts) = records.Solve put.0 p put.1 ∷ logged log puts
 
--- .. where the log has room for so many records in all
+-- .. where the log has room for this number of records in all
 abbrev pub grown_state : TreeState → ShelfState → List Applied → ℕ → GrownState
 grown_state tree shelf log capacity =
     record {

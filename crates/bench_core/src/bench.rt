@@ -81,7 +81,7 @@ impl Bench {
     ghost use Rattle.bench_core.specs.Results.{outcome_of, IsTold};
     ghost use Rattle.bench_core.specs.Answers.{RefusesLease, RefusesReady, HasReplayed, RefusesReplay, unkept};
 
-    /// A bench without roots. The caller knows that there is a sound table of so many pieces, as each oracle tells.
+    /// A bench without roots. The caller knows that there is a sound table of its pieces, as each oracle tells.
     pub fn new(alloc: Global, s: Settings) -> Result<Bench, AllocError>
         requires pieces { IsTableSize s.pieces }
         requires table { (answer : Board → Option Answer) × IsSoundTable draughts s.pieces answer }

@@ -77,7 +77,7 @@ impl GrownTree {
         count_work(&self.log)
     }
 
-    /// Makes room for so many more nodes and records.
+    /// Makes room for `nodes` more nodes and `records` more records.
     pub(crate) fn reserve(&mut self, nodes: usize, records: usize) -> Result<(), AllocError>
         ensures forest { self.new.forest ≡ self.old.forest }
         ensures records { self.new.records ≡ self.old.records }

@@ -9,7 +9,7 @@ pub fn events_keep_sound()
     ensures leases { LeavesAreLeasedOnce }
 {}
 
-/// One list of records has one forest, with tables of so many pieces, and the roots of that forest are those that the
+/// One list of records has one forest, with tables of one number of pieces, and the roots of that forest are those that the
 /// records begin, in order.
 pub fn records_have_one_forest()
     ensures forest { RecordsHaveOneForest }

@@ -23,7 +23,7 @@ pub enum LeaseRefusal {
     /// The session's work records reach its budget.
     #[error("{records} records reach the budget of {budget}")]
     Spent { records: u64, budget: u32 },
-    /// Every open leaf is leased; so many leases live.
+    /// Every open leaf is leased. This is the number of leases that live.
     #[error("every open leaf is leased; {live} leases live")]
     NoLeaf { live: usize },
     /// There was no memory for the lease.

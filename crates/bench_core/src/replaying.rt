@@ -125,7 +125,7 @@ fn have_short_ranks(parts: &[Part]) -> bool
     parts.iter().all(|part| has_short_ranks(part))
 }
 
-/// The certificate is of this position, for tables of so many pieces, and each rank is one that a search may give.
+/// The certificate is of this position, for tables of `pieces` pieces, and each rank is one that a search may give.
 fn is_of(c: &Certificate, p: &Position, pieces: u8) -> bool
     ensures { IsTrue result ↔ ((c.now.position ≡ p.now)
         × ((c.now.pieces ≡ pieces) × All HasShortRanks c.now.parts)) }

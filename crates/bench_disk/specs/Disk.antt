@@ -10,13 +10,13 @@ IsHonest tells = IsTrue tells
 abbrev pub written : List ℕ → ℕ → List ℕ → List ℕ
 written old at bytes = take at old ++ bytes ++ drop (at + length bytes) old
 
--- So many bytes from a place on were read into the front of a buffer: as many as there are and as
+-- `count` bytes from place `at` on were read into the front of a buffer: as many as there are and as
 -- it has room for. Behind them the buffer stays.
 pub record HasRead (at : ℕ) (bytes : List ℕ) (count : ℕ) (old new : List ℕ) : Type 0 where
   pub number : count ≡ length (take (length old) (drop at bytes))
   pub filled : new ≡ take (length old) (drop at bytes) ++ drop count old
 
--- Torn by a range of so many bytes from a place on: every byte outside of the range stays. Inside
+-- Torn by a range of `count` bytes from place `at` on: every byte outside of the range stays. Inside
 -- of it and past the old end there may stand anything, and the end lies anywhere from the old one
 -- to that of the range.
 pub record IsTorn (at count : ℕ) (old new : List ℕ) : Type 0 where

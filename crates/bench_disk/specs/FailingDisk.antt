@@ -18,7 +18,7 @@ below shown over = shown over.disk
 abbrev pub faults_of : {D P : Type 0} → (D → ℕ) → FailingDisk D P → ℕ
 faults_of faults over = min (faults over.disk + over.refused) (2 ^ 64 - 1)
 
--- over this disk, with so many calls to pass, and with no fault of its own
+-- over this disk, with this number of calls to pass, and with no fault of its own
 pub record IsFuse {D : Type 0} (over : FailingDisk D Fuse) (disk : D) (pass : ℕ) : Type 0 where
   pub below : over.disk ≡ disk
   pub passing : over.plan.left ≡ pass

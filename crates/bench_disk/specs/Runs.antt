@@ -13,7 +13,7 @@ pub record Leaves {D : Type 0} (moment : D → ℕ) (images_since : D → ℕ �
   pub each : (image : List ℕ) → images_since new (moment old) image → P image
   pub since : GoesOn (moment old) (images_since old) (images_since new)
 
--- an old image, torn by a range of so many bytes from a place on
+-- an old image, torn by a range of this number of bytes from a place on
 abbrev pub TornFrom : ℕ → ℕ → (List ℕ → Type 0) → List ℕ → Type 0
 TornFrom at count old image = (whole : List ℕ) × old whole × IsTorn at count whole image
 

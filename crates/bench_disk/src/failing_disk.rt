@@ -15,7 +15,7 @@ pub struct FailingDisk<D: Disk, P: Plan> {
     refused: u64,
 }
 
-/// Passes so many calls to the disk below and fails every later one.
+/// Passes a number of calls to the disk below and fails every later one.
 pub type FuseDisk<D> = FailingDisk<D, Fuse>;
 
 /// Fails the calls of the device whose numbers it was given, and passes the others to the disk

@@ -15,7 +15,7 @@ pub trait Plan {
         ensures next { self.new ≡ next self.old };
 }
 
-/// Passes so many calls and fails every later one.
+/// Passes a number of calls and fails every later one.
 #[derive(Drop)]
 pub struct Fuse {
     left: u64,

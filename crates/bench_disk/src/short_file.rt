@@ -23,8 +23,8 @@ pub struct ShortFile<P: Plan + Drop> {
 pub type ShortDisk<P> = HandleDisk<ShortFile<P>>;
 
 impl<P: Plan + Drop> HandleDisk<ShortFile<P>> {
-    /// The disk over a file that holds what this disk does, and that reads and writes at most so
-    /// many bytes at a call.
+    /// The disk over a file that holds what this disk does, and that reads and writes at most
+    /// `most` bytes at a call.
     pub fn new(disk: MemoryDisk, plan: P, most: usize) -> ShortDisk<P>
         ensures moment { result.moment ≡ 0 }
         ensures faults { result.faults ≡ 0 }

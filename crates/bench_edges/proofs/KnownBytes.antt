@@ -18,7 +18,7 @@ Consumes-append (Some a) None new xs ys first second = absurd first
 Consumes-append (Some a) (Some b) None xs ys first second = absurd second
 Consumes-append (Some a) (Some b) (Some c) xs ys first second = grind (arith, common_steps)
 
--- the front up to a place, and then so many bytes of what stands from there on
+-- the first i bytes, and then n bytes of what stands from there on
 pub take-add : (xs : List ℕ) (i n : ℕ) → take i xs ++ take n (drop i xs) ≡ take (i + n) xs
 take-add [] i n = grind (arith, common_steps)
 take-add (x ∷ xs) zero n = grind (arith, common_steps)

@@ -3,11 +3,11 @@
 use Rattle.std.specs.Prelude.{◌≡◌, ℕ, ◌<◌, ◌≤◌, List, length, take, Option}
 use Rattle.std.specs.Io.KnownBytes.{Appends, Consumes}
 
--- known bytes begin with some bytes, at most so many, and lose them
+-- known bytes begin with some bytes, at most `most`, and lose them
 abbrev pub ConsumesAtMost : ℕ → Option (List ℕ) → Option (List ℕ) → Type 0
 ConsumesAtMost most old new = (front : List ℕ) × (length front ≤ most) × Consumes old new front
 
--- known bytes begin with so many bytes, and lose them
+-- known bytes begin with `count` bytes, and lose them
 abbrev pub ConsumesJust : ℕ → Option (List ℕ) → Option (List ℕ) → Type 0
 ConsumesJust count old new = (front : List ℕ) × (length front ≡ count) × Consumes old new front
 

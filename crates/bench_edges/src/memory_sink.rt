@@ -55,7 +55,7 @@ impl MemorySink {
         }
     }
 
-    /// The same sink, which takes at most so many bytes a write.
+    /// The same sink, which takes at most `most` bytes a write.
     pub fn at_most(self, most: usize) -> MemorySink
         requires { 0 < most }
         ensures { result ≡ record self { most = most } }

@@ -55,7 +55,7 @@ impl MemorySource {
         }
     }
 
-    /// The same source, which gives at most so many bytes a read.
+    /// The same source, which gives at most `most` bytes a read.
     pub fn at_most(self, most: usize) -> MemorySource
         requires { 0 < most }
         ensures { result ≡ record self { most = most } }

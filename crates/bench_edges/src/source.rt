@@ -59,7 +59,7 @@ pub enum ReadRefusal {
 /// How many bytes are asked of a source at once, at most.
 const CHUNK: usize = 4096;
 
-/// Reads once, at most so many bytes, and puts what came behind `bytes`. Answers how many came.
+/// Reads once, at most `most` bytes, and puts what came behind `bytes`. Answers how many came.
 fn read_more<S: Source>(
     source: &mut S,
     bytes: &mut Vec<u8>,

@@ -17,7 +17,7 @@ pub enum Command {
     Certify(u32),
     /// Check the text of a certificate, which the source holds.
     Verify,
-    /// Write the endgame table of so many pieces, 2 or 3.
+    /// Write the endgame table of this number of pieces, 2 or 3.
     MakeTable(u8),
     /// Check the endgame table that the source holds.
     TableCheck,

@@ -137,7 +137,7 @@ refuses_later f g old middle a (BadField at) first h = fails_later f g old middl
 refuses_later f g old middle a (Trailing at) first h = h
 refuses_later f g old middle a (Memory e) first h = h
 
--- ---- a loop over so many
+-- ---- a loop over a number of items
 
 -- what is still to be read leads to the whole
 pub record GoesOn {A : Type 0} (whole : Format A) (start : Spot) (rest : Format A) (here : Spot) : Type 0 where

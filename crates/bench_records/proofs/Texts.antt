@@ -55,7 +55,7 @@ is-between least most n a b = by (nat_le least n) (nat_le n most) (le-leb least 
 -- ---- many, one behind the other
 
 module _ {X : Type 0} (next : List X → Format X) (text : X → Sheet) (Good : List X → Type 0) where
-  -- what was read of so many behind others
+  -- what was read of n items behind others
   pub record Made (before : List X) (n : ℕ) (all : List X) (bytes : Sheet) : Type 0 where
     pub more : List X
     pub is : all ≡ before ++ more

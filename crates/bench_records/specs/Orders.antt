@@ -18,7 +18,7 @@ use Rattle.bench_records.specs.declared.records.BenchRecord.TheVariants.{Begin, 
 abbrev pub is_between : ℕ → ℕ → ℕ → Bool
 is_between least most n = nat_le least n && nat_le n most
 
--- so many, one behind the other, of which each may look at those before it
+-- a number of items, one behind the other, of which each may look at those before it
 abbrev pub many : {X : Type 0} → ℕ → (List X → Format X) → List X → Format (List X)
 many zero next before = done before
 many (suc n) next before = do

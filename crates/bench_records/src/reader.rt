@@ -202,7 +202,7 @@ impl<'a> Reader<'a> {
         Ok(Square::new(n).unwrap())
     }
 
-    /// A path of so many squares.
+    /// A path of `count` squares.
     fn path(&mut self, count: u8) -> Result<Move, RecordRefusal>
         requires least { 2 ≤ count }
         requires most { count ≤ 13 }

@@ -133,7 +133,7 @@ fn only(alloc: Global, part: Part) -> Result<PartList, AllocError>
     Ok(PartList::from_vec(parts))
 }
 
-/// A certificate of this position, by tables of so many pieces.
+/// A certificate of this position, by tables of `pieces` pieces.
 fn certificate(
     alloc: Global,
     reader: &mut Reader<'_>,
@@ -154,7 +154,7 @@ fn certificate(
     })
 }
 
-/// So many certificates of this position.
+/// `count` certificates of this position.
 fn certificates(
     alloc: Global,
     reader: &mut Reader<'_>,
@@ -264,8 +264,8 @@ fn record(
     Ok(record)
 }
 
-/// The record of which these bytes are a text, of version 1 or 2, in a journal for tables of so many
-/// pieces whose records before named these positions.
+/// The record of which these bytes are a text, of version 1 or 2, in a journal for tables of
+/// `pieces` pieces whose records before named these positions.
 ///
 /// Bytes that are no record's text are refused for what goes wrong first ([`RecordRefusal`]); there
 /// is one refusal of them, and none of the text of a record ([`crate::laws`]). Want of memory may

@@ -162,7 +162,7 @@ fn openings_are_those_of_another_program(rt: HostRuntime) -> Result<(), Fail> {
     Ok(())
 }
 
-/// Whether so many openings of seed 1 are the first ones of these.
+/// Whether `count` openings of seed 1 are the first ones of these.
 fn is_front(alloc: Global, all: &[Position], count: u32) -> Result<bool, AllocError> {
     let some = capture_positions(alloc, 1, count.min(500))?;
     Ok(all.get(..count as usize) == Some(some.as_slice()))

@@ -1,4 +1,4 @@
--- Enough different positions are met: an index is told by its position, for so many indices.
+-- Enough different positions are met: of 2,024 indices each is told by its position.
 use Rattle.std.proofs.Common.{◌≡◌, ℕ, ◌+◌, ◌-◌, ◌*◌, ◌/◌, ◌%◌, ◌≤◌, ◌==◌, ◌&&◌, nat_lt, cond, Bool, List, [], ◌∷◌, length, map, Option, Some, None, refl, ap, ◌∙◌, subst, arith, if◌then◌else◌}
 use Rattle.std.specs.Prelude.{Contains, position}
 use Rattle.std.proofs.lemmas.List.{length-map}

@@ -47,10 +47,10 @@ numbered_position i =
 abbrev pub index_of_step : ℕ → ℕ → ℕ
 index_of_step seed k = (seed * SEED_FACTOR + k * STEP_FACTOR) % INDEX_COUNT
 
--- the positions of the first so many steps
+-- the positions of the first `steps` steps
 abbrev pub walk : ℕ → ℕ → List Board
 walk seed steps = map (λ k. numbered_position (index_of_step seed k)) (range_with_len 0 steps)
 
--- the openings: the first so many different positions that the walk meets, in order
+-- the openings: the first `count` different positions that the walk meets, in order
 abbrev pub openings_from : ℕ → ℕ → List Board
 openings_from seed count = take count (first_places (walk seed INDEX_COUNT))

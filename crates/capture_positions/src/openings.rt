@@ -21,7 +21,7 @@ pub const STEP_FACTOR: u64 = 101;
 /// The most openings that are made from a seed.
 pub const MOST_OPENINGS: u32 = 2_000;
 
-/// The index at which a walk from this seed is after so many steps.
+/// The index at which a walk from this seed is after `step` steps.
 fn index_of_step(seed: u32, step: u32) -> u32
     ensures value { result ≡ index_of_step seed step }
     ensures within { result < INDEX_COUNT }

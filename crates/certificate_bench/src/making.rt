@@ -43,8 +43,8 @@ fn won_position(table: &Table, index: u32) -> Option<(u32, Position)>
     Some((rank, p))
 }
 
-/// The positions of three pieces, of both sides, that White wins, with their ranks: the first so
-/// many in rising rank, those of one rank in the order of their indices.
+/// The positions of three pieces, of both sides, that White wins, with their ranks: the first
+/// `count` in rising rank, those of one rank in the order of their indices.
 fn won_positions(
     alloc: Global,
     table: &Table,
@@ -112,7 +112,7 @@ fn win_part(alloc: Global, table: &Table, won: &[(u32, Position)]) -> Result<Win
 /// A certificate that White wins a position of three pieces, made out of the table of three and
 /// leaning on that of two.
 ///
-/// It has so many entries, or fewer where the table shows no more. Refused where it shows none, and
+/// It has `count` entries, or fewer where the table shows no more. Refused where it shows none, and
 /// for want of memory.
 pub fn make_certificate(alloc: Global, table: &Table, count: usize) -> Result<Certificate>
     ensures pieces { IfOk result (λ c. c.pieces ≡ 2) }

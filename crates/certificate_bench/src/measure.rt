@@ -11,7 +11,7 @@ use std::time::Instant;
 /// How often each is done; the best time counts.
 const RUNS: u32 = 5;
 
-/// Entries a second: so many entries in so many nanoseconds.
+/// Entries a second, if these take this number of nanoseconds.
 fn rate(entries: usize, nanoseconds: u128) -> u128 {
     (entries as u128).saturating_mul(1_000_000_000) / nanoseconds.max(1)
 }

@@ -119,7 +119,7 @@ fn draw_certificate(
     })
 }
 
-/// One certificate of a settled root, counted from 1, that claims its value, for tables of so many pieces.
+/// One certificate of a settled root, counted from 1, that claims its value, for tables of `pieces` pieces.
 ///
 /// The caller knows that every fact of the tree is certified: seen at sight, or claimed or implied by a certificate that
 /// stands on the shelf for its node. Memory and time go by the strategy that is found, and not by the tree. It fails

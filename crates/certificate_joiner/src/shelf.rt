@@ -20,7 +20,7 @@ pub struct PartShelf {
     batches: IndexMap<(u64, usize), ItemList<Certificate>>,
     /// How many batches a node has, by its number.
     counts: IndexMap<u64, usize>,
-    /// For so many more batches room was made.
+    /// How many more batches room was made for.
     spare: usize,
 }
 
@@ -52,7 +52,7 @@ impl PartShelf {
         }
     }
 
-    /// Makes room for so many more batches. After want of memory, which a shelf of 2^57 batches meets too, it is as it
+    /// Makes room for `n` more batches. After want of memory, which a shelf of 2^57 batches meets too, it is as it
     /// was.
     pub fn reserve(&mut self, n: usize) -> Result<(), AllocError>
         ensures puts { self.new.puts ≡ self.old.puts }

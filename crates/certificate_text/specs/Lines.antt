@@ -55,7 +55,7 @@ pub data Line : Type 0 where
   table : ℕ → Line
   position : List ℕ → Line
   claim : Claim → Line
-  -- a win part and a hold part begins, with so many entries
+  -- a win part and a hold part begins, with this number of entries
   win : Side → ℕ → Line
   hold : Side → ℕ → Line
   -- an entry of a win part with its rank, one of a hold part, each with its move if one is chosen

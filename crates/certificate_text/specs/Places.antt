@@ -14,7 +14,7 @@ pub data Place : Type 0 where
   at_claim : ℕ → Board → Place
   -- a part's first line or `end`, behind the certificate so far
   at_part : Certificate → Place
-  -- one of so many more entries of this part, which is not yet among the certificate's
+  -- one of this number of further entries of the part, which is not yet among the certificate's
   at_entry : Certificate → Part → ℕ → Place
   -- no line: the certificate is whole
   at_end : Certificate → Place

@@ -58,7 +58,7 @@ AddsLine old line new = ⊥
 abbrev pub with_part : Certificate → Part → Certificate
 with_part c part = record c { parts = c.parts ++ part ∷ [] }
 
--- what is due where so many entries of the part are left
+-- what is due where this number of entries of the part are left
 abbrev pub settled : Certificate → Part → ℕ → Place
 settled c part zero = at_part (with_part c part)
 settled c part (suc n) = at_entry c part (suc n)

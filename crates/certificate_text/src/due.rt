@@ -29,7 +29,7 @@ pub(crate) enum Due {
     Claim(u8, Position),
     /// A part's first line or `end`, behind the certificate so far.
     Part(Certificate),
-    /// One of so many more entries of this part, which is not yet among the certificate's.
+    /// One of this number of further entries of the part, which is not yet among the certificate's.
     Entry(Certificate, Part, u32),
     /// No line: the certificate is whole.
     Nothing(Certificate),
@@ -49,7 +49,7 @@ fn with_part(c: Certificate, part: Part) -> Result<Certificate, AllocError>
     })
 }
 
-/// What is due where so many entries of the part are left.
+/// What is due where `left` entries of the part are left.
 fn settled(c: Certificate, part: Part, left: u32) -> Result<Due, AllocError>
     ensures { IfOk result (λ next. place_due next ≡ settled c part left) }
 {

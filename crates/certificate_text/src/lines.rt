@@ -171,9 +171,9 @@ pub(crate) fn claim_of(line: &[u8]) -> Option<Claim>
 /// A line behind a whole part.
 #[derive(Clone, Copy)]
 pub(crate) enum Heading {
-    /// A win part with so many entries begins.
+    /// A win part with this number of entries begins.
     Win(Side, u32),
-    /// A hold part with so many entries begins.
+    /// A hold part with this number of entries begins.
     Hold(Side, u32),
     /// The text ends.
     End,

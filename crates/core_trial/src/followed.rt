@@ -7,7 +7,7 @@ use lease_table::{Lease, Leases};
 use proof_tree::{NodeId, Taken};
 use std::alloc::{AllocError, Global};
 
-/// So many leases are alive at a time at most, that which is given last among them.
+/// How many leases are alive at a time at most, that which is given last among them.
 pub(crate) const MOST_ALIVE: u32 = 64;
 
 /// Marked nodes. Whether a node is marked takes one step.
@@ -41,16 +41,16 @@ impl MarkedNodes {
     }
 }
 
-/// The leases that a bench gave last, of which so many are alive when the next is given.
+/// The leases that a bench gave last. A constant number of them is alive when the next is given.
 #[derive(Drop)]
 pub(crate) struct Followed {
-    /// So many are alive once a lease is given, that one among them.
+    /// How many are alive once a lease is given, that one among them.
     alive: u32,
     /// The table by which a bench would know them.
     leases: Leases,
     /// The same by marks.
     marks: MarkedNodes,
-    /// The node of each of the last leases, at the place of its number modulo so many.
+    /// The node of each of the last leases, at the place of its number modulo their count.
     recent: [u64; MOST_ALIVE as usize],
     /// The number of the last lease.
     last: u128,
@@ -74,7 +74,7 @@ fn give_again(leases: &mut Leases, lease: &Lease) -> Result<()> {
 }
 
 impl Followed {
-    /// No lease was given, in a tree of so many nodes. Of those that will be, so many are alive once one is given.
+    /// No lease was given, in a tree of `nodes` nodes. Of those that will be, `alive` are alive once one is given.
     pub(crate) fn new(alloc: Global, alive: u32, nodes: usize) -> Result<Followed, AllocError> {
         Ok(Followed {
             alive,

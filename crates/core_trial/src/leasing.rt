@@ -6,16 +6,16 @@ use endgame_table::Table;
 use lease_table::LeaseId;
 use std::alloc::Global;
 
-/// By so many searches the tree grows.
+/// By how many searches the tree grows.
 const SEARCHES: u32 = 500;
 
-/// So many workers ask in turn; a lease that is not released lasts for as many leases given.
+/// How many workers ask in turn; a lease that is not released lasts for as many leases given.
 pub(crate) const WORKERS: u32 = 64;
 
-/// So many are given where each is compared with those before it.
+/// How many are given where each is compared with those before it.
 const COMPARED: u32 = 100_000;
 
-/// So many work records a session may have.
+/// How many work records a session may have.
 pub(crate) const BUDGET: u32 = 1_000_000;
 
 /// The first position of a game begins as a root, and is applied.
@@ -37,14 +37,14 @@ fn search_next(alloc: Global, bench: &mut TabledBench<'_>) -> Result<()> {
     Ok(())
 }
 
-/// Releases the lease that so many followed, of which this is the last, if it lives.
+/// Releases the lease that `followed` followed, of which this is the last, if it lives.
 pub(crate) fn release_earlier(bench: &mut TabledBench<'_>, id: LeaseId, followed: u32) {
     if let Some(number) = id.number().checked_sub(u128::from(followed)) {
         let _is_released = bench.release(LeaseId::new(number)).is_ok();
     }
 }
 
-/// Gives so many leases. Each is released when so many more were given, or abandoned. The highest number of a node among
+/// Gives `count` leases. Each is released when `released` more were given, or abandoned. The highest number of a node among
 /// them.
 pub(crate) fn give(bench: &mut TabledBench<'_>, count: u32, released: Option<u32>) -> Result<u64> {
     let mut highest = 0;
@@ -67,7 +67,7 @@ pub(crate) fn grow(alloc: Global, bench: &mut TabledBench<'_>) -> Result<()> {
     Ok(())
 }
 
-/// Gives so many leases. How many of them are of a leaf that one of the 63 before them is of.
+/// Gives `count` leases. How many of them are of a leaf that one of the 63 before them is of.
 fn give_apart(bench: &mut TabledBench<'_>, count: u32) -> Result<u32> {
     let mut repeated = 0u32;
     let mut recent = [u64::MAX; WORKERS as usize];

@@ -70,7 +70,7 @@ const PLANS: [Plan; 4] = [
     },
 ];
 
-/// So many lists are played by each setting.
+/// How many lists are played by each setting.
 const LISTS: u64 = 500;
 
 /// Plays the lists of a plan, and prints what came of them.

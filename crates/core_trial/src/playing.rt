@@ -269,7 +269,7 @@ fn compare(alloc: Global, played: &Match<'_>, again: &TabledBench<'_>) -> Result
     Ok(tally)
 }
 
-/// So many events happen, and what is staged then is applied.
+/// `events` events happen, and what is staged then is applied.
 fn happen_all(alloc: Global, events: u32, played: &mut Match<'_>) -> Result<()> {
     for _ in 0..events {
         played.step(alloc)?;

@@ -10,7 +10,7 @@ use proof_tree::MOST_ROOTS;
 use std::alloc::{AllocError, Global};
 use std::marker::Model;
 
-/// So many leases are asked for at most.
+/// How many leases are asked for at most.
 const MOST_ASKED: u128 = 2_000_000;
 
 /// A bench, and the table that it is for. A contract sees the bench.

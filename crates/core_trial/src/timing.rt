@@ -16,13 +16,13 @@ use std::time::Instant;
 /// A lease that is to be released lasts for this many leases given.
 const LONG: u32 = 1_000_000_000;
 
-/// So many leases are given between the first that are timed and the last.
+/// How many leases are given between the first that are timed and the last.
 const LEASES: u32 = 1_000_000;
 
-/// Of so many leases the time is taken.
+/// Of how many leases the time is taken.
 const TIMED: u32 = 10_000;
 
-/// Behind each of as many leases as there are workers, the time of so many picks is taken.
+/// How many picks are timed behind each of as many leases as there are workers.
 const PICKS: u32 = 200;
 
 /// Roots begin below this number.
@@ -32,13 +32,13 @@ const MOST_KINGS: u32 = 1 << 20;
 #[derive(Clone, Copy)]
 struct Habit {
     name: &'static str,
-    /// So many roots are settled, and stand before the one at which leaves are leased.
+    /// How many roots are settled, and stand before the one at which leaves are leased.
     settled: u32,
-    /// So many leases are alive once one is given.
+    /// How many leases are alive once one is given.
     alive: u32,
     /// For how many leases given a lease lasts.
     lease: u32,
-    /// Each is released when so many more were given; none: they are abandoned, and run out.
+    /// After how many further leases each is released; none: they are abandoned, and run out.
     released: Option<u32>,
 }
 
@@ -62,7 +62,7 @@ fn begin_kings(bench: &mut TabledBench<'_>, kings: u32) -> Result<bool> {
     }
 }
 
-/// So many roots begin that are settled at sight, and are applied.
+/// `count` roots begin that are settled at sight, and are applied.
 fn begin_settled(bench: &mut TabledBench<'_>, count: u32) -> Result<()> {
     let mut begun = 0u32;
     for kings in 1..MOST_KINGS {
@@ -263,7 +263,7 @@ fn time_released(rt: &(impl Print + Clock + Alloc<A = Global>), table: &Table) -
     time_habit(rt, table, &habit)
 }
 
-/// As many are alive as there are workers, all abandoned, where so many settled roots stand before the one that is not.
+/// As many are alive as there are workers, all abandoned, where `settled` settled roots stand before the one that is not.
 fn time_abandoned(
     rt: &(impl Print + Clock + Alloc<A = Global>),
     table: &Table,

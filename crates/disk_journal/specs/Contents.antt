@@ -16,7 +16,7 @@ pub record HasContents (file : List ℕ) (c : Contents) : Type 0 where
   pub payloads : HasPayloads c.pieces file c.payloads
   pub places : HasPlaces c.pieces file c.places
 
--- it says this where a journal for so many pieces is asked for
+-- it says this where a journal for this number of pieces is asked for
 abbrev pub IsAttachedAs : List ℕ → ℕ → Contents → Type 0
 IsAttachedAs file asked c = HasContents file c × (c.pieces ≡ asked)
 

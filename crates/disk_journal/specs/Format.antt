@@ -7,7 +7,7 @@ use Rattle.std.specs.Int.{to_be_bytes, w32, w64}
 abbrev pub IsPieceCount : ℕ → Type 0
 IsPieceCount pieces = (pieces ≡ 2) ⊎ (pieces ≡ 3)
 
--- the head of a journal for endgame tables of so many pieces
+-- the head of a journal for endgame tables of this number of pieces
 abbrev pub file_head : ℕ → List ℕ
 file_head pieces = codes "DRBENCH" ++ pieces ∷ []
 
@@ -62,7 +62,7 @@ pub record IsJournal (pieces : ℕ) (frames : List (List (List ℕ))) (file : Li
 abbrev pub IsFresh : List ℕ → Type 0
 IsFresh file = length file ≤ 9
 
--- For tables of so many pieces the file stands for these payloads: it is fresh and they are none,
+-- For tables of this number of pieces the file stands for these payloads: it is fresh and they are none,
 -- or it is a journal and they are those of its frames, in order.
 abbrev pub HasPayloads : ℕ → List ℕ → List (List ℕ) → Type 0
 HasPayloads pieces file payloads =

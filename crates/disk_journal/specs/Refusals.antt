@@ -4,7 +4,7 @@ use Rattle.disk_journal.specs.Format.{IsFrame, IsPayload, IsPieceCount, behind_g
 use Rattle.disk_journal.specs.declared.refusal.JournalRefusal.{JournalRefusal}
 use Rattle.disk_journal.specs.declared.refusal.JournalRefusal.TheVariants.{DiskFault, NotAJournal, OtherTable, Damaged, Memory}
 
--- the file begins with a head for so many pieces
+-- the file begins with a head for this number of pieces
 abbrev pub HasHead : ℕ → List ℕ → Type 0
 HasHead pieces file = IsPieceCount pieces × (take 8 file ≡ file_head pieces)
 
@@ -44,7 +44,7 @@ says_nothing_of_file DiskFault = true
 says_nothing_of_file (Memory error) = true
 says_nothing_of_file other = false
 
--- the file is refused so where a journal for so many pieces is asked for
+-- the file is refused so where a journal for this number of pieces is asked for
 abbrev pub Explains : List ℕ → ℕ → JournalRefusal → Type 0
 Explains file asked NotAJournal = IsForeign file
 Explains file asked (OtherTable found wanted) =

@@ -13,7 +13,7 @@ use Rattle.disk_journal.specs.declared.gate.Gate.TheVariants.{Closed, Broken, Op
 abbrev pub IsClosed : List ℕ → Type 0
 IsClosed rest = (gate : ℕ) × (more : List ℕ) × (rest ≡ gate ∷ more) × (gate ≢ 1)
 
--- an open gate, the length of a body that is not empty, and at least so many bytes
+-- an open gate, the length of a body that is not empty, and at least that number of bytes
 pub record IsOpen (len : ℕ) (rest : List ℕ) : Type 0 where
   pub some : 0 < len
   pub within : 9 + len ≤ length rest

@@ -10,7 +10,7 @@ pub enum Gate {
     Closed,
     /// The file ends, or the gate is open and no whole body stands behind it.
     Broken,
-    /// An open gate, and behind it the body of a frame, of so many bytes.
+    /// An open gate, and behind it the body of a frame, of this number of bytes.
     Open(u64),
 }
 

@@ -19,7 +19,7 @@ use std::marker::Model;
 
 const MOST_PAYLOAD: usize = (1 << 32) - 1;
 
-/// So many payloads stand in the journal, acknowledged at that moment of the disk.
+/// How many payloads stand in the journal, acknowledged at that moment of the disk.
 #[derive(Clone, Copy, Debug, PartialEq, Eq)]
 pub struct Receipt {
     pub number: u64,

@@ -43,7 +43,7 @@ pub fn read_journal<D: Disk>(
     Ok((pieces, found.payloads))
 }
 
-/// Reads a journal for tables of these pieces on a disk of so many bytes.
+/// Reads a journal for tables of these pieces on a disk of `len` bytes.
 fn read_asked<D: Disk>(
     alloc: Global,
     disk: &mut D,

@@ -36,7 +36,7 @@ pub fn read_head<D: Disk>(disk: &mut D) -> Result<u8, JournalRefusal>
     }
 }
 
-/// What stands at a gate's place, on a disk of so many bytes.
+/// What stands at a gate's place, on a disk of `len` bytes.
 fn read_gate<D: Disk>(disk: &mut D, len: u64, gate: u64) -> Result<Gate, DiskFault>
     requires len { IsHonest D.TELLS → len ≡ length (D.reads disk.old) }
     requires within { gate ≤ len }
@@ -75,7 +75,7 @@ fn find_gate<D: Disk>(disk: &mut D, len: &mut u64, gate: u64) -> Result<Gate, Jo
     Ok(read_gate(disk, count, gate)?)
 }
 
-/// Fills the buffer with the bytes from a place on, and tells whether there were so many.
+/// Fills the buffer with the bytes from place `at` on, and tells whether there were enough.
 fn fill<D: Disk>(disk: &mut D, at: u64, into: &mut [u8]) -> Result<bool, DiskFault>
     ensures bytes { IsHonest D.TELLS → IfOk result (λ whole. MatchBool whole
         (into.new ≡ take (length into.old) (drop at (D.reads disk.old)))

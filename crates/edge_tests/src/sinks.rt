@@ -12,7 +12,7 @@ fn written<S: Sink>(sink: &mut S, text: &[u8]) -> bool {
     write_all(sink, text).is_ok()
 }
 
-/// Two texts and an empty one are written, at most so many bytes in one write.
+/// Two texts and an empty one are written, at most `most` bytes in one write.
 fn expect_whole(rt: &impl Abort, alloc: Global, most: usize)
     requires { 0 < most }
 {
@@ -29,7 +29,7 @@ fn texts_are_written_whole(rt: HostRuntime) {
     expect_whole(&rt, rt.alloc(), 100);
 }
 
-/// Whether the sink has taken these bytes, in so many calls, and failed so often.
+/// Whether the sink has taken these bytes, in `calls` calls of which `faults` failed.
 fn has_taken(sink: &MemorySink, bytes: &[u8], calls: u64, faults: u64) -> bool {
     sink.bytes() == bytes && sink.calls() == calls && sink.faults() == faults
 }

@@ -30,7 +30,7 @@ fn has_left(source: &MemorySource, bytes: &[u8], calls: u64, faults: u64) -> boo
     source.left() == bytes && source.calls() == calls && source.faults() == faults
 }
 
-/// Ten thousand sevens are read whole, at most so many in one read and so in so many reads.
+/// Ten thousand sevens are read whole, at most `most` in one read and so in `calls` reads.
 fn expect_whole(rt: &impl Abort, alloc: Global, most: usize, calls: u64) -> Result<(), AllocError>
     requires { 0 < most }
 {

@@ -23,7 +23,7 @@ impl Iterator for Bits {
     }
 }
 
-/// The lowest bits of the mask, so many of them.
+/// The `count` lowest bits of the mask.
 pub(crate) fn lowest_bits(mask: u32, count: u32) -> u32 {
     let mut lowest = 0;
     for bit in Bits(mask).take(count as usize) {

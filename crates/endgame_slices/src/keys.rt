@@ -59,7 +59,7 @@ pub(crate) fn is_crowned_on(side: Side, square: u32) -> bool {
 }
 
 impl SliceKey {
-    /// The key of the slice with these men and so many kings.
+    /// The key of the slice with these men and these numbers of kings.
     pub(crate) fn new(
         black_men: u32,
         white_men: u32,
@@ -129,7 +129,7 @@ impl SliceKey {
             .saturating_mul(2)
     }
 
-    /// The key with these in place of the side's men, and so many kings of it.
+    /// The key with these in place of the side's men, and `kings` kings of it.
     fn with(&self, side: Side, men: u32, kings: u32) -> SliceKey {
         match side {
             Side::Black => SliceKey::new(men, self.white_men, kings, self.white_kings),

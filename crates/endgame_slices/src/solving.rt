@@ -128,7 +128,7 @@ impl<O: Oracle> Work<'_, '_, O> {
     }
 }
 
-/// So many zeros.
+/// `count` zeros.
 fn zeros(alloc: Global, count: u64) -> Result<Vec<u8>, AllocError> {
     let mut numbers = Vec::new(alloc);
     numbers.resize(count as usize, 0)?;

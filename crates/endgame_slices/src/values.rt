@@ -27,7 +27,7 @@ pub(crate) fn one_more(value: u8) -> u8
     if value < MOST_VALUE { value + 1 } else { OPEN }
 }
 
-/// The value of a position that takes so many plies to its end.
+/// The value of a position that takes `plies` plies to its end.
 fn value_of(plies: u32) -> u8 {
     match u8::try_from(plies) {
         Ok(plies) => one_more(plies),

@@ -72,7 +72,7 @@ unfolding lowered
 length-lowered [] waiting = refl
 length-lowered (x ∷ touched) waiting = length-lowered touched (lower waiting x) ∙ length-set waiting x (slice_index waiting x - 1)
 
--- so many targets are waited for still
+-- enough targets are waited for still
 pub enough-left : (a b waiting : List ℕ) → ((i : ℕ) → times i (a ++ b) ≤ slice_index waiting i) → (i : ℕ) → times i b ≤ slice_index (lowered a waiting) i
 enough-left a b waiting enough i = omega (arith, enough i, times-append i a b, lowered-at a waiting i)
 
@@ -109,7 +109,7 @@ last-end number all waiting less first now found more rest = record { waiting_ar
 
 -- ---- what it makes of a number
 
--- k times touched, an index that waits for so many targets after has this number after, and stands n times among those
+-- k times touched, an index that waits for n targets after has this number after, and stands n times among those
 -- found
 pub data IsMarkedLast (number before k waits after n : ℕ) : Type 0 where
   settled' : before ≢ 0 → after ≡ before → n ≡ 0 → IsMarkedLast number before k waits after n

@@ -9,7 +9,7 @@ module _ (links : List Link) (are : AreLinks links) where
   next-less : (place : ℕ) → place ≢ 0 → (link_at links place).next < place
   next-less place some = let less = are (place - 1) in omega arith
 
-  -- so many are enough
+  -- a fuel of at least the place is enough
   enough : (f g place : ℕ) → place ≤ f → place ≤ g → origins_within f links place ≡ origins_within g links place
   unfolding origins_within
   enough zero zero place a b = refl

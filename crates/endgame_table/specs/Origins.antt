@@ -33,7 +33,7 @@ AreLinks links = (k : ℕ) → (slice_index_or links k no_link).next ≤ k
 abbrev pub origins_at : Origins → ℕ → List ℕ
 origins_at o target = origins_from o.links.items (slice_index o.heads.items target)
 
--- lists of origins for so many indices, each origin one of them
+-- lists of origins for `count` indices, each origin one of them
 pub record AreOrigins (o : Origins) (count : ℕ) : Type 0 where
   pub links : AreLinks o.links.items
   pub heads : length o.heads.items ≡ count

@@ -26,7 +26,7 @@ pub record Listing : Type 0 where
   pub rows : List (List ℕ)
   pub first : List ℕ
 
--- those of the first so many indices
+-- those of the first `count` indices
 unfoldable pub moves_of : ℕ → Listing
 moves_of count = record {
   rows = map (λ i. indices_after (position_at i)) (range_with_len 0 count);

@@ -89,7 +89,7 @@ fn add_lost(index: u32, number: u32, lost: &mut Vec<u32>) -> Result<(), AllocErr
     Ok(())
 }
 
-/// The moves of a table of so many pieces.
+/// The moves of a table of `pieces` pieces.
 pub(crate) fn list_moves(alloc: Global, pieces: u8) -> Result<Moves, AllocError>
     requires { IsTableSize pieces }
     ensures { IfOk result (λ m. let listing = moves_of (entry_count pieces) in

@@ -4,7 +4,7 @@
 //! array is counted from 1, so that 0 is the end of a list.
 use std::alloc::{AllocError, Global};
 
-/// So many links there may be, since a place is kept in 32 bits.
+/// How many links there may be, since a place is kept in 32 bits.
 pub(crate) const MOST_LINKS: usize = 4_294_967_295;
 
 /// One origin, and the place of the next link of its list.
@@ -24,7 +24,7 @@ pub(crate) struct Origins {
 impl Origins {
     ghost use Rattle.std.specs.Prelude.{◌≡◌, ◌<◌, ◌≤◌, ◌+◌, ◌++◌, ◌∷◌, [], length, replicate, slice_index, slice_set, IfOk, OnOk};
 
-    /// No origins of so many indices.
+    /// No origins of `count` indices.
     pub(crate) fn none(alloc: Global, count: usize) -> Result<Origins, AllocError>
         ensures heads { IfOk result (λ o. o.heads.items ≡ replicate count 0) }
         ensures links { IfOk result (λ o. o.links.items ≡ []) }

@@ -102,7 +102,7 @@ pub no_comma : (rest : List ℕ) → begins 44 rest ≡ false → after_comma re
 no_comma [] e = refl
 no_comma (b ∷ rest) e = rw e refl
 
--- the blanks in front are so many, and none follows
+-- n blanks stand in front, and none follows
 pub blanks_read : (bytes : List ℕ) → (n : ℕ) × (bytes ≡ replicate n 32 ++ without_blanks bytes) × (begins 32 (without_blanks bytes) ≡ false)
 blanks_read [] = (0, refl, refl)
 blanks_read (b ∷ behind) =

@@ -20,7 +20,7 @@ abbrev pub last_stops : Item → List Item → List ℕ → Bool
 last_stops i [] rest = stops i.first i.last rest
 last_stops i (j ∷ items) rest = last_stops j items rest
 
--- the first of these items, if there is one, has so many blanks before it
+-- the first of these items, if there is one, has this number of blanks before it
 abbrev pub HasBlanks : ℕ → List Item → Type 0
 HasBlanks blanks [] = Unit {0}
 HasBlanks blanks (i ∷ items) = i.blanks ≡ blanks

@@ -31,7 +31,7 @@ pub data FenPlace : Type 0 where
   at_other_colour : Side → Side → List Item → FenPlace
   -- behind a letter of colour
   at_list : Introduction → FenPlace
-  -- in an item, behind the items before it and a comma with so many blanks
+  -- in an item, behind the items before it and a comma with this number of blanks
   in_item : Introduction → List Item → ℕ → Started → FenPlace
   -- behind an item, and the items before it
   behind_item : Introduction → List Item → Item → FenPlace

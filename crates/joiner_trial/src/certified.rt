@@ -13,7 +13,7 @@ use swift_sight::{child_at_sight, children_at_sight};
 /// How many positions a memory of searches keeps.
 const REMEMBERED: usize = 1_024;
 
-/// A tree of so many nodes is full, and is worked on no more.
+/// A tree of this number of nodes is full, and is worked on no more.
 const MOST_NODES: usize = 100_000;
 
 /// A proof tree, and a shelf with what shows the facts in it that are not seen at sight. Roots and children come with
@@ -125,7 +125,7 @@ impl<'a> CertifiedTree<'a> {
         Ok(())
     }
 
-    /// Searches a leaf so many plies ahead for what settles the goal, and expands it where too little is found, unless the
+    /// Searches a leaf `depth` plies ahead for what settles the goal, and expands it where too little is found, unless the
     /// tree is full. Whether it did.
     pub(crate) fn work(
         &mut self,

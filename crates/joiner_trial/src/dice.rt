@@ -37,7 +37,7 @@ impl Dice {
         }
     }
 
-    /// A position of at most so many pieces; none where the pieces that were rolled are none.
+    /// A position of at most `pieces` pieces; none where the pieces that were rolled are none.
     pub(crate) fn position(&mut self, pieces: u8) -> Option<Position> {
         let mut cells = [Cell::Empty; 32];
         for _ in 0..pieces {

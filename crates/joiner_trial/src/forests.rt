@@ -17,11 +17,11 @@ pub(crate) struct Forests {
     /// By this the positions are rolled, and how far ahead a leaf is searched.
     pub(crate) seed: u64,
     pub(crate) count: u32,
-    /// So many positions are rolled for the roots of a forest.
+    /// How many positions are rolled for the roots of a forest.
     pub(crate) rolls: u32,
-    /// A root has at most so many pieces.
+    /// How many pieces a root has at most.
     pub(crate) pieces: u8,
-    /// In a forest so many leaves are worked on, or fewer where each root is settled before.
+    /// How many leaves are worked on in a forest, or fewer where each root is settled before.
     pub(crate) turns: u32,
 }
 
@@ -56,7 +56,7 @@ fn plant(
     Ok(())
 }
 
-/// Works on so many leaves, each the one that is picked next, or fewer where none is left or the tree is full.
+/// Works on `turns` leaves, each the one that is picked next, or fewer where none is left or the tree is full.
 fn grow(
     alloc: Global,
     turns: u32,

@@ -14,9 +14,9 @@ pub(crate) struct Tally {
     draws: u32,
     /// Of the joined certificates together.
     entries: usize,
-    /// So many settled roots the table of three has too.
+    /// How many settled roots the table of three has too.
     compared: u32,
-    /// Of so many of them the table of three says another value.
+    /// Of how many of them the table of three says another value.
     unlike: u32,
 }
 

@@ -11,7 +11,7 @@ pub const SHORT: usize = 86;
 
 pub const LONG: usize = 1 << 20;
 
-/// A payload of so many bytes.
+/// A payload of `size` bytes.
 pub fn payload_of(alloc: Global, size: usize) -> Result<Vec<u8>, AllocError>
     ensures { IfOk result (λ payload. length payload.items ≡ size) }
 {
@@ -30,7 +30,7 @@ pub fn attach<D: Disk + Drop>(alloc: Global, disk: D) -> Result<Journal<D>>
     }
 }
 
-/// Stages a payload so many times, and commits what is staged.
+/// Stages a payload `at_once` times, and commits what is staged.
 fn commit<D: Disk>(journal: &mut Journal<D>, payload: &[u8], at_once: usize) -> Result<()>
     requires unfailed { journal.old.failed ≡ false }
     requires some { 0 < length payload.now }
@@ -43,7 +43,7 @@ fn commit<D: Disk>(journal: &mut Journal<D>, payload: &[u8], at_once: usize) -> 
     Ok(())
 }
 
-/// Commits so many times, with so many payloads each.
+/// Commits `commits` times, with `at_once` payloads each.
 pub fn commit_often<D: Disk>(
     journal: &mut Journal<D>,
     payload: &[u8],

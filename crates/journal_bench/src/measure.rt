@@ -11,12 +11,12 @@ use std::time::Instant;
 /// How often is committed.
 const COMMITS: u64 = 400;
 
-/// How many there are a second, of so many in so many microseconds.
+/// How many there are a second, if `count` take this number of microseconds.
 fn per_second(count: u64, microseconds: u128) -> u128 {
     u128::from(count) * 1_000_000 / microseconds.max(1)
 }
 
-/// Microseconds that so many commits take on a new journal.
+/// Microseconds that a number of commits takes on a new journal.
 fn time_commits<D: Disk + Drop>(rt: &HostRuntime, disk: D, at_once: usize) -> Result<u128> {
     let payload = payload_of(rt.alloc(), SHORT)?;
     let mut journal = attach(rt.alloc(), disk)?;
@@ -25,7 +25,7 @@ fn time_commits<D: Disk + Drop>(rt: &HostRuntime, disk: D, at_once: usize) -> Re
     Ok(start.elapsed(rt)?.as_micros())
 }
 
-/// Microseconds that so many writes of a frame's size take on a disk, one behind another and each
+/// Microseconds that a number of writes of a frame's size takes on a disk, one behind another and each
 /// with a sync.
 fn time_writes<D: Disk + Drop>(rt: &HostRuntime, disk: D, size: usize) -> Result<u128> {
     let mut disk = disk;

@@ -58,7 +58,7 @@ certifies_from k j file roots n (Ok c) same has joined settled =
     record { pieces = j; roots = roots; has = subst (λ m. HasForest m file roots) same has; claims = claims_from j roots n c settled joined }
 certifies_from k j file roots n (Err refusal) same has joined settled = tt
 
--- a certificate is for tables of so many pieces
+-- a certificate is for tables of this number of pieces
 pub size_from : (k j : ℕ) (roots : Forest) (n : ℕ) (answer : Result Certificate LookRefusal) → k ≡ j → IsTableSize k
     → IfOk answer (λ c. IfSome (slice_get (nodes roots) (n - 1)) (λ x. IfSome (value_of x) (λ v. IsJoined j x.own.position (claim_for v) c)))
     → OnOk answer (OfRoot roots n (λ x. IsSome (value_of x))) → IfOk answer (λ c. IsTableSize c.pieces)

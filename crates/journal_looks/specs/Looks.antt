@@ -23,7 +23,7 @@ use Rattle.proof_tree.specs.declared.tree.TheConstants.{MOST_ROOTS}
 
 -- ---- what a file shows
 
--- For tables of so many pieces the file reads as records, and these are the roots of their forest.
+-- For tables of this number of pieces the file reads as records, and these are the roots of their forest.
 pub record HasForest (pieces : ℕ) (file : List ℕ) (roots : Forest) : Type 0 where
   pub records : List BenchRecord
   pub read : ReadsRecords pieces file records
@@ -43,7 +43,7 @@ abbrev pub IsNthRoot : ℕ → Forest → Node → Type 0
 IsNthRoot n roots root = (1 ≤ n) × (slice_get (nodes roots) (n - 1) ≡ Some root)
 
 -- The nth root has a value, and the certificate claims it: it is a good one of the root's position,
--- for tables of so many pieces.
+-- for tables of this number of pieces.
 pub record ClaimsRoot (pieces : ℕ) (roots : Forest) (n : ℕ) (c : Certificate) : Type 0 where
   pub root : Node
   pub there : IsNthRoot n roots root

@@ -15,7 +15,7 @@ use endgame_table::{Table, fill};
 use std::alloc::Global;
 use tree_manager::replay_payloads;
 
-/// A bench that has replayed the records of these payloads, and the table of so many pieces, which
+/// A bench that has replayed the records of these payloads, and the table of `pieces` pieces, which
 /// they are for.
 fn bench_of(
     alloc: Global,

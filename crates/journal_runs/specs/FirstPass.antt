@@ -51,7 +51,7 @@ IsUnsettledRoot n (node own children others) =
     ⊎ IsUnsettledRoot n others
 
 -- Each root without a value is unexpanded, and each lease is of one of them. For each there is a work
--- record, and a lease that was given or one of so many that are still to come, by which none runs out.
+-- record, and a lease that was given or one of the `rest` that are still to come, by which none runs out.
 pub record IsPassing (s : CoreState) (rest : ℕ) : Type 0 where
   pub sound : IsSoundState s
   pub fresh : Each IsSettledOrFresh (nodes s.forest)

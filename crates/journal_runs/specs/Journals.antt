@@ -1,5 +1,5 @@
--- What a run leaves of the journal on its disk, and what it writes of it. Tables are of so many
--- pieces.
+-- What a run leaves of the journal on its disk, and what it writes of it. Tables are of a given
+-- number of pieces.
 use Rattle.std.specs.Prelude.{◌≡◌, ◌≤◌, ◌<◌, ◌⊎◌, ◌+◌, ℕ, Bool, true, false, List, ◌++◌, count_by, length, Contains}
 use Rattle.std.specs.Bool.{OnFalse}
 use Rattle.std.specs.List.{AllByRecursion as Each}
@@ -119,7 +119,7 @@ IsTrueAccount Summary positions text = CountsRoots positions text
 
 -- ---- why a run is refused
 
--- The file reads as no records for tables of so many pieces, and this is a cause: of the journal, or
+-- The file reads as no records for tables of this number of pieces, and this is a cause: of the journal, or
 -- of a payload.
 pub record IsUnreadFor (pieces : ℕ) (file : List ℕ) (cause : JournalRefusal) : Type 0 where
   pub stands : Explains file pieces cause ⊎ ExplainsReplay file pieces cause

@@ -27,7 +27,7 @@ use strategy_certificate::Oracle;
 use tree_manager::{RootCounts, Session, StageRefusal};
 use worker_gate::{Ended, Gate, LeafFound, search_together};
 
-/// So many roots are searched in the first pass at most: while a root waits, each pick looks at it.
+/// How many roots are searched in the first pass at most: while a root waits, each pick looks at it.
 const MOST_FIRST: usize = 4_096;
 
 /// How many roots there are for each worker between two commits.

@@ -262,7 +262,7 @@ fn are_numbered(payloads: &[Payload]) -> bool {
     numbered
 }
 
-/// Stops where the commit of which so many calls were passed, of at most four, did not tell what it
+/// Stops where the commit of which `passed` calls were passed, of at most four, did not tell what it
 /// should, or where a crash leaves what it should not.
 fn compare_crash(
     rt: &impl Abort,
@@ -288,7 +288,7 @@ fn compare_crash(
     Ok(())
 }
 
-/// A crash behind so many calls of the commit, at a disk that tells its bytes and at one that does
+/// A crash behind `calls` calls of the commit, at a disk that tells its bytes and at one that does
 /// not.
 fn crash_behind(
     rt: &impl Abort,
@@ -448,7 +448,7 @@ fn reads_each_changed_byte_by_the_format(rt: HostRuntime) -> Result<(), Fail> {
     Ok(())
 }
 
-/// Stops where so many bytes of the five payloads are not read by the format.
+/// Stops where this number of bytes of the five payloads are not read by the format.
 fn cut_at(rt: &impl Abort, alloc: Global, bytes: &[u8]) -> Result<(), AllocError> {
     let end = bytes.len();
     let wanted = match end {

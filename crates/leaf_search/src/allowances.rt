@@ -7,7 +7,7 @@ use draughts_board::{Position, Side};
 /// Up to this depth nothing is spent beyond what the depth demands.
 pub(crate) const PLAIN_DEPTH: u8 = 4;
 
-/// Nothing is spent on a position with so many pieces more than the tables: nothing is found there.
+/// Nothing is spent on a position with this number of pieces more than the tables: nothing is found there.
 const FAR_FROM_TABLES: u8 = 7;
 
 /// No search works out more positions slice by slice, at one byte each.

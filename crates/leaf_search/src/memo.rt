@@ -39,7 +39,7 @@ impl Memo {
     ghost use Rattle.draughts_board.specs.Game.{ShowsWin};
     ghost use Rattle.strategy_certificate.specs.Tables.{IsTableSize};
 
-    /// An empty memory for tables of so many pieces, which keeps at most `capacity` positions.
+    /// An empty memory for tables of `pieces` pieces, which keeps at most `capacity` positions.
     pub fn new(alloc: Global, pieces: u8, capacity: usize) -> Result<Memo, AllocError>
         requires pieces { IsTableSize pieces }
         requires capacity { 1 ≤ capacity }

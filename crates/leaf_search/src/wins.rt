@@ -15,7 +15,7 @@ use std::alloc::{AllocError, Global};
 use strategy_certificate::{Oracle, WinEntry, WinPart, table_rank};
 use swift_moves::{apply, has_move, legal_moves};
 
-/// A part with so many entries grows no further, so that ranks stay small. None is ever that long.
+/// A part with this number of entries grows no further, so that ranks stay small. None is ever that long.
 const MOST_ENTRIES: usize = 1 << 32;
 
 /// The rank at which the part or the table shows the win of a position.

@@ -23,7 +23,7 @@ impl Row {
     }
 }
 
-/// Below so many places none is freed of those of leases that ended.
+/// Below this number of places none is freed of those of leases that ended.
 const FEW_PLACES: usize = 64;
 
 /// The leases that were given and have not ended, in the order in which they were given.
@@ -38,7 +38,7 @@ pub struct Leases {
     rows: IndexMap<u128, Option<Row>>,
     /// Of each node up to the greatest that was leased, the number of its last lease.
     numbers: Vec<u128>,
-    /// With so many places, those of leases that ended are freed before the next is given.
+    /// With this number of places, those of leases that ended are freed before the next is given.
     most_places: usize,
 }
 
@@ -58,7 +58,7 @@ impl Leases {
     ghost use Rattle.std.specs.Option.{option_map};
     ghost use Rattle.lease_table.specs.Rows.{is_live, is_kept, is_leased, is_live_row, first_waiting, live_rows, row_with, without, without_node, marked};
 
-    /// A table without leases, each of which is to last for so many leases given: 1 to
+    /// A table without leases, each of which is to last for `limit` leases given: 1 to
     /// 1,000,000,000.
     pub fn new(alloc: Global, limit: u32) -> Leases
         ensures { result ≡ record { limit = limit; rows = [] } }

@@ -119,7 +119,7 @@ fn longest(moves: &[Move]) -> usize {
     moves.iter().map(|m| m.path().len()).max().unwrap_or(0)
 }
 
-/// Compares the generators on the positions that so many states make, one after another from the
+/// Compares the generators on the positions that `states` states make, one after another from the
 /// seed.
 pub fn compare(alloc: Global, seed: u64, states: u32) -> Result<Compared, AllocError> {
     let mut state = seed;

@@ -16,7 +16,7 @@ use Rattle.opening_report.specs.declared.refusals.Refusal.{Refusal}
 
 -- ---- openings and roots
 
--- the openings of the games of a text, after so many plies
+-- the openings of the games of a text, after `plies` plies
 abbrev pub OpeningsOf : ℕ → List ℕ → List Opening → Type 0
 OpeningsOf plies text openings =
     (games : List Game) × (Reads text games × AreOpenings plies games openings)

@@ -10,7 +10,7 @@ use Rattle.table_checker.specs.declared.refusal.TableRefusal.{TableRefusal}
 
 -- ---- what is written
 
--- the bytes are those of a sound table of so many pieces
+-- the bytes are those of a sound table of this number of pieces
 abbrev pub AreTableBytes : ℕ → List ℕ → Type 0
 AreTableBytes pieces bytes =
     (numbers : List ℕ) × (IsTable pieces numbers × (bytes ≡ bytes_of pieces numbers))

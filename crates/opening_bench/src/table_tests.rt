@@ -48,7 +48,7 @@ fn expect_checked<R: Abort + Threads + Wait + Sync>(
     Ok(())
 }
 
-/// Whether these are so many bytes, which begin with this head.
+/// Whether these are `length` bytes, which begin with this head.
 fn is_table(bytes: &[u8], length: usize, head: &[u8]) -> bool {
     bytes.len() == length && bytes.starts_with(head)
 }

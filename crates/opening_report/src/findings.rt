@@ -10,7 +10,7 @@ use draughts_board::Position;
 use fen_text::print_fen;
 use strategy_certificate::Claim;
 
-/// The line that a table of so many pieces, with so many entries, is sound, its line end among it.
+/// The line that a table of `pieces` pieces, with `entries` entries, is sound, its line end among it.
 /// It takes no memory.
 pub fn sound_line(pieces: u8, entries: usize) -> ArrayString<128>
     ensures text { result.bytes ≡ sound_text pieces entries }

@@ -63,7 +63,7 @@ pub enum Refusal {
     CheckNoRoot(usize),
     /// The bytes do not begin as a table's do.
     TableBadHead,
-    /// The table has so many bytes, and not as many as its head asks for.
+    /// The table has this number of bytes, and not the one that its head asks for.
     TableWrongLength { found: usize, due: usize },
     /// The table is not right at this index, counted from 0, where this number stands.
     TableBadEntry { index: u32, kept: u32 },
@@ -77,7 +77,7 @@ pub enum Refusal {
     Disk,
     /// The bytes of the disk are those of no journal.
     NotAJournal,
-    /// The journal is for tables of so many pieces, and not of those that are asked for.
+    /// The journal is for tables of this number of pieces, and not of those that are asked for.
     OtherTable { found: u8, asked: u8 },
     /// The journal is damaged at this byte, counted from 0.
     Damaged(u64),

@@ -8,7 +8,7 @@ use std::fs;
 use std::rt::{Clock, Files};
 use std::time::Instant;
 
-/// Bytes a second: so many bytes in so many nanoseconds.
+/// Bytes a second, if these take this number of nanoseconds.
 fn rate(bytes: usize, nanoseconds: u128) -> u128 {
     (bytes as u128).saturating_mul(1_000_000_000) / nanoseconds.max(1)
 }

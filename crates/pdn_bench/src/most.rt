@@ -7,7 +7,7 @@ use std::alloc::{AllocError, Global};
 /// The first moves of each game.
 const GAME: &[u8; 39] = b"1. 11-15 22-18 2. 15x22 25x18 3. 8-11 *";
 
-/// A text of so many games.
+/// A text of `games` games.
 fn text_of(alloc: Global, games: usize) -> Result<Vec<u8>, AllocError> {
     let mut text = Vec::new(alloc);
     for _ in 0..games {

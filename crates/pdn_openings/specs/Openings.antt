@@ -23,7 +23,7 @@ AreOpeningsFrom plies number (game ∷ games) [] = ⊥
 AreOpeningsFrom plies number (game ∷ games) (opening ∷ openings) =
     IsOpening plies number game opening × AreOpeningsFrom plies (suc number) games openings
 
--- These are the openings of these games after so many plies: one of each game, in the order of the
+-- These are the openings of these games after `plies` plies: one of each game, in the order of the
 -- games, which are numbered from 1.
 abbrev pub AreOpenings : ℕ → List Game → List Opening → Type 0
 AreOpenings plies games openings = AreOpeningsFrom plies 1 games openings

@@ -12,7 +12,7 @@ pub record IsInput (limit : Option ℕ) (source : Option (List ℕ)) (bytes : Li
   pub same : IsSome limit → IfSome source (λ told. bytes ≡ told)
   pub fits : IfSome limit (λ most. length bytes ≤ most)
 
--- The source has more bytes than may be: so many were read, and one more. No fault was counted.
+-- The source has more bytes than may be: all that may be were read, and one more. No fault was counted.
 pub record IsTooLong (limit : Option ℕ) (source rest : Option (List ℕ)) (before after : ℕ)
     : Type 0 where
   pub most : ℕ

@@ -7,7 +7,7 @@ use crate::facts::Facts;
 use crate::numbers::{Number, Numbers};
 use draughts_board::{Position, Side};
 
-/// A leaf counts no more than so many moves.
+/// A leaf counts this number of moves at most.
 pub const MOST_MOVES: u8 = 64;
 
 /// A position, what is known of it, and its mobility.
@@ -22,7 +22,7 @@ pub struct Child {
     pub ghost counted: { moves ≡ mobility position },
 }
 
-/// The mobility of a position with so many successors: the lesser of that and 64, and 1 where there
+/// The mobility of a position with `successors` successors: the lesser of that and 64, and 1 where there
 /// is none.
 pub fn mobility(successors: usize) -> u8
     ensures { result ≡ counted_moves successors }

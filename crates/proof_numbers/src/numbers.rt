@@ -5,7 +5,7 @@ ghost use Rattle.proof_numbers.specs.Numbers.{least, total, is_resolved, is_zero
 /// How many leaves are still to be settled, at least.
 #[derive(Clone, Copy, PartialEq, Eq, Debug)]
 pub enum Number {
-    /// So many leaves; 0 where the goal is shown, or refuted, already.
+    /// How many leaves; 0 where the goal is shown, or refuted, already.
     Finite(u128),
     /// No leaves will do: the contrary is shown.
     Infinite,

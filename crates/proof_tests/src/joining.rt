@@ -82,7 +82,7 @@ fn keeps_batches_in_order(rt: HostRuntime) -> Result<(), Fail> {
     Ok(())
 }
 
-/// Whether there is room for so many batches where it is made; none where it is not made, and the
+/// Whether there is room for `count` batches where it is made; none where it is not made, and the
 /// shelf is as it was.
 fn has_made_room(alloc: Global, count: usize) -> Option<bool> {
     let mut shelf = PartShelf::new(alloc);

@@ -131,7 +131,7 @@ fn is_hold_part(part: &HoldPart, rows: &[Row]) -> bool {
         && part.find(&Position::start()).is_none()
 }
 
-/// Whether the win in one, cut to so many entries, has those and no other.
+/// Whether the win in one, cut to `count` entries, has those and no other.
 fn keeps_first_wins(alloc: Global, count: usize) -> Result<bool, Fail> {
     let mut part = win_part(alloc, &WIN_IN_ONE)?;
     part.truncate(count);

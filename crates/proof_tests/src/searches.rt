@@ -25,7 +25,7 @@ const KING_EACH: &str = "B:WK7,16:BK8";
 /// Another.
 const LONE_KING: &str = "W:WK18:B5,K13";
 
-/// What a search of the position for Black's win comes to, so many plies ahead; none where no search can be asked.
+/// What a search of the position for Black's win comes to, `depth` plies ahead; none where no search can be asked.
 fn ask(
     alloc: Global,
     text: &str,
@@ -52,7 +52,7 @@ fn claim_of(outcome: &Option<Outcome>) -> Option<Claim> {
     }
 }
 
-/// The claim that comes so many plies ahead.
+/// The claim that comes `depth` plies ahead.
 fn solved(
     alloc: Global,
     text: &str,
@@ -145,7 +145,7 @@ fn gives_the_positions_after_an_exhausted_one(rt: HostRuntime) -> Result<(), Fai
     Ok(())
 }
 
-/// Whether a closed set of at most so many positions shows that White holds.
+/// Whether a closed set of at most `most` positions shows that White holds.
 fn is_held(alloc: Global, text: &str, most: usize, table: &Table) -> Result<bool, Fail> {
     let p = read_fen(text.as_bytes())?;
     Ok(prove_fortress(alloc, &p, Side::White, most, table)?.is_some())

@@ -21,12 +21,12 @@ said_if : {A : Type 0} (P : A → Type 0) (o : Option A) → IsSomeAnd o P → I
 said_if P None h = tt
 said_if P (Some x) h = h
 
--- so many were at the front of the old forest, and so no fewer are at that of the new one
+-- `front` were at the front of the old forest, and so no fewer are at that of the new one
 at_front : (front : ℕ) (old new after : Forest) → front ≡ settled_front (nodes old) → settled_front (nodes old) ≤ settled_front (nodes new) → after ≡ new
     → front ≤ settled_front (nodes after)
 at_front front old new after is le same = subst (λ (t : Forest). front ≤ settled_front (nodes t)) (sym same) (omega (arith, is, le))
 
--- the rows of a tree after a change, with so many settled roots at the front at least
+-- the rows of a tree after a change, with at least `front` settled roots at the front
 pub record IsNext (before : Forest) (after : List NodeRow) (entries : List (Board × ℕ)) (space root_space spare front : ℕ) : Type 0 where
   pub tree : IsTree after entries space root_space spare
   pub settled : front ≤ settled_front (nodes (forest_of after (values_of entries)))

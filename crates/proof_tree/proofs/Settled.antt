@@ -314,7 +314,7 @@ front_within (x ∷ xs) = by (is_some (value_of x)) (front_within xs)
     by true le = omega arith
     by false le = omega arith
 
--- the root behind so many settled ones
+-- the root behind k settled ones
 pub front_goes_on : (xs : List Node) (k : ℕ) → k < length xs → k ≤ settled_front xs → is_some (value_of (node_in xs k)) ≡ true → suc k ≤ settled_front xs
 front_goes_on [] k l le e = absurd (omega arith)
 front_goes_on (x ∷ xs) zero l le e = subst (λ (b : Bool). 1 ≤ cond b (suc (settled_front xs)) 0) (sym e) (omega arith)

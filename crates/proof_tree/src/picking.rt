@@ -237,7 +237,7 @@ fn pick_at<T: Taken>(rows: &[NodeRow], root: usize, taken: &T) -> Option<(NodeId
     }
 }
 
-/// The leaf to work on next, where so many roots at the front are settled. Stretches of settled roots are passed as noted.
+/// The leaf to work on next, where `front` roots at the front are settled. Stretches of settled roots are passed as noted.
 pub(crate) fn pick_from<T: Taken>(
     rows: &[NodeRow],
     roots: &[usize],
@@ -283,7 +283,7 @@ pub(crate) fn is_settled(rows: &[NodeRow], root: usize) -> bool
     value_by(black, white).is_some()
 }
 
-/// How many roots stand before the first that is unsettled, where at least so many do.
+/// How many roots stand before the first that is unsettled, where at least `front` do.
 pub(crate) fn settled_front(rows: &[NodeRow], roots: &[usize], front: usize) -> usize
     requires linked { AreLinked rows.now }
     requires fits { (k : ℕ) → k < length rows.now → Fits rows.now k }

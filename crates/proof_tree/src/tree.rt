@@ -34,9 +34,9 @@ pub struct Tree {
     rows: Vec<NodeRow>,
     /// The rows of the roots by their positions, in order.
     roots: IndexMap<Position, usize>,
-    /// For so many more nodes room was made.
+    /// How many more nodes room was made for.
     spare: usize,
-    /// So many roots stand before the first that is unsettled.
+    /// How many roots stand before the first that is unsettled.
     front: usize,
     /// Stretches of settled roots, as far as they are noted.
     stretches: Stretches,
@@ -88,7 +88,7 @@ impl Tree {
         }
     }
 
-    /// Makes room for so many more nodes. After want of memory, which a tree of 2^57 nodes meets
+    /// Makes room for `nodes` more nodes. After want of memory, which a tree of 2^57 nodes meets
     /// too, it is as it was.
     pub fn reserve(&mut self, nodes: usize) -> Result<(), AllocError>
         ensures ok { OnOk result (self.new.forest ≡ self.old.forest) }
@@ -362,7 +362,7 @@ impl Tree {
     }
 }
 
-/// How many roots stand before the first that is unsettled, where at least so many do.
+/// How many roots stand before the first that is unsettled, where at least `front` do.
 fn front_of(rows: &[NodeRow], roots: &IndexMap<Position, usize>, front: usize) -> usize
     requires linked { AreLinked rows.now }
     requires fits { (k : ℕ) → k < length rows.now → Fits rows.now k }
@@ -414,7 +414,7 @@ fn note_above(
 }
 
 /// Follows a change of a row: notes the root above it where it is settled, and gives how many roots stand before the first
-/// that is unsettled, where at least so many do.
+/// that is unsettled, where at least `front` do.
 fn follow(
     rows: &[NodeRow],
     roots: &IndexMap<Position, usize>,

@@ -52,7 +52,7 @@ fn square(dice: &mut Pcg32) -> u32 {
     1_u32 << (dice.next_word() % 32)
 }
 
-/// The masks of so many pieces on squares that are drawn, men and kings: each second piece is a king. Where a square is
+/// The masks of `pieces` pieces on squares that are drawn, men and kings: each second piece is a king. Where a square is
 /// drawn twice, there are fewer.
 fn side_drawn(dice: &mut Pcg32, pieces: u32) -> (u32, u32) {
     let mut men = 0;

@@ -51,7 +51,7 @@ const WIDE: usize = 65_536;
 /// The least number of positions that a memory keeps.
 const NARROW: usize = 1;
 
-/// Searches a list so many plies ahead, with an empty memory of so many positions. What is settled, and the nodes.
+/// Searches a list `depth` plies ahead, with an empty memory of `capacity` positions. What is settled, and the nodes.
 fn searched(
     alloc: Global,
     rows: &[ListedPosition],

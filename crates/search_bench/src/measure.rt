@@ -13,7 +13,7 @@ use std::time::Instant;
 /// How often each list is searched; the best time counts.
 const RUNS: u32 = 5;
 
-/// The best time of searching the list, in nanoseconds, each time with an empty memory of so many positions.
+/// The best time of searching the list, in nanoseconds, each time with an empty memory of `capacity` positions.
 pub(crate) fn best_time(
     rt: &(impl Clock + Alloc<A = Global>),
     rows: &[ListedPosition],

@@ -63,7 +63,7 @@ fn value_shown(outcome: &Outcome) -> Option<Value> {
     }
 }
 
-/// The value of the position, where looking so many plies ahead settles it.
+/// The value of the position, where looking `depth` plies ahead settles it.
 pub(crate) fn settle<O: Oracle>(
     alloc: Global,
     p: &Position,
@@ -83,7 +83,7 @@ pub(crate) fn settle<O: Oracle>(
     Ok(value_shown(&outcome))
 }
 
-/// How many positions of the list are settled so many plies ahead. A value that is found and is not the list's is an error.
+/// How many positions of the list are settled `depth` plies ahead. A value that is found and is not the list's is an error.
 pub(crate) fn settle_all<O: Oracle>(
     alloc: Global,
     rows: &[ListedPosition],

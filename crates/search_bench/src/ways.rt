@@ -14,13 +14,13 @@ use win_lines::find_win_part;
 /// No more positions are worked out below an endgame.
 const MOST_SLICE_POSITIONS: u64 = 3_000_000;
 
-/// So many lists of moves are made for each win by proof numbers.
+/// How many lists of moves are made for each win by proof numbers.
 const MOST_MOVE_LISTS: usize = 100_000;
 
 /// No strategy that is found by proof numbers has more entries.
 const MOST_ENTRIES: usize = 100_000;
 
-/// So many positions are looked through for each closed set.
+/// How many positions are looked through for each closed set.
 const MOST_SET_POSITIONS: usize = 8_000;
 
 /// How many endgames are timed.
@@ -61,7 +61,7 @@ fn held<O: Oracle>(alloc: Global, set: &[Position], oracle: &O) -> Result<u32> {
     Ok(count)
 }
 
-/// So many of something a second, in this time.
+/// How many there are a second, if `count` take this time.
 fn rate(count: u64, spent: Duration) -> u128 {
     u128::from(count).saturating_mul(1_000_000_000) / spent.as_nanos().max(1)
 }

@@ -99,7 +99,7 @@ fn come_to<R: Wait, D: Disk>(
     (session.into_disk(), end)
 }
 
-/// The work of so many workers on the disk, if its journal is attached.
+/// The work of a number of workers on the disk, if its journal is attached.
 fn run_on<R: Threads + Wait + Sync, D: Disk + Send, G: Gate + Sync>(
     rt: &R,
     alloc: Global,
@@ -186,7 +186,7 @@ fn no_budget_leaves_no_work_record(rt: HostRuntime) -> Result<(), Fail> {
     Ok(())
 }
 
-/// The end of the work of so many workers on a disk with both roots.
+/// The end of the work of `workers` workers on a disk with both roots.
 fn end_of<R: Threads + Wait + Sync, G: Gate + Sync>(
     rt: &R,
     alloc: Global,
@@ -281,7 +281,7 @@ fn images_attach(alloc: Global, disk: &MemoryDisk, table: &Table) -> Result<bool
     Ok(true)
 }
 
-/// The end of the work of four workers on a disk with both roots that fails behind so many calls, and whether each image of
+/// The end of the work of four workers on a disk with both roots that fails behind `pass` calls, and whether each image of
 /// it is attached then.
 fn end_on_fuse<R: Threads + Wait + Sync>(
     rt: &R,

@@ -8,17 +8,17 @@ use endgame_table::Table;
 use std::alloc::Global;
 use tree_manager::Session;
 
-/// So many images are looked at of each disk: the one without what is pending, the one with all of it, and torn ones.
+/// How many images are looked at of each disk: the one without what is pending, the one with all of it, and torn ones.
 const IMAGES: u64 = 64;
 
 /// What was seen of the images of a disk.
 #[derive(Clone, Copy, Default)]
 pub(crate) struct Seen {
-    /// So many images are without the commit that failed.
+    /// How many images are without the commit that failed.
     pub(crate) without: u64,
-    /// So many have it.
+    /// How many images have it.
     pub(crate) with: u64,
-    /// So many nodes of theirs were compared.
+    /// How many nodes of theirs were compared.
     pub(crate) nodes: u64,
 }
 
@@ -30,7 +30,7 @@ pub(crate) struct Unstopped<'a> {
 }
 
 impl<'a> Unstopped<'a> {
-    /// Its tree behind the commit with which it had so many records.
+    /// Its tree behind the commit with which it had `records` records.
     fn tree(&self, records: u64) -> Result<&'a SeenTree> {
         for commit in self.commits {
             if commit.records == records {
@@ -71,7 +71,7 @@ fn attach<D: Disk + Drop>(alloc: Global, disk: D, table: &Table) -> Result<Attac
     }
 }
 
-/// Whether the disk reads as the first records of all that were ever committed, and as so many.
+/// Whether the disk reads as the first `number` records of all that were ever committed.
 fn reads_as_first(alloc: Global, bytes: &[u8], all: &[Payload], number: u64) -> Result<bool> {
     let mut disk = MemoryDisk::of(alloc, bytes.to_vec(alloc)?)?;
     let (_, payloads) = read_journal(alloc, &mut disk)?;

@@ -44,7 +44,7 @@ fn print_seen(rt: &impl Print, calls: u64, stop: &Stop, seen: Seen) -> Result<()
     Ok(())
 }
 
-/// Stops a session behind so many calls of its disk, looks at the images and prints what was seen.
+/// Stops a session behind `calls` calls of its disk, looks at the images and prints what was seen.
 fn stop_behind(
     rt: &(impl Print + Alloc<A = Global>),
     calls: u64,
@@ -58,7 +58,7 @@ fn stop_behind(
     Ok(seen)
 }
 
-/// Stops a session at each of so many calls of its disk, and behind the last, and prints what was seen in all.
+/// Stops a session at each of `calls` calls of its disk, and behind the last, and prints what was seen in all.
 fn stop_at_all(
     rt: &(impl Print + Alloc<A = Global>),
     calls: u64,

@@ -19,7 +19,7 @@ const ROOT: &str = "W:W16,23:B12";
 /// So often a leaf is asked for that is leased.
 const ASKED: u32 = 3;
 
-/// The settings, where a lease lasts for so many leases given.
+/// The settings, where a lease lasts for `lease` leases given.
 fn settings_of(pieces: u8, lease: u32) -> Settings
     requires first { 1 ≤ lease }
     requires last { lease ≤ MOST_LEASE }
@@ -112,7 +112,7 @@ fn plays<D: Disk>(
     }
 }
 
-/// Whether the worked session goes as it must on this empty disk, where a lease lasts for so many leases given, one or
+/// Whether the worked session goes as it must on this empty disk, where a lease lasts for `lease` leases given, one or
 /// two.
 pub(crate) fn goes_as_worked<D: Disk + Drop>(
     alloc: Global,

@@ -14,15 +14,15 @@ use proof_tree::Tree;
 use std::alloc::{AllocError, Global};
 use tree_manager::{BeginRefusal, CommitRefusal, Session};
 
-/// So many roots a session begins.
+/// How many roots a session begins.
 const BEGUN: u64 = 3;
 
-/// So many rounds a session works at most, with so many leases each.
+/// How many rounds a session works at most, and how many leases each round has.
 const ROUNDS: u32 = 20;
 
 const LEASES: u32 = 3;
 
-/// How a session of so many pieces searches.
+/// How a session of `pieces` pieces searches.
 pub(crate) fn settings(pieces: u8) -> Settings
     ensures { result.pieces ≡ pieces }
 {
@@ -37,7 +37,7 @@ pub(crate) fn settings(pieces: u8) -> Settings
 /// What a session's tree showed behind a commit.
 #[derive(Drop)]
 pub(crate) struct Committed {
-    /// So many records were acknowledged.
+    /// How many records were acknowledged.
     pub(crate) records: u64,
     pub(crate) tree: SeenTree,
 }
@@ -45,9 +45,9 @@ pub(crate) struct Committed {
 /// Where a session stopped.
 #[derive(Drop)]
 pub(crate) struct Stop {
-    /// So many records were acknowledged.
+    /// How many records were acknowledged.
     pub(crate) acknowledged: u64,
-    /// So many more were staged, in the commit that failed.
+    /// How many more were staged, in the commit that failed.
     pub(crate) waiting: u64,
     /// What its tree showed there.
     pub(crate) tree: SeenTree,
@@ -58,7 +58,7 @@ pub(crate) struct Stop {
 }
 
 impl Stop {
-    /// Where the disk failed before anything was acknowledged, and so many records were staged.
+    /// Where the disk failed before anything was acknowledged, and `waiting` records were staged.
     fn of(alloc: Global, waiting: u64) -> Stop {
         Stop {
             acknowledged: 0,
@@ -69,7 +69,7 @@ impl Stop {
         }
     }
 
-    /// A commit is acknowledged, with so many records in all. Behind it this is the tree.
+    /// A commit is acknowledged, with `number` records in all. Behind it this is the tree.
     fn acknowledge(&mut self, alloc: Global, number: u64, tree: &Tree) -> Result<(), AllocError> {
         self.acknowledged = number;
         self.waiting = 0;

@@ -184,7 +184,7 @@ fn on_end(asked: usize, game: Game, source: &[u8], at: usize) -> Option<Warning>
     }
 }
 
-/// The warnings on a source of games for whose openings so many plies were asked; 0 where none were.
+/// The warnings on a source of games for whose openings `asked` plies were asked; 0 where none were.
 ///
 /// The source is cut into items as `pdn_text::read_games` cuts it, up to the first place where no item
 /// stands. The warnings are in the order of the items, but the one on a game's plies comes where the

@@ -155,7 +155,7 @@ fn raw_text(
     Ok(text)
 }
 
-/// What a person is told of a source of games that was read, for whose openings so many plies were
+/// What a person is told of a source of games that was read, for whose openings `asked` plies were
 /// asked; 0 where none were. Of each of the first [`crate::MOST_TOLD`] warnings: its line and its
 /// column, how the source reads there, how that is read, and what may be written instead; then how
 /// many more there are.

@@ -65,7 +65,7 @@ module _ (k : ℕ) (few : k ≤ 3) (answer : Board → Option Answer) (sound : I
   abbrev IsIndex : ℕ → ℕ → Type 0
   IsIndex r i = (p : Board) × ((index_of p ≡ i) × ((m : ℕ) × ((m ≤ r) × Ranked m p)))
 
-  -- so many different indices, each of a position with a rank of at most r
+  -- r + 1 different indices, each of a position with a rank of at most r
   record Indices (r : ℕ) : Type 0 where
     indices : List ℕ
     many : length indices ≡ suc r

@@ -9,9 +9,9 @@ pub const TABLE_POSITIONS: u64 = 651_010;
 /// end.
 #[derive(Clone, Copy, PartialEq, Eq, Debug)]
 pub enum Answer {
-    /// The side to move wins in at most so many plies.
+    /// The side to move wins in at most this number of plies.
     Win(u32),
-    /// The side to move loses in at most so many plies.
+    /// The side to move loses in at most this number of plies.
     Loss(u32),
     /// Neither side has a forced win.
     Draw,

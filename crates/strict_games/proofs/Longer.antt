@@ -21,7 +21,7 @@ use Rattle.pdn_text.specs.declared.items.Sign.{Sign}
 use Rattle.pdn_text.specs.declared.items.Sign.TheVariants.{Tagged, Moved, Ended}
 use Rattle.strict_games.specs.GameTexts.{move_behind}
 
--- what an item says behind so many further bytes, and the item
+-- what an item says behind n further bytes, and the item
 abbrev pub sign_behind : ℕ → Sign → Sign
 sign_behind n (Tagged tag) = Tagged tag
 sign_behind n (Moved written) = Moved (move_behind n written)

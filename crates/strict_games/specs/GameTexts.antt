@@ -31,7 +31,7 @@ AreGameTexts (text ∷ texts) (game ∷ games) = IsGameText text game × AreGame
 abbrev pub joined : List (List ℕ) → List ℕ
 joined texts = flat_map (λ text. text) texts
 
--- a move behind so many further bytes, and a game
+-- a move behind n further bytes, and a game
 abbrev pub move_behind : ℕ → MoveText → MoveText
 move_behind n written =
     record { at = n + written.at; end = n + written.end; squares = written.squares }
@@ -39,7 +39,7 @@ move_behind n written =
 abbrev pub game_behind : ℕ → Game → Game
 game_behind n game = record { tags = game.tags; moves = map (move_behind n) game.moves }
 
--- the games as they are read from their joined texts, behind so many further bytes
+-- the games as they are read from their joined texts, behind n further bytes
 abbrev pub games_behind : ℕ → List (List ℕ) → List Game → List Game
 games_behind n [] games = []
 games_behind n (text ∷ texts) [] = []

@@ -6,7 +6,7 @@ use Rattle.strict_games.specs.Drafts.{IsTextOf}
 use Rattle.strict_games.specs.Tags.{cleaned}
 use Rattle.strict_games.specs.declared.ranges.GameRange.{GameRange}
 
--- so many numbers from this one on
+-- the numbers from this one on, as many as are asked
 abbrev pub counted_from : ℕ → ℕ → List ℕ
 counted_from first zero = []
 counted_from first (suc count) = first ∷ counted_from (first + 1) count

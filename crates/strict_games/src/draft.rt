@@ -100,7 +100,7 @@ impl Draft {
         self.moves.as_slice()
     }
 
-    /// Makes room for so many further moves.
+    /// Makes room for `moves` further moves.
     pub fn reserve(&mut self, moves: usize) -> Result<(), AllocError>
         ensures { self.new ≡ self.old }
     {

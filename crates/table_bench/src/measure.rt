@@ -11,7 +11,7 @@ use table_checker::check_table;
 /// How often each is done; the best time counts.
 const RUNS: u32 = 5;
 
-/// Prints the best times of filling a table of so many pieces and of checking its bytes, in
+/// Prints the best times of filling a table of `pieces` pieces and of checking its bytes, in
 /// milliseconds.
 pub fn time(rt: &(impl Print + Clock + Alloc<A = Global>), pieces: u8) -> Result<()>
     requires { IsTableSize pieces }

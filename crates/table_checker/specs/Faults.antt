@@ -41,8 +41,8 @@ AreBytesOf bytes t = IsTable t.pieces t.numbers × (bytes ≡ bytes_of t.pieces 
 
 -- The bytes are refused for this.
 -- A bad head: they do not begin with the head of a table of 2 or of 3 pieces.
--- A wrong length: they begin with such a head, and their length is not that of a table of so many
--- pieces. A bad entry: they have the form of a table, and the rule of tables fails first at this
+-- A wrong length: they begin with such a head, and their length is not that of a table of that
+-- number of pieces. A bad entry: they have the form of a table, and the rule of tables fails first at this
 -- index, where this number is kept. Want of memory is no fault of the bytes.
 abbrev pub IsTableFault : List ℕ → TableRefusal → Type 0
 IsTableFault bytes BadHead = (k : ℕ) → BeginsTable k bytes → ⊥

@@ -12,7 +12,7 @@ use endgame_table::Table;
 use std::alloc::Global;
 use table_index::entry_count;
 
-/// How many bytes a table of so many pieces has.
+/// How many bytes a table of `pieces` pieces has.
 fn due_length(pieces: u8) -> usize
     requires { IsTableSize pieces }
     ensures { result ≡ due_length pieces }

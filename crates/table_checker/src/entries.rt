@@ -49,7 +49,7 @@ fn fits_position(
     Ok(fits_next(answer, &answers))
 }
 
-/// The rule holds at this index of a table of so many pieces.
+/// The rule holds at this index of a table of `pieces` pieces.
 fn fits_at(
     alloc: Global,
     pieces: u8,
@@ -72,7 +72,7 @@ fn fits_at(
     }
 }
 
-/// The first index of a table of so many pieces at which the rule fails.
+/// The first index of a table of `pieces` pieces at which the rule fails.
 pub(crate) fn first_bad_entry(
     alloc: Global,
     pieces: u8,

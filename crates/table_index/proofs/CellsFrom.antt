@@ -63,7 +63,7 @@ digits-lt (King s ∷ cells) = subst (λ w. kind (King s) * 4 ^ held cells + dig
 
 -- ---- the place among the choices
 
--- the choice stands at its place, and so many choices come behind it
+-- the choice stands at its place, and `behind` choices come behind it
 pub record IsPlaced (all choice : List ℕ) (behind : ℕ) : Type 0 where
   pub whole : place_in all choice + behind + 1 ≡ choose (length choice) (length all)
   pub there : slice_get (choices (length choice) all) (place_in all choice) ≡ Some choice

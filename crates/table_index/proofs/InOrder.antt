@@ -1,4 +1,4 @@
--- The choices are all rising lists of so many squares, each once, in lexicographic order.
+-- The choices are all rising lists of one length, each once, in lexicographic order.
 use Rattle.std.proofs.Common.{◌≡◌, ℕ, zero, suc, ◌+◌, ◌<◌, ◌≤◌, List, [], ◌∷◌, ◌++◌, map, length, get_or, Contains, AllPairs, nat_cmp, Less, Equal, is_lt, refl, sym, ap, subst, ◌∙◌, ⊎_elim, arith}
 use Rattle.std.specs.Ordering.{ordering_then}
 use Rattle.std.specs.Cmp.Lexicographic.{slice_cmp}

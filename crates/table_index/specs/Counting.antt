@@ -1,7 +1,7 @@
 -- How many choices there are.
 use Rattle.std.specs.Prelude.{ℕ, zero, suc, ◌+◌}
 
--- in how many ways one can choose so many out of so many: with the first, or without it
+-- in how many ways one can choose n out of m: with the first, or without it
 unfoldable pub choose : ℕ → ℕ → ℕ
 choose zero m = 1
 choose (suc n) zero = 0

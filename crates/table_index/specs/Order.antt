@@ -39,7 +39,7 @@ entry_count k = first_index (suc k)
 abbrev pub occupied : Board → List ℕ
 occupied p = filter (λ n. not (is_empty (cell_at p n))) squares
 
--- the place of a choice of squares among the choices of so many
+-- the place of a choice of squares among the choices of as many squares
 abbrev pub place_of_choice : List ℕ → ℕ
 place_of_choice choice =
     position_or_len (λ other. pointwise ◌==◌ other choice) (choices (length choice) squares)

@@ -5,7 +5,7 @@ ghost use Rattle.table_index.specs.Counting.{choose};
 
 use draughts_board::Side;
 
-/// In how many ways one can choose two squares out of so many, by this number from 0 on.
+/// In how many ways one can choose two squares, by the number of squares from 0 on.
 static PAIRS: [u32; 33] = [
     0, 0, 1, 3, 6, 10, 15, 21, 28, 36, 45, 55, 66, 78, 91, 105, 120, 136, 153, 171, 190, 210, 231,
     253, 276, 300, 325, 351, 378, 406, 435, 465, 496,
@@ -35,7 +35,7 @@ fn triples_of(squares: u32) -> u32
     TRIPLES[squares as usize]
 }
 
-/// In how many ways one can choose so many pieces' squares out of these.
+/// In how many ways one can choose the squares of `pieces` pieces out of these.
 #[inline]
 pub(crate) fn choices_of(pieces: u32, squares: u32) -> u32
     requires pieces { pieces ≤ 3 }
@@ -50,7 +50,7 @@ pub(crate) fn choices_of(pieces: u32, squares: u32) -> u32
     }
 }
 
-/// In how many ways so many pieces can be men and kings of either side.
+/// In how many ways `pieces` pieces can be men and kings of either side.
 pub(crate) fn kinds_of(pieces: u32) -> u32
     requires { pieces ≤ 3 }
     ensures { result ≡ 4 ^ pieces }
@@ -63,7 +63,7 @@ pub(crate) fn kinds_of(pieces: u32) -> u32
     }
 }
 
-/// The first index of the block of so many pieces; of 4, the end of the block of 3.
+/// The first index of the block of `pieces` pieces; of 4, the end of the block of 3.
 pub(crate) fn first_index(pieces: u32) -> u32
     requires { pieces ≤ 4 }
     ensures { result ≡ first_index pieces }
@@ -92,7 +92,7 @@ pub(crate) fn block_of(index: u32) -> u32
     }
 }
 
-/// The index of the place that a choice of squares, the kinds and the side to move have in the block of so many pieces.
+/// The index of the place that a choice of squares, the kinds and the side to move have in the block of `pieces` pieces.
 pub(crate) fn index_at(pieces: u32, choice: u32, kinds: u32, to_move: Side) -> u32
     requires pieces { pieces ≤ 3 }
     requires choice { choice < choose pieces 32 }

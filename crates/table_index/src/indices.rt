@@ -10,7 +10,7 @@ ghost use Rattle.draughts_board.specs.Masks.{stands_in};
 use crate::counts::{choices_of, first_index, index_at, kinds_of};
 use draughts_board::{Cell, Position, Side, Square};
 
-/// How many indices a table of so many pieces has.
+/// How many indices a table of `pieces` pieces has.
 pub fn entry_count(pieces: u8) -> u32
     requires { pieces ≤ 3 }
     ensures { result ≡ entry_count pieces }
@@ -106,7 +106,7 @@ pub(crate) fn with_piece(p: &Position, place: usize, piece: Cell, to_move: Side)
     }
 }
 
-/// The position with pieces of these kinds on the squares of the choice with this place among the choices of so many
+/// The position with pieces of these kinds on the squares of the choice with this place among the choices of as many
 /// squares; none where a man would stand on its farthest row.
 pub(crate) fn position_of(
     mut pieces: u32,
@@ -131,7 +131,7 @@ pub(crate) fn position_of(
             // Each square that is left is a choice of its own.
             return with_piece(&p, i + choice as usize, piece_of(kinds), to_move);
         }
-        // So many of the choices that are left begin with this square.
+        // How many of the choices that are left begin with this square.
         let here = choices_of(pieces - 1, 31 - i as u32);
         if choice < here {
             pieces -= 1;

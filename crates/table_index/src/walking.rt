@@ -11,8 +11,8 @@ use crate::counts::{block_of, first_index, kinds_of};
 use crate::indices::{piece_of, position_of, with_piece};
 use draughts_board::{Position, Side, Square};
 
-/// The position with pieces of these kinds on the squares of the mask, which are a choice of so
-/// many squares; none where a man would stand on its farthest row.
+/// The position with pieces of these kinds on the squares of the mask, which are a choice of `pieces`
+/// squares; none where a man would stand on its farthest row.
 fn position_on(mask: u32, mut pieces: u32, mut kinds: u32, to_move: Side) -> Option<Position>
     requires pieces { pieces ≤ 3 }
     requires mask { (choice : ℕ) × ((choice < choose pieces 32)
@@ -45,7 +45,7 @@ fn position_on(mask: u32, mut pieces: u32, mut kinds: u32, to_move: Side) -> Opt
 pub struct PositionWalk {
     /// How many squares are kept.
     pieces: u32,
-    /// The place of their choice among the choices of so many squares.
+    /// The place of their choice among the choices of as many squares.
     choice: u32,
     /// Their mask.
     mask: u32,
@@ -63,7 +63,7 @@ impl PositionWalk {
     }
 
     /// The position with pieces of these kinds on the squares of the choice with this place among
-    /// the choices of so many squares; none where a man would stand on its farthest row.
+    /// the choices of as many squares; none where a man would stand on its farthest row.
     fn place(&mut self, pieces: u32, choice: u32, kinds: u32, to_move: Side) -> Option<Position>
         requires pieces { pieces ≤ 3 }
         requires choice { choice < choose pieces 32 }

@@ -429,7 +429,7 @@ fn expect_repeated(rt: &impl Abort, alloc: Global, cases: &[Repeated]) -> Result
     Ok(())
 }
 
-/// How many games there are behind so many results.
+/// How many games there are behind `count` results.
 fn count_behind(alloc: Global, count: usize, behind: &[u8]) -> Result<usize, Fail> {
     let text = repeated(alloc, b'*', count, behind)?;
     Ok(read_games(alloc, text.as_slice())?.len())

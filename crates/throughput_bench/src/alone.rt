@@ -25,7 +25,7 @@ use worker_gate::{can_search, search_lease};
 /// How many positions a thread remembers in which looking ahead shows no win.
 const REMEMBERED: usize = 65_536;
 
-/// So many steps are calculated for each position, which take about as long as a worker alone takes for its record.
+/// How many steps are calculated for each position, which take about as long as a worker alone takes for its record.
 const STEPS: u64 = 3_500;
 
 /// The multiplier of a step. A step shifts too, so that no compiler makes one step of several.
@@ -88,7 +88,7 @@ fn search_part(alloc: Global, positions: &[Position], table: &Table, part: &mut 
     }
 }
 
-/// So many parts of the positions, none of which is searched.
+/// The positions in as many parts as there are threads, none of which is searched.
 fn parts_of(alloc: Global, positions: usize, threads: usize) -> Result<Vec<Part>> {
     let mut parts = Vec::new(alloc);
     let size = positions.div_ceil(threads.max(1));
@@ -106,7 +106,7 @@ fn parts_of(alloc: Global, positions: usize, threads: usize) -> Result<Vec<Part>
     Ok(parts)
 }
 
-/// Searches the positions in so many threads: in how many nanoseconds by the clock.
+/// Searches the positions in `count` threads: in how many nanoseconds by the clock.
 pub(crate) fn search_alone<R: Threads + Sync>(
     threads: &R,
     rt: &HostRuntime,
@@ -154,7 +154,7 @@ impl Chain {
     }
 }
 
-/// Calculates the steps of so many positions in so many threads: in how many nanoseconds by the clock.
+/// Calculates the steps of `positions` positions in `count` threads: in how many nanoseconds by the clock.
 pub(crate) fn calculate_alone<R: Threads + Sync>(
     threads: &R,
     rt: &HostRuntime,

@@ -37,10 +37,10 @@ use std::{env, fs};
 /// From this seed openings are made.
 const SEED: u32 = 1;
 
-/// So many roots there are without words.
+/// How many roots there are without words.
 const FEW: u32 = 40;
 
-/// So many roots there are where time is taken, in memory and on a file.
+/// How many roots there are where time is taken, in memory and on a file.
 const IN_MEMORY: u32 = 2_000;
 
 const ON_FILE: u32 = 400;

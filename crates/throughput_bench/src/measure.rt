@@ -12,7 +12,7 @@ use endgame_table::Table;
 use std::sync::Wait;
 use std::thread::Threads;
 
-/// So many runs there are of each kind, of which the fastest counts.
+/// How many runs there are of each kind, of which the fastest counts.
 const RUNS: u32 = 3;
 
 /// The faster of two runs.

@@ -35,7 +35,7 @@ fn new_file<'a>(rt: &'a HostRuntime, path: &str) -> Result<FileDisk<&'a HostRunt
     Ok(FileDisk::new(rt, String::from_str(rt.alloc(), path)?))
 }
 
-/// Begins the roots on a disk, and lets so many workers work until all are settled.
+/// Begins the roots on a disk, and lets `workers` workers work until all are settled.
 fn begin_together<R: Threads + Wait + Sync, D: Disk + Drop + Send>(
     threads: &R,
     rt: &HostRuntime,
@@ -50,7 +50,7 @@ fn begin_together<R: Threads + Wait + Sync, D: Disk + Drop + Send>(
     work_together(threads, rt, disk, workers, table)
 }
 
-/// Lets so many workers work at a place until all roots are settled.
+/// Lets `workers` workers work at a place until all roots are settled.
 pub(crate) fn run_together<R: Threads + Wait + Sync>(
     threads: &R,
     rt: &HostRuntime,

@@ -9,13 +9,13 @@ use endgame_table::Table;
 use std::alloc::Global;
 use tree_manager::Session;
 
-/// So many pieces the endgame table has at most.
+/// How many pieces the endgame table has at most.
 pub(crate) const PIECES: u8 = 2;
 
-/// So many plies a search looks ahead.
+/// How many plies a search looks ahead.
 pub(crate) const DEPTH: u8 = 8;
 
-/// So many work records a session may have.
+/// How many work records a session may have.
 const BUDGET: u32 = 2_000;
 
 /// A lease lasts for as many leases given, longer than any run.
@@ -56,7 +56,7 @@ pub(crate) fn begin<D: Disk + Drop>(
 pub(crate) struct End {
     pub(crate) roots: u32,
     pub(crate) settled: u32,
-    /// So many work records of the session there are.
+    /// How many work records of the session there are.
     pub(crate) work: u64,
 }
 

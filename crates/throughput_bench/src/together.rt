@@ -43,7 +43,7 @@ pub(crate) fn share<D: Disk + Drop>(
     }
 }
 
-/// Lets so many workers work until all roots are settled: in how many nanoseconds, by the clock, and of the processors.
+/// Lets `workers` workers work until all roots are settled: in how many nanoseconds, by the clock, and of the processors.
 fn time_workers<R: Threads + Wait + Sync, D: Disk + Send>(
     threads: &R,
     rt: &HostRuntime,
@@ -79,7 +79,7 @@ pub(crate) fn end_of<R: Wait, D: Disk + Drop>(
     End::of(&shared.finish(waiting, pass))
 }
 
-/// Lets so many workers work on the disk's journal until all roots are settled.
+/// Lets `workers` workers work on the disk's journal until all roots are settled.
 pub(crate) fn work_together<R: Threads + Wait + Sync, D: Disk + Drop + Send>(
     threads: &R,
     rt: &HostRuntime,

@@ -9,13 +9,13 @@ use std::alloc::{AllocError, Global};
 use std::rt::Clock;
 use std::time::Instant;
 
-/// So many roots a crowd has.
+/// How many roots a crowd has.
 pub(crate) const CROWDS: [u32; 3] = [256, 4_096, 65_536];
 
-/// Of so many indices, some more than there are roots in the largest crowd, each gives a position or none.
+/// Of how many indices, some more than there are roots in the largest crowd, each gives a position or none.
 const INDICES: u32 = 1 << 20;
 
-/// So many picks are timed in each crowd.
+/// How many picks are timed in each crowd.
 const PICKS: u32 = 10_000;
 
 /// The first node is taken, and so is another, which is no leaf of the crowd.
@@ -52,7 +52,7 @@ fn add(alloc: Global, tree: &mut Tree, p: Position, facts: Facts) -> Result<(), 
     Ok(())
 }
 
-/// A tree of so many roots, of which only the first and the last are unsettled.
+/// A tree of `roots` roots, of which only the first and the last are unsettled.
 fn crowd(alloc: Global, roots: u32) -> Result<Tree, AllocError> {
     let mut tree = Tree::new(alloc);
     for index in 0..INDICES {

@@ -25,7 +25,7 @@ pub(crate) fn planted(alloc: Global) -> Result<Tree, AllocError> {
     Ok(tree)
 }
 
-/// The tree after so many expansions, each at the leaf that is picked; fewer where none is left.
+/// The tree after `expansions` expansions, each at the leaf that is picked; fewer where none is left.
 pub(crate) fn grown(alloc: Global, expansions: u32) -> Result<Tree, AllocError> {
     let mut tree = planted(alloc)?;
     for _ in 0..expansions {

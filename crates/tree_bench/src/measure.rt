@@ -18,7 +18,7 @@ struct Spent {
     tree: u128,
 }
 
-/// The times of growing a tree by so many expansions.
+/// The times of growing a tree by `expansions` expansions.
 fn times(rt: &(impl Print + Clock + Alloc<A = Global>), expansions: u32) -> Result<Spent> {
     let begin = Instant::now(rt)?;
     let mut tree = planted(rt.alloc())?;
@@ -41,7 +41,7 @@ fn times(rt: &(impl Print + Clock + Alloc<A = Global>), expansions: u32) -> Resu
     })
 }
 
-/// How many a second, where so many took so many nanoseconds.
+/// How many a second, if `count` take this number of nanoseconds.
 fn rate(count: u32, nanos: u128) -> u128 {
     count as u128 * 1_000_000_000 / nanos.max(1)
 }

@@ -27,7 +27,7 @@ use Rattle.tree_manager.proofs.PickLemmas.{lease_number}
 
 -- ---- rows in the order of their numbers
 
--- the lease was given, as one of so many
+-- the lease was given, as one of the first `given`
 abbrev IsGiven : ℕ → Row → Type 0
 IsGiven given row = row.lease.id ≤ given
 

@@ -130,7 +130,7 @@ new_front : (roots ps : List Board) (p : Board) (more : List Board) → AreNewRo
 new_front roots [] p more h there = h.0 (subst (λ l. Contains l p) (append-nil roots) there)
 new_front roots (q ∷ ps) p more h there = new_front (roots ++ q ∷ []) ps p more h.1 (subst (λ l. Contains l p) (sym (append_assoc roots (q ∷ []) ps)) there)
 
--- so many of the roots are staged
+-- a number of the roots is staged
 pub record AreRootsStaged {D : Type 0} (base core : Core) (log new : Log D) (ps : List Board) : Type 0 where
   pub core_is : core ≡ with_roots_staged base ps
   pub may : MayStageRoots base ps
@@ -242,7 +242,7 @@ drop_front (x ∷ xs) ys = drop_front xs ys
 back_to : (l n m : ℕ) → m ≡ n → (l + m) - n ≡ l
 back_to l n m same = omega (arith, same)
 
--- so many texts are staged
+-- a number of texts is staged
 pub texts_staged : {D : Type 0} (base core : Core) (log new : Log D) (added : List Board) (i : ℕ) → AreRootsStaged base core log new (take i added) → i < length added → (length new.staged ≡ length log.staged + i) × (take (length new.staged - i) new.staged ≡ log.staged)
 texts_staged base core log new added i h within =
     let many : length h.texts ≡ i =

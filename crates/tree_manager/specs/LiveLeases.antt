@@ -18,7 +18,7 @@ abbrev pub still_waits : ℕ → ℕ → Lease → List Entry → Bool
 still_waits limit now lease behind =
     not (list_any (is_work_on lease.node) (recorded behind)) && nat_lt now (lease.id + limit)
 
--- .. it lives when so many leases were given: nothing ended it, and its result is staged, or it
+-- .. it lives when `now` leases were given: nothing ended it, and its result is staged, or it
 -- still waits for one
 abbrev pub lives_on : ℕ → ℕ → Lease → List Entry → Bool
 lives_on limit now lease behind =

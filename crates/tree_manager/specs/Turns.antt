@@ -32,7 +32,7 @@ use Rattle.tree_manager.specs.Sessions.{MayAddInTurn}
 abbrev pub GrowsByTurns : List Entry → List Entry → Type 0
 GrowsByTurns = GrowsTo MayAddInTurn
 
--- The pass has the turn at this lock, and its front has so many entries.
+-- The pass has the turn at this lock, and its front has `entered` entries.
 pub record HasTurn (lock : LockId) (pass : SeenPass Entry) (entered : ℕ) : Type 0 where
   pub lock_is : pass.lock ≡ lock
   pub turn : pass.turn ≡ true
@@ -79,7 +79,7 @@ MayRelease id line = InStateOf line (λ s. HasRow (λ row. row.kept ≡ false) s
 abbrev pub MayNotRelease : ℕ → List Entry → Type 0
 MayNotRelease id line = InStateOf line (λ s. ¬ HasRow (λ row. row.kept ≡ false) s id)
 
--- so many roots, of which so many are settled
+-- the number of the roots, and of those that are settled
 pub record AreRootCounts (counts : RootCounts) (roots : Forest) : Type 0 where
   pub all : counts.all ≡ length (nodes roots)
   pub settled : counts.settled ≡ count_by (λ root. is_some (value_of root)) (nodes roots)
@@ -110,7 +110,7 @@ module _ (found new : List Entry) where
       (new ≡ found) × ((id ≡ given.id) × AwaitsNoResult given new)
   Stages given outcome (Err (stage.Memory error)) = new ≡ found
 
-  -- `stage` of a shared session: and of so many records of the line this is the last
+  -- `stage` of a shared session: and this is the number of the line's records, of which it is the last
   abbrev pub StagesNumbered : Lease → Outcome → Result ℕ StageRefusal → Type 0
   StagesNumbered given outcome (Ok number) =
       Stages given outcome (Ok tt) × (number ≡ length (recorded new))

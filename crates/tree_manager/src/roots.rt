@@ -72,7 +72,7 @@ pub(crate) fn stage_root<D: Disk, O: Oracle>(
     Ok(())
 }
 
-/// Takes back the last so many records staged, which are roots.
+/// Takes back the last `count` records staged, which are roots.
 pub(crate) fn forget_roots<D: Disk>(bench: &mut Bench, journal: &mut Journal<D>, count: usize)
     requires some { count ≤ length bench.old.staged }
     requires texts { count ≤ length journal.old.staged }

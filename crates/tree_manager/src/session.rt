@@ -30,7 +30,7 @@ pub struct Session<D: Disk> {
     journal: Journal<D>,
     /// The entries of the line, but for records.
     marks: Vec<Mark>,
-    /// For so many entries more there is room, beyond those of which one is taken at once: those that end leases and
+    /// For how many entries more there is room, beyond those of which one is taken at once: those that end leases and
     /// commits.
     due: usize,
 }
@@ -191,7 +191,7 @@ impl<D: Disk> Session<D> {
         self.journal.count().saturating_add(staged)
     }
 
-    /// So many records of its line are applied, and so durable. Of a session that has failed it says no.
+    /// Whether `number` records of its line are applied, and so durable. Of a session that has failed it says no.
     pub fn has_applied(&self, number: u64) -> bool
         ensures yes { result ≡ true → number ≤ length (applied_in self.now.line) }
         ensures no { result ≡ false → is_failed self.now.line ≡ false

@@ -32,7 +32,7 @@ use turn_lock::{Pass, TurnLock};
 /// How often a pass that waits for another's commit looks for it at most.
 const MOST_LOOKS: u32 = 256;
 
-/// In so many looks running no pass sleeps, where none is waited for any more.
+/// In how many looks running no pass sleeps, where none is waited for any more.
 const CALM_LOOKS: u32 = 8;
 
 /// A session that many threads share. Contracts see which lock it is.
@@ -206,7 +206,7 @@ impl<D: Disk> SharedBench<D> {
         self.is_slow.load(Ordering::SeqCst)
     }
 
-    /// Lets passes that sleep stage what they have, as long as there are any and no commit comes, and at most for so many
+    /// Lets passes that sleep stage what they have, as long as there are any and no commit comes, and at most for a number of
     /// looks. No clause speaks of this waiting.
     pub fn wait_for_commit(&self) {
         let commits = self.commits.load(Ordering::SeqCst);

@@ -130,7 +130,7 @@ fn take_turns<R: Wait + Clock>(
     }
 }
 
-/// So many passes of the lock.
+/// `passes` passes of the lock.
 fn split_off(
     alloc: Global,
     lock: &TurnLock<Turns>,
@@ -148,7 +148,7 @@ fn split_off(
     Ok(all)
 }
 
-/// So many passes take turns, each in a thread of its own. What the lock keeps, and what it counts.
+/// This number of passes take turns, each in a thread of its own. What the lock keeps, and what it counts.
 fn take_turns_in_threads<R: Threads + Wait + Clock + Sync>(
     rt: &R,
     alloc: Global,
@@ -190,7 +190,7 @@ fn turns_of(taken: &[Turn], caller: u64) -> Option<u64> {
     Some(next)
 }
 
-/// Lets so many passes take so many turns each, and stops where one is lost.
+/// Lets `passes` passes take `turns` turns each, and stops where one is lost.
 fn keep_every_turn<R: Threads + Wait + Clock + Sync>(
     abort: &impl Abort,
     rt: &R,

@@ -7,7 +7,7 @@ use std::alloc::{AllocError, Global};
 use strategy_certificate::Oracle;
 use swift_moves::successors_into;
 
-/// No more positions are looked through. A search never shows so many.
+/// No more positions are looked through. A search never shows as many.
 const MOST_POSITIONS: usize = 1 << 32;
 
 /// What is known of a position that is won.

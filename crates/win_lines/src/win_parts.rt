@@ -11,7 +11,7 @@ use std::alloc::{AllocError, Global};
 use strategy_certificate::{Oracle, WinEntry, WinPart};
 use swift_moves::{move_to, successors};
 
-/// The entry of a position so many plies before the end, with this move.
+/// The entry of a position `plies` plies before the end, with this move.
 fn entry_of(plies: u32, chosen: Option<Move>) -> WinEntry
     ensures rank { result.rank ≡ plies }
     ensures chosen { result.chosen ≡ chosen }
@@ -66,7 +66,7 @@ impl<W: KnownWins, O: Oracle> Needs<'_, '_, W, O> {
         Ok(fresh)
     }
 
-    /// Where the side goes, which is to move and wins in so many plies: of the positions that it wins sooner the first that
+    /// Where the side goes, which is to move and wins in `plies` plies: of the positions that it wins sooner the first that
     /// is there, or else the first with the fewest fresh replies.
     fn choose(
         &self,

@@ -35,7 +35,7 @@ none_of : (leases : List Lease) → length leases ≤ 0 → leases ≡ []
 none_of [] none = refl
 none_of (l ∷ leases) none = absurd (omega (arith, none))
 
--- so many parts of this size are all of a list
+-- this number of parts of this size is all of a list
 pub covers : (count len size : ℕ) → 0 < size → count ≡ len / size + min 1 (len % size) → len ≤ count * size
 covers count len size some is = by (len % size) refl
   where

@@ -15,7 +15,7 @@ use Rattle.tree_manager.specs.Turns.{AnswersWorker}
 use Rattle.worker_gate.specs.declared.worker.Ended.{Ended}
 use Rattle.worker_gate.specs.declared.worker.Ended.TheVariants.{Done, Spent, Failed, Memory}
 
--- Leaves of the line's session can be searched with tables of so many pieces: these are its tables,
+-- Leaves of the line's session can be searched with tables of this number of pieces: these are its tables,
 -- and it searches no deeper than may be.
 pub record CanSearch (pieces : ℕ) (front : List Entry) : Type 0 where
   pub tables : pieces ≡ session_pieces front

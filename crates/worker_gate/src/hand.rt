@@ -12,10 +12,10 @@ use std::alloc::Global;
 use std::collections::VecDeque;
 use tree_manager::{Session, SharedBench, StageRefusal};
 
-/// So many leaves a worker has leased at most.
+/// How many leaves a worker has leased at most.
 const MOST_LEASED: usize = 8;
 
-/// So many leases all workers may be given from one turn of a worker to its next, where it still asks for more: a pick looks
+/// How many leases all workers may be given from one turn of a worker to its next, where it still asks for more: a pick looks
 /// at the leaves that are leased.
 const MOST_TOGETHER: u128 = 32;
 
@@ -124,13 +124,13 @@ pub(crate) fn commit_unless_applied<D: Disk>(
     }
 }
 
-/// So many work records the budget of a session leaves.
+/// How many work records the budget of a session leaves.
 fn left_of_budget<D: Disk>(session: &Session<D>) -> usize {
     let bench = session.bench();
     u64::from(bench.budget()).saturating_sub(bench.work()) as usize
 }
 
-/// Leases up to so many leaves to a worker in a turn, and no more than the budget leaves. It is refused only where it gets
+/// Leases up to this number of leaves to a worker in a turn, and no more than the budget leaves. It is refused only where it gets
 /// none.
 #[tactic(auto, using(tree_manager::proofs::TurnLemmas::grows_then))]
 pub(crate) fn take_leaves<D: Disk>(

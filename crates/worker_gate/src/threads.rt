@@ -24,7 +24,7 @@ struct Worker<D: Disk> {
     pass: BenchPass<D>,
 }
 
-/// Runs so many workers in threads until each has ended, and then works on alone in the caller, whose end is the answer.
+/// Runs `workers` workers in threads until each has ended, and then works on alone in the caller, whose end is the answer.
 ///
 /// A worker for whose pass there is no room is not started. Where no thread can be made, the workers work one after another.
 #[tactic(auto, using(tree_manager::proofs::TurnLemmas::grows_then, crate::proofs::SearchingLemmas::can_search_on))]
@@ -49,7 +49,7 @@ pub fn run_workers<R: Threads + Wait + Sync, D: Disk + Send, O: Oracle + Sync, G
     work(rt, alloc, shared, pass, CALLER, oracle, gate)
 }
 
-/// So many workers, each with a pass that has seen what this one has, as far as there is room.
+/// This number of workers, each with a pass that has seen what this one has, as far as there is room.
 fn split_passes<D: Disk>(
     alloc: Global,
     shared: &SharedBench<D>,

@@ -43,7 +43,7 @@ const ROOTS: &[&str] = &[
 /// The most work records of one session.
 const BUDGET: u32 = 1_000;
 
-/// How a session searches in which a lease lasts for so many leases given.
+/// How a session searches in which a lease lasts for `lease` leases given.
 pub(crate) fn settings(lease: u32) -> Settings
     requires first { 1 ≤ lease }
     requires last { lease ≤ MOST_LEASE }

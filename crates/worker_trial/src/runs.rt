@@ -20,7 +20,7 @@ use worker_gate::{Ended, OpenGate, run_workers, work};
 /// The number of the worker that works alone.
 const ONLY_WORKER: u32 = 1;
 
-/// In the session of the one worker a lease lasts for so many leases given.
+/// In the session of the one worker a lease lasts for this number of leases given.
 const LONE_LEASE: u32 = 1;
 
 /// What a session came to.
@@ -151,7 +151,7 @@ pub(crate) fn run_alone<R: Wait>(
     come_to(rt, alloc, shared, pass, ended, table)
 }
 
-/// What so many workers who pass the gate come to on a copy of the disk, where a lease lasts for so many leases given.
+/// What `workers` workers who pass the gate come to on a copy of the disk, where a lease lasts for this number of leases given.
 pub(crate) fn run_together<R: Threads + Wait + Sync>(
     rt: &R,
     alloc: Global,

@@ -18,7 +18,7 @@ pub(crate) const RUNS: u32 = 1_000;
 /// How many workers share a session, beside the caller, who works on where they end.
 pub(crate) const WORKERS: u8 = 8;
 
-/// A lease lasts for so many leases given at most.
+/// A lease lasts for this number of leases given at most.
 const LONGEST_LEASE: u32 = 3;
 
 /// Compares the values of the roots with those of one worker.
@@ -36,7 +36,7 @@ fn compare(seed: u32, alone: &[Option<Value>], together: &[Option<Value>]) -> Re
     Ok(())
 }
 
-/// The runs in which a lease lasts for so many leases given, each compared with that of one worker.
+/// The runs in which a lease lasts for this number of leases given, each compared with that of one worker.
 fn run_lease<R: Threads + Wait + Sync>(
     rt: &R,
     alloc: Global,

@@ -1,7 +1,7 @@
 //! What the searches of runs came to.
 use std::io;
 
-/// The searches of the runs in which a lease lasts for so many leases given.
+/// The searches of the runs in which a lease lasts for this number of leases given.
 #[derive(Clone, Copy)]
 pub(crate) struct Tally {
     lease: u32,

@@ -29,7 +29,7 @@ pub const GENERATE_LEASE: u32 = 1_000_000;
 /// How many workers search.
 pub const GENERATE_WORKERS: u8 = 4;
 
-/// What a run on the journal with so many openings that are made from the seed has to write, and
+/// What a run on the journal with `count` openings that are made from the seed has to write, and
 /// the disk. It writes no line of a root.
 pub(crate) fn generate<R: Threads + Wait + Sync, D: Disk + Send, G: Gate + Sync>(
     rt: &R,

@@ -9,7 +9,7 @@ use endgame_table::{fill, table_bytes};
 use opening_report::{Refusal, Written};
 use std::alloc::Global;
 
-/// The bytes of the table of so many pieces, 2 or 3.
+/// The bytes of the table of `pieces` pieces, 2 or 3.
 pub(crate) fn table(alloc: Global, pieces: u8) -> Result<Written, Refusal>
     requires { IsTableSize pieces }
     ensures answers { IfOk result (λ output. AreTableBytes pieces output.text.items) }

@@ -271,7 +271,7 @@ impl PlainTree {
         }
     }
 
-    /// The leaf at which the walk ends, and the goal, where so many are taken.
+    /// The leaf at which the walk ends, and the goal, where `taken` are taken.
     pub(crate) fn pick(
         &self,
         alloc: Global,
