@@ -10,6 +10,12 @@ use archive_words::{
 use std::alloc::AllocError;
 use std::mem;
 
+/// The tag is a `GameType` in words that the strict profile does not have.
+fn is_odd_game_type(tag: TagText<'_>) -> bool {
+    let is_strict = tag.value == b"21".as_slice() || tag.value.starts_with(b"21,");
+    tag.name == b"GameType".as_slice() && !is_strict
+}
+
 impl Reading {
     /// The tag ends.
     pub(crate) fn end_tag(&mut self) -> Result<(), AllocError>
@@ -99,14 +105,14 @@ impl Reading {
         if !is_strict_name(tag.name) {
             self.kept.note(place, NoteKind::OddName)?;
         }
-        self.mark_tag(name, tag.value)?;
+        self.mark_tag(name, tag)?;
         let name = Vec::from_slice(self.alloc, tag.name)?;
         let value = unescaped(self.alloc, tag.value)?;
         self.kept.add_tag(ArchiveTag { place, name, value })
     }
 
     /// What a tag says of the open game.
-    fn mark_tag(&mut self, name: TagName, value: &[u8]) -> Result<(), AllocError>
+    fn mark_tag(&mut self, name: TagName, tag: TagText<'_>) -> Result<(), AllocError>
         ensures { self.new.kept.reached ≡ self.old.kept.reached }
     {
         match name {
@@ -115,10 +121,13 @@ impl Reading {
                 Ok(())
             }
             TagName::Result => {
-                self.kept.mark_result(Outcome::of_tag(value));
+                self.kept.mark_result(Outcome::of_tag(tag.value));
                 Ok(())
             }
-            TagName::GameType | TagName::Variant => match game_kind(value) {
+            TagName::GameType | TagName::Variant => match game_kind(tag.value) {
+                GameKind::English if is_odd_game_type(tag) => {
+                    self.kept.note(self.opened, NoteKind::OddGameType)
+                }
                 GameKind::English => Ok(()),
                 GameKind::Other => self.kept.note(self.opened, NoteKind::OtherGame),
                 GameKind::Unknown => self.kept.note(self.opened, NoteKind::UnknownGame),

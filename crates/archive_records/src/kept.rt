@@ -1,5 +1,5 @@
 //! What has been read: the game that is open, and games that have ended.
-ghost use Rattle.std.specs.Prelude.{◌≡◌, ◌≤◌, ◌<◌, ◌==◌, ◌&&◌, All, IfSome, is_none, length, max, not, true};
+ghost use Rattle.std.specs.Prelude.{◌≡◌, ◌≤◌, ◌<◌, ◌==◌, ◌&&◌, All, IfSome, is_none, length, max, not, true, OnOk};
 ghost use Rattle.archive_records.specs.Inside.{IsGameWithin};
 
 use crate::game::{ArchiveGame, ArchiveMove, ArchiveTag, FoundPosition, FoundResult};
@@ -30,9 +30,12 @@ pub struct Kept {
 }
 
 impl Kept {
+    ghost use Rattle.archive_records.specs.Unbegun.{IsUnbegun};
+
     /// No game yet.
     pub fn new(alloc: Global) -> Kept
-        ensures { result.reached ≡ 0 }
+        ensures reached { result.reached ≡ 0 }
+        ensures next { IsUnbegun result }
     {
         Kept {
             alloc,
@@ -198,6 +201,7 @@ impl Kept {
         requires { IfSome score (λ found. found.place.byte ≤ self.old.reached) }
         ensures reached { self.new.reached ≡ self.old.reached }
         ensures within { IsGameWithin self.old.reached result }
+        ensures next { IsUnbegun self.new }
     {
         let next = ArchiveGame::empty(self.alloc, self.draft.number.saturating_add(1));
         let mut game = mem::replace(&mut self.draft, next);
@@ -209,10 +213,11 @@ impl Kept {
         game
     }
 
-    /// Ends the open game.
+    /// Ends the open game. The next one has nothing of it: neither its position nor its fault.
     pub fn close(&mut self, score: Option<FoundResult>) -> Result<(), AllocError>
         requires { IfSome score (λ found. found.place.byte ≤ self.old.reached) }
-        ensures { self.new.reached ≡ self.old.reached }
+        ensures reached { self.new.reached ≡ self.old.reached }
+        ensures next { OnOk result (IsUnbegun self.new) }
     {
         self.note_whole(score)?;
         let game = self.take_draft(score);

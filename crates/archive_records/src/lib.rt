@@ -5,7 +5,8 @@
 //! archive's signs.
 //!
 //! Proved: which notes leave a game out, which are doubtful readings, and which tell a change. A game
-//! that is kept has no place behind the last sign that was reached.
+//! that is kept has no place behind the last sign that was reached. When a game ends, the next one has
+//! nothing of it.
 //!
 //! Tests: archive_tests/src/games.rt
 #![tactic(auto)]

@@ -85,8 +85,10 @@ pub enum NoteKind {
     BareTag,
     #[error("a tag whose name is no name of the strict profile is not written")]
     OddName,
-    #[error("a result in words, written as the tag Result says, or as `*`")]
+    #[error("a result in words: a draw is written as 1/2-1/2, each other one as `*`")]
     WordResult,
+    #[error("a GameType in other words than 21 is not written: English draughts is meant without it")]
+    OddGameType,
     #[error("a position on a line of its own, or in another tag, written as the tag FEN")]
     BareFen,
     #[error("a position written without blanks, counters and small letters")]
@@ -115,6 +117,7 @@ impl NoteKind {
             NoteKind::BareTag => Weight::Change,
             NoteKind::OddName => Weight::Change,
             NoteKind::WordResult => Weight::Change,
+            NoteKind::OddGameType => Weight::Change,
             NoteKind::BareFen => Weight::Change,
             NoteKind::ChangedFen => Weight::Change,
             _ => Weight::Doubt,

@@ -7,6 +7,7 @@ ghost use Rattle.game_reader.specs.Scores.{score_of, score_of_outcome};
 ghost use Rattle.archive_records.specs.declared.notes.NoteKind.TheVariants as kinds;
 
 use archive_games::{ArchiveGame, ArchiveMove, ArchiveTag, FoundPosition, Note, NoteKind, Outcome};
+use archive_words::{GameKind, game_kind};
 use draughts_board::{Position, ResolveRefusal};
 use fen_text::read_fen;
 use std::alloc::{AllocError, Global};
@@ -27,8 +28,13 @@ fn begun(alloc: Global, position: &Option<FoundPosition>) -> Option<Draft>
     }
 }
 
-/// Adds the tags that the strict profile allows, but `FEN`. Answers false where one names another
-/// game than English draughts.
+/// The value of a tag `GameType` names another game than English draughts.
+fn is_other_game(value: &[u8]) -> bool {
+    matches!(game_kind(value), GameKind::Other)
+}
+
+/// Adds the tags that the strict profile allows, but `FEN`. A `GameType` in words that it does not
+/// have is left out. Answers false where one names another game than English draughts.
 fn add_tags(draft: &mut Draft, tags: &[ArchiveTag]) -> Result<bool, AllocError>
     ensures same { OnOk result (draft.new.set_up ≡ draft.old.set_up) }
     ensures here { OnOk result (draft.new.here ≡ draft.old.here) }
@@ -36,7 +42,8 @@ fn add_tags(draft: &mut Draft, tags: &[ArchiveTag]) -> Result<bool, AllocError>
     for tag in tags {
         match draft.tag(&tag.name, &tag.value) {
             Ok(()) | Err(TagRefusal::Name) | Err(TagRefusal::SetUp) => {}
-            Err(TagRefusal::OtherGame) => return Ok(false),
+            Err(TagRefusal::OtherGame) if is_other_game(&tag.value) => return Ok(false),
+            Err(TagRefusal::OtherGame) => {}
             Err(TagRefusal::Memory(error)) => return Err(error),
         }
     }

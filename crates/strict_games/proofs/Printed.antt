@@ -254,9 +254,9 @@ english_cleaned value e =
     elim (or_cases (bytes_eq value (codes "21")) (starts_with ◌==◌ value (codes "21,")) e) [
       | inl is ↦ subst (λ v. is_english (cleaned v) ≡ true) (sym ((bytes_eq-Decides value (codes "21")).0 is)) refl
       | inr begins ↦ (
-        let same : codes "21," ≡ take 3 value = (pointwise_decides Decides-eqb (codes "21,") (take 3 value)).0 begins in
-        let clean : take 3 (cleaned value) ≡ codes "21," = take_three (λ b. if is_line_end b then 32 else b) value ∙ ap (map (λ b. if is_line_end b then 32 else b)) (sym same) in
-        or_last (bytes_eq (cleaned value) (codes "21")) (starts_with ◌==◌ (cleaned value) (codes "21,")) (ap (pointwise ◌==◌ (codes "21,")) clean))
+          let same : codes "21," ≡ take 3 value = (pointwise_decides Decides-eqb (codes "21,") (take 3 value)).0 begins in
+          let clean : take 3 (cleaned value) ≡ codes "21," = take_three (λ b. if is_line_end b then 32 else b) value ∙ ap (map (λ b. if is_line_end b then 32 else b)) (sym same) in
+          or_last (bytes_eq (cleaned value) (codes "21")) (starts_with ◌==◌ (cleaned value) (codes "21,")) (ap (pointwise ◌==◌ (codes "21,")) clean))
     ]
 
 clean_line : (value : List ℕ) → list_all (λ b. not (is_line_end b)) (cleaned value) ≡ true

@@ -146,7 +146,7 @@ results P w is a b c d e f g =
         | inl is ↦ elim (or_cases _ _ is) [
           | inl is ↦ elim (or_cases _ _ is) [
             | inl is ↦ elim (or_cases _ _ is) [
-              | inl is ↦ elim (or_cases _ _ is) [ | inl is ↦ at (codes "1-0") is a | inr is ↦ at (codes "0-1") is b ]
+              | inl is ↦ elim (or_cases _ _ is) [ inl is ↦ at (codes "1-0") is a | inr is ↦ at (codes "0-1") is b ]
               | inr is ↦ at (codes "1/2-1/2") is c
             ]
             | inr is ↦ at (codes "2-0") is d

@@ -117,11 +117,7 @@ fn put_back(
 /// A game of one line that stands for all games that lead to a position: `[FEN ".."]`, and the tag
 /// `Games` with their numbers as ranges, `12, 40-43`.
 #[tactic(auto, using(crate::proofs::Grouped::games_taken))]
-pub fn group_text(
-    alloc: Global,
-    position: &Position,
-    games: &[u32],
-) -> Result<Vec<u8>, AllocError>
+pub fn group_text(alloc: Global, position: &Position, games: &[u32]) -> Result<Vec<u8>, AllocError>
     ensures { IfOk result (λ text. IsGroupText position.now games.now text.items) }
 {
     let mut draft = Draft::new(alloc, Some(*position));

@@ -19,9 +19,9 @@ pub mod laws;
 mod lone;
 mod printing;
 mod ranges;
-mod wording;
 mod spelling;
 mod tags;
+mod wording;
 
 pub use draft::Draft;
 pub use groups::{OpeningGroups, group_text};

@@ -8,8 +8,8 @@ ghost use Rattle.draughts_board.specs.Board.{IsLawful};
 ghost use Rattle.fen_text.specs.Printed.{fen_of};
 
 use crate::wording::{
-    MoveNumber, move_len, number_before, number_len, push_move_text, push_number_text, push_tag_text,
-    word_of,
+    MoveNumber, move_len, number_before, number_len, push_move_text, push_number_text,
+    push_tag_text, word_of,
 };
 use draughts_board::{Move, Position, Side};
 use fen_text::print_fen;

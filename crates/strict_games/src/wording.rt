@@ -39,11 +39,7 @@ fn push_value(text: &mut Vec<u8>, value: &[u8]) -> Result<(), AllocError>
 }
 
 /// Appends a tag.
-pub(crate) fn push_tag_text(
-    text: &mut Vec<u8>,
-    name: &[u8],
-    value: &[u8],
-) -> Result<(), AllocError>
+pub(crate) fn push_tag_text(text: &mut Vec<u8>, name: &[u8], value: &[u8]) -> Result<(), AllocError>
     ensures { OnOk result (text.new.items ≡ text.old.items ++ tag_text name.now value.now) }
 {
     text.push(b'[')?;
