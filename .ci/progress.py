@@ -1,8 +1,10 @@
 #!/usr/bin/env python3
 """Runs a command that searches with a terminal on standard error, and without one.
 
-Standard output has to be the same byte for byte, and the exit status too. The terminal has to show lines of progress alone,
-whose numbers do not fall, one a second at most; what is no terminal has to get nothing. An argument names another program.
+Standard output has to be the same byte for byte, and the exit status too. The terminal has to show one line of progress that is
+rewritten, once a second at most, whose numbers do not fall, and that is cleared at the end. What is no terminal has to get
+one line a minute at most, and none in the first one. A terminal that has both streams shows that a journal is read and that certificates are joined, and then
+the report from the line's begin on. An argument names another program.
 """
 import os
 import pathlib
@@ -10,18 +12,26 @@ import pty
 import re
 import subprocess
 import sys
+import tempfile
 import time
 
 TOP = pathlib.Path(__file__).resolve().parent.parent
 WORDS = ["-", "generate", "7", "100"]
-LINE = re.compile(rb"searches begun: (\d+), roots settled: (\d+) of (\d+)\r\n")
+SAID = rb"records (\d+) of (\d+), roots settled (\d+) of (\d+)(?:, root \d+ in work, \d+ searches/s(?:, \d+ positions)?)?"
+LINE = re.compile(rb"\r" + SAID + rb"\x1b\[K")
+LOGGED = re.compile(SAID + rb"\n")
+CLEAR = b"\r\x1b[K"
+READ = b"\rreading the journal and joining certificates\x1b[K" + CLEAR + b"roots 0 settled 0 unsolved 0\r\n"
+JOINED = (b"\rreading the journal\x1b[K" + CLEAR + b"\rjoining certificates\x1b[K" + CLEAR +
+          b"root 1 W:W16,23:B12 white-wins\r\nroots 1 settled 1 unsolved 0\r\n")
 
 
-def at_terminal(program):
+def at_terminal(program, words, has_both=False, source=os.devnull):
     """What it writes to standard output and to the terminal, how it ended, and how many seconds it took."""
     ours, theirs = pty.openpty()
     begun = time.monotonic()
-    with subprocess.Popen([program, *WORDS], stdin=subprocess.DEVNULL, stdout=subprocess.PIPE, stderr=theirs) as run:
+    where = {"stdout": theirs if has_both else subprocess.PIPE, "stderr": theirs}
+    with open(source, "rb") as read, subprocess.Popen([program, *words], stdin=read, **where) as run:
         os.close(theirs)
         shown = b""
         while True:
@@ -32,7 +42,7 @@ def at_terminal(program):
             if not part:
                 break
             shown += part
-        output = run.stdout.read()
+        output = b"" if has_both else run.stdout.read()
         status = run.wait()
     os.close(ours)
     return output, shown, status, time.monotonic() - begun
@@ -44,23 +54,32 @@ def main():
     else:
         subprocess.run([TOP / "bin/opening_bench", "--version"], stdout=subprocess.DEVNULL, check=True)
         program = TOP / "crates/opening_bench/out/opening_bench"
-    output, shown, status, seconds = at_terminal(program)
+    output, shown, status, seconds = at_terminal(program, WORDS)
+    begun = time.monotonic()
     plain = subprocess.run([program, *WORDS], stdin=subprocess.DEVNULL, capture_output=True, check=False)
+    minutes = (time.monotonic() - begun) // 60
     faults = []
-    if plain.stderr:
-        faults.append("progress is written where standard error is no terminal")
+    if LOGGED.sub(b"", plain.stderr) or len(LOGGED.findall(plain.stderr)) > minutes:
+        faults.append(f"where standard error is no terminal it gets in {minutes:.0f} minutes {plain.stderr[:200]!r}")
     if (output, status) != (plain.stdout, plain.returncode):
         faults.append("standard output or the exit status is another one at a terminal")
     lines = [tuple(map(int, found)) for found in LINE.findall(shown)]
-    if LINE.sub(b"", shown) or not lines:
+    if LINE.sub(b"", shown) != CLEAR or not lines:
         faults.append(f"the terminal shows no lines of progress, or others too: {shown[:200]!r}")
     if len(lines) > seconds + 1:
         faults.append(f"{len(lines)} lines in {seconds:.1f} seconds")
     for before, after in zip(lines, lines[1:]):
-        if after[0] < before[0] or after[1] < before[1] or after[2] != before[2]:
+        if after[0] < before[0] or after[2] < before[2] or (after[1], after[3]) != (before[1], before[3]):
             faults.append(f"the numbers fall: {before}, {after}")
-    if any(settled > roots for _, settled, roots in lines):
+    if any(settled > roots for _, _, settled, roots in lines):
         faults.append("more roots are settled than there are")
+    with tempfile.TemporaryDirectory() as folder:
+        open(f"{folder}/journal", "wb").close()
+        read = at_terminal(program, [f"{folder}/journal", "report"], has_both=True)[1]
+        first = TOP / "examples/first.pdn"
+        joined = at_terminal(program, [f"{folder}/journal", "solve", "--depth", "1"], has_both=True, source=first)[1]
+    if read != READ or LINE.sub(b"", joined) != JOINED:
+        faults.append(f"a terminal shows other reports: {read[:200]!r}, {joined[:400]!r}")
     for fault in faults:
         print(f"progress: {fault}", file=sys.stderr)
     return 1 if faults else 0

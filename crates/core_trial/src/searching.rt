@@ -8,7 +8,7 @@ use endgame_table::Table;
 use leaf_search::Memo;
 use lease_table::Lease;
 use std::alloc::Global;
-use worker_gate::{can_search, search_lease};
+use worker_gate::{OpenGate, can_search, search_lease};
 
 /// How many positions a search remembers.
 const REMEMBERED: usize = 1_024;
@@ -21,5 +21,5 @@ pub(crate) fn outcome_of(alloc: Global, lease: &Lease, table: &Table) -> Result<
         bail!("the lease is of no search");
     }
     let mut memo = Memo::new(alloc, table.pieces(), REMEMBERED)?;
-    Ok(search_lease(alloc, lease, table, &mut memo)?)
+    Ok(search_lease(alloc, lease, table, &OpenGate, &mut memo)?)
 }

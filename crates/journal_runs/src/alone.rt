@@ -11,7 +11,7 @@ use leaf_search::Memo;
 use std::alloc::{AllocError, Global};
 use strategy_certificate::Oracle;
 use tree_manager::{Session, StageRefusal};
-use worker_gate::{Ended, search_lease};
+use worker_gate::{Ended, Gate, search_lease};
 
 /// How many positions are remembered in which looking ahead shows no win.
 const REMEMBERED: usize = 65_536;
@@ -21,10 +21,11 @@ pub(crate) const ONLY_WORKER: u32 = 1;
 
 /// Searches the leaf that is next, and commits what was found: one work record more is applied. Else it answers why not.
 #[tactic(auto, using(worker_gate::proofs::SearchingLemmas::leased_can_be))]
-fn settle_leaf<D: Disk, O: Oracle>(
+fn settle_leaf<D: Disk, O: Oracle, G: Gate>(
     alloc: Global,
     session: &mut Session<D>,
     oracle: &O,
+    gate: &G,
     memo: &mut Memo,
 ) -> Option<Ended>
     requires tables { O.piece_limit oracle.now ≡ session.old.core.state.settings.pieces }
@@ -49,7 +50,7 @@ fn settle_leaf<D: Disk, O: Oracle>(
         Err(LeaseRefusal::Memory(_)) => return Some(Ended::Memory),
         Err(LeaseRefusal::NoLeaf { .. }) => unreachable!(),
     };
-    let outcome = match search_lease(alloc, &lease, oracle, memo) {
+    let outcome = match search_lease(alloc, &lease, oracle, gate, memo) {
         Ok(outcome) => outcome,
         Err(AllocError) => return Some(Ended::Memory),
     };
@@ -65,10 +66,16 @@ fn settle_leaf<D: Disk, O: Oracle>(
     }
 }
 
-/// Settles leaf after leaf of an idle session, until every root is settled or the budget is spent.
+/// Settles leaf after leaf of an idle session, until every root is settled or the budget is spent. The gate hears of the positions
+/// that the searches look at, and holds nobody.
 ///
 /// With `Done` and `Spent` the session is idle again: all that was found is applied.
-pub fn work_alone<D: Disk, O: Oracle>(alloc: Global, session: &mut Session<D>, oracle: &O) -> Ended
+pub fn work_alone<D: Disk, O: Oracle, G: Gate>(
+    alloc: Global,
+    session: &mut Session<D>,
+    oracle: &O,
+    gate: &G,
+) -> Ended
     requires tables { O.piece_limit oracle.now ≡ session.old.core.state.settings.pieces }
     requires depth { session.old.core.state.settings.depth ≤ MOST_DEPTH }
     requires idle { IsIdle session.old }
@@ -81,7 +88,7 @@ pub fn work_alone<D: Disk, O: Oracle>(alloc: Global, session: &mut Session<D>, o
         Err(AllocError) => return Ended::Memory,
     };
     loop {
-        if let Some(ended) = settle_leaf(alloc, session, oracle, &mut memo) {
+        if let Some(ended) = settle_leaf(alloc, session, oracle, gate, &mut memo) {
             return ended;
         }
     }

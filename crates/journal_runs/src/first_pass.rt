@@ -24,7 +24,7 @@ use std::alloc::{AllocError, Global};
 use std::collections::VecDeque;
 use std::thread::Threads;
 use strategy_certificate::Oracle;
-use tree_manager::{RootCounts, Session, StageRefusal};
+use tree_manager::{Session, StageRefusal};
 use worker_gate::{Ended, Gate, LeafFound, search_together};
 
 /// How many roots are searched in the first pass at most: while a root waits, each pick looks at it.
@@ -86,8 +86,8 @@ fn search_roots<R: Threads + Sync, D: Disk, O: Oracle + Sync, G: Gate + Sync>(
             break;
         }
         left -= roots.len();
-        let counts = RootCounts::of(session.bench().tree());
-        let found = match search_together(rt, alloc, &roots, workers, oracle, gate, counts) {
+        gate.look(session.bench());
+        let found = match search_together(rt, alloc, &roots, workers, oracle, gate) {
             Ok(found) => found,
             Err(AllocError) => return Err(Ended::Memory),
         };

@@ -203,6 +203,7 @@ fn work_on<R: Threads + Wait + Sync, D: Disk + Send, O: Oracle + Sync, G: Gate +
     ensures refused { IfErr result.1 (IsWorkRefusal session positions.now) }
 {
     let mut session = session;
+    gate.begins(session.recorded());
     match session.begin(positions, oracle) {
         Ok(_) => {}
         Err(BeginRefusal::TooManyRoots) => return (session, Err(RunRefusal::TooManyRoots)),
@@ -210,7 +211,9 @@ fn work_on<R: Threads + Wait + Sync, D: Disk + Send, O: Oracle + Sync, G: Gate +
         Err(BeginRefusal::Disk) => return (session, Err(DISK_FAULT)),
         Err(BeginRefusal::Failed) => return (session, Err(DISK_FAULT)),
     }
+    gate.look(session.bench());
     let (session, ended) = work_together(rt, alloc, session, workers, lease, oracle, gate);
+    gate.ends(session.bench());
     match ended {
         Ended::Done => (session, Ok(true)),
         Ended::Spent => (session, Ok(false)),

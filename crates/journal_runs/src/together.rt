@@ -20,7 +20,12 @@ use worker_gate::{Ended, Gate, run_workers};
 /// Commits what is staged, ends the leases that are left, and works on with the session alone.
 ///
 /// With `Done` and `Spent` the session is idle.
-fn go_on_alone<D: Disk, O: Oracle>(alloc: Global, session: &mut Session<D>, oracle: &O) -> Ended
+fn go_on_alone<D: Disk, O: Oracle, G: Gate>(
+    alloc: Global,
+    session: &mut Session<D>,
+    oracle: &O,
+    gate: &G,
+) -> Ended
     requires { CanSearch (O.piece_limit oracle.now) session.old.line }
     ensures grows { GrowsByTurns session.old.line session.new.line }
     ensures ended { IsEndedBy result session.new }
@@ -28,7 +33,7 @@ fn go_on_alone<D: Disk, O: Oracle>(alloc: Global, session: &mut Session<D>, orac
     match session.commit() {
         Ok(_) => {
             session.end_leases();
-            work_alone(alloc, session, oracle)
+            work_alone(alloc, session, oracle, gate)
         }
         Err(_) => Ended::Failed,
     }
@@ -56,7 +61,7 @@ fn share_work<R: Threads + Wait + Sync, D: Disk + Send, O: Oracle + Sync, G: Gat
     };
     run_workers(rt, alloc, &shared, &mut pass, workers, oracle, gate);
     let mut session = shared.finish(rt, pass);
-    let ended = go_on_alone(alloc, &mut session, oracle);
+    let ended = go_on_alone(alloc, &mut session, oracle, gate);
     (session, ended)
 }
 

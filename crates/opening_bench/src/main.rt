@@ -15,8 +15,10 @@ pub mod bench;
 mod by_command;
 #[cfg(test)]
 mod certificate_tests;
+mod clearing_sink;
 mod commands;
 mod deeper;
+mod disk_texts;
 mod ended;
 #[cfg(test)]
 mod handing_back_tests;
@@ -24,6 +26,7 @@ mod handing_back_tests;
 mod journal_tests;
 mod odd_journals;
 mod progress;
+mod progress_lines;
 #[cfg(test)]
 mod progress_tests;
 mod quiet;
@@ -31,25 +34,31 @@ mod running;
 #[cfg(test)]
 mod runs_of_tests;
 mod searching;
+mod shares;
 #[cfg(test)]
 mod solve_tests;
 #[cfg(test)]
 mod table_tests;
 mod telling;
+mod unsolved;
+#[cfg(test)]
+mod unsolved_tests;
 mod usage;
 
-use bench_disk::FileDisk;
-use bench_edges::{StdSink, StdSource};
+use bench_disk::{Access, FileDisk};
+use bench_edges::{Command, StdSink, StdSource, read_words};
+use clearing_sink::ClearingSink;
+use disk_texts::{looks, writes};
 pub use ended::Ended;
 use program_edges::{KeepingSink, KeepingSource, PathDisk, Standards, args, print, told, words_of};
 use progress::ProgressGate;
 pub use quiet::bench_quiet;
 pub use running::run;
-use std::io;
+use std::io::{self, IsTerminal};
 use std::process::ExitCode;
 use std::sync::Wait;
 use std::thread::Threads;
-use telling::tell_of;
+use telling::{Heard, tell_of, tell_of_disk, tell_of_other_run};
 use usage::{USAGE, VERSION};
 
 /// The word of a journal that is named by none.
@@ -63,19 +72,38 @@ fn run_on<R: Threads + Wait + Sync>(
     words: &[&str],
     disk: PathDisk<FileDisk<&HostRuntime>>,
 ) -> u8 {
+    let gate = ProgressGate::new(rt, words);
     let mut source = KeepingSource::new(StdSource::new(rt.reader()));
-    let mut sink = KeepingSink::new(rt.alloc(), StdSink::new(io::writer(rt)));
-    let (ended, _disk) = run(
+    let out = ClearingSink::new(StdSink::new(io::writer(rt)), &gate);
+    let mut sink = KeepingSink::new(rt.alloc(), out);
+    let command = command_of(words);
+    if looks(command) || (writes(command) && !rt.stdin().is_terminal()) {
+        gate.reads(looks(command));
+    }
+    let (ended, disk) = run(
         threads,
         rt.alloc(),
         words,
         &mut source,
         &mut sink,
         disk,
-        &ProgressGate::new(rt),
+        &gate,
     );
-    tell_of(rt, words, &ended, source.kept(), sink.kept());
+    gate.clear();
+    tell_of_disk(rt, words, &disk);
+    let heard = Heard {
+        cause: disk.cause(),
+        source: source.kept(),
+        written: sink.kept(),
+        unsolved: gate.unsolved(),
+    };
+    tell_of(rt, words, &ended, &heard);
     ended.status.number()
+}
+
+/// The command that the words say; none where they say none.
+fn command_of(words: &[&str]) -> Option<Command> {
+    read_words(words).ok()
 }
 
 /// Runs on the journal that the first word names, and gives the exit status. No word stands for a
@@ -87,7 +115,16 @@ fn run_words<R: Threads + Wait + Sync>(
 ) -> Result<u8, u8> {
     let standards = Standards::take(rt);
     let path = words.first().copied().unwrap_or(NO_PATH);
-    let disk = standards.disk_of(rt, path)?;
+    let command = command_of(words);
+    if writes(command) && standards.has_other_run(rt, path) {
+        tell_of_other_run(rt, path);
+    }
+    let access = if looks(command) {
+        Access::Looks
+    } else {
+        Access::Writes
+    };
+    let disk = standards.disk_of(rt, path, access)?;
     Ok(run_on(threads, rt, words, disk))
 }
 

@@ -1,14 +1,30 @@
 //! What a person at a terminal is told on standard error, behind what the run itself wrote.
+use crate::NO_PATH;
 use crate::deeper::deeper_text;
+use crate::disk_texts::{failed_text, missing_text, other_run_text};
 use crate::ended::Ended;
 use crate::odd_journals::journal_text;
+use bench_disk::FileDisk;
 use bench_edges::{Command, MOST_PLIES, Options, Status};
 use opening_report::Refusal;
-use program_edges::tell;
+use program_edges::{PathDisk, tell};
 use refusal_hints::hint;
 use source_warnings::warnings_text;
 use std::alloc::{AllocError, Global};
-use std::io::IsTerminal;
+use std::io::{ErrorKind, IsTerminal};
+
+/// What a run leaves of which a person is told.
+#[derive(Clone, Copy)]
+pub(crate) struct Heard<'a> {
+    /// What the system said of the journal's file when it last refused a call.
+    pub(crate) cause: Option<ErrorKind>,
+    /// What the run read; empty where that did not come to its end.
+    pub(crate) source: &'a [u8],
+    /// What it wrote.
+    pub(crate) written: &'a [u8],
+    /// What there is to say of roots without a value.
+    pub(crate) unsolved: &'a [u8],
+}
 
 /// How many plies of each game were asked, and 0 where all were, as if no number is given.
 fn plies_asked(options: &Options) -> usize {
@@ -43,6 +59,26 @@ fn leaves_source(refusal: Refusal) -> bool {
     matches!(refusal, Refusal::TooLong | Refusal::Read | Refusal::Memory)
 }
 
+/// The journal's path.
+fn path_of<'a>(words: &[&'a str]) -> &'a str {
+    words.first().copied().unwrap_or(NO_PATH)
+}
+
+/// What can be done about a refusal: where the disk failed, that is told by what the system said.
+fn advice_text(
+    alloc: Global,
+    words: &[&str],
+    refusal: &Refusal,
+    heard: &Heard<'_>,
+) -> Result<Vec<u8>, AllocError> {
+    if matches!(refusal, Refusal::Disk)
+        && let Some(text) = failed_text(alloc, path_of(words), heard.cause)?
+    {
+        return Ok(text);
+    }
+    hint(alloc, words, refusal, heard.source)
+}
+
 /// The text for a person on a refusal: what can be done about it, and behind that the warnings on
 /// the games that were read.
 fn refusal_text(
@@ -50,49 +86,43 @@ fn refusal_text(
     words: &[&str],
     refusal: Refusal,
     command: Option<Command>,
-    source: &[u8],
+    heard: &Heard<'_>,
 ) -> Result<Vec<u8>, AllocError> {
-    let mut text = hint(alloc, words, &refusal, source)?;
+    let mut text = advice_text(alloc, words, &refusal, heard)?;
     if let Some(Command::Solve(options)) = command
         && !leaves_source(refusal)
     {
-        let warnings = warned_text(alloc, &options, source)?;
+        let warnings = warned_text(alloc, &options, heard.source)?;
         text.extend_from_slice(&warnings)?;
     }
     Ok(text)
 }
 
-/// What is told of games that were read: warnings, and which depth tries more where roots are
-/// unsolved in the report.
-fn solved_text(
-    alloc: Global,
-    options: &Options,
-    source: &[u8],
-    report: &[u8],
-) -> Result<Vec<u8>, AllocError> {
-    let mut text = warned_text(alloc, options, source)?;
-    text.extend_from_slice(&deeper_text(alloc, options, report)?)?;
+/// What is told of games that were read: warnings, what there is to say of roots without a value, and
+/// which depth tries more where roots are unsolved in the report.
+fn solved_text(alloc: Global, options: &Options, heard: &Heard<'_>) -> Result<Vec<u8>, AllocError> {
+    let mut text = warned_text(alloc, options, heard.source)?;
+    text.extend_from_slice(heard.unsolved)?;
+    text.extend_from_slice(&deeper_text(alloc, options, heard.written)?)?;
     Ok(text)
 }
 
 /// The text for a person on a run that ended so: what can be done about a refusal; warnings, where
-/// games were read, and which depth tries more; how to keep a table that went to a terminal.
-/// `source` is what the run read, and empty where that did not come to its end; `written` is what it
-/// wrote.
+/// games were read, what is told of roots without a value, and which depth tries more; how to keep a
+/// table that went to a terminal.
 fn text_for(
     alloc: Global,
     words: &[&str],
     ended: &Ended,
-    source: &[u8],
-    written: &[u8],
+    heard: &Heard<'_>,
     is_terminal: bool,
 ) -> Result<Vec<u8>, AllocError> {
     if let Some(refusal) = ended.refusal {
-        return refusal_text(alloc, words, refusal, ended.command, source);
+        return refusal_text(alloc, words, refusal, ended.command, heard);
     }
     match (ended.status, ended.command) {
         (Status::Done | Status::Unsolved, Some(Command::Solve(options))) => solved_text(
-            alloc, &options, source, written,
+            alloc, &options, heard,
         ),
         (Status::Done, Some(Command::MakeTable(pieces))) if is_terminal => table_text(
             alloc, pieces,
@@ -103,18 +133,32 @@ fn text_for(
 
 /// Tells it on standard error: nothing else, and nothing where memory is wanting or standard error
 /// fails.
-pub(crate) fn tell_of(
-    rt: &HostRuntime,
-    words: &[&str],
-    ended: &Ended,
-    source: &[u8],
-    written: &[u8],
-) {
+pub(crate) fn tell_of(rt: &HostRuntime, words: &[&str], ended: &Ended, heard: &Heard<'_>) {
     if let Ok(text) = journal_text(rt.alloc(), words, ended.command) {
         tell(rt, &text);
     }
     let is_terminal = rt.stdout().is_terminal();
-    if let Ok(text) = text_for(rt.alloc(), words, ended, source, written, is_terminal) {
+    if let Ok(text) = text_for(rt.alloc(), words, ended, heard, is_terminal) {
+        tell(rt, &text);
+    }
+}
+
+/// Tells of a journal whose file was only looked at, and is not there.
+pub(crate) fn tell_of_disk(
+    rt: &HostRuntime,
+    words: &[&str],
+    disk: &PathDisk<FileDisk<&HostRuntime>>,
+) {
+    if disk.is_missing()
+        && let Ok(text) = missing_text(rt.alloc(), path_of(words))
+    {
+        tell(rt, &text);
+    }
+}
+
+/// Tells that another run has the journal open.
+pub(crate) fn tell_of_other_run(rt: &HostRuntime, path: &str) {
+    if let Ok(text) = other_run_text(rt.alloc(), path) {
         tell(rt, &text);
     }
 }

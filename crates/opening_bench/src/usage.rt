@@ -14,8 +14,8 @@ Usage:
   opening_bench --help
   opening_bench --version
 
-PATH       the journal's file, which is made where it is missing; `-` is a journal in memory, which
-           ends with the run. `verify`, `table` and `table-check` do not use it
+PATH       the journal's file, which `solve` and `generate` make where it is missing; `-` is a journal in
+           memory, which ends with the run. `verify`, `table` and `table-check` do not use it
 N          the number of a root, 1 to 65536, as `report` writes it
 K          how many pieces an endgame table has at most, 2 or 3
 SEED       where the openings of `generate` begin, 0 to 4294967295
@@ -40,7 +40,8 @@ journal holds, until each root has a value or the budget is spent, and writes a 
 `root NUMBER FEN VALUE` for each root, VALUE being black-wins, white-wins, draw or unsolved, and a
 line that counts them. What is found is in the journal before the next position is looked at: a run
 that is stopped, by Ctrl-C too, loses the position that it was looking at and no more, and the next
-one goes on from there. Only one program may use a journal at a time.
+one goes on from there. It writes no report then, since the toolchain's library has no call that hears
+a signal, as sigaction: `report` writes it. Only one program may use a journal at a time.
 
 `generate` does the same with COUNT openings that are made from SEED, four workers that look one ply
 ahead and a budget of COUNT, reads nothing, and writes the line that counts alone.
@@ -66,8 +67,8 @@ Exit status:
   9  the words could not be had from the system
 With 2 to 7 one line says why, but with 6 nothing is written where memory ends while the words are
 read. Standard error says more of it. Behind `solve` standard error warns of what may be read otherwise
-than it was meant, as tags in other letters. With 0 and 1 it says which depth tries more for an unsolved
-root of few pieces.
+than it was meant, as tags in other letters. With 0 and 1 it says how the records fell to unsolved roots,
+and which depth tries more for one of few pieces.
 ";
 
 /// What `--version` writes.

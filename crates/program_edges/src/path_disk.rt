@@ -5,7 +5,9 @@ ghost use Rattle.shared_words.specs.Counts.{one_more};
 ghost use Rattle.program_edges.specs.Below.{IsOnFile, IsOnNothing};
 ghost use Rattle.program_edges.specs.declared.path_disk.Below.TheVariants as below;
 
-use bench_disk::{Disk, DiskFault, MemoryDisk};
+use bench_disk::{Disk, DiskFault, FileDisk, MemoryDisk};
+use std::fs::{File, Files};
+use std::io;
 
 /// What stands below: the disk over a file, a disk in memory, or nothing.
 #[derive(Drop)]
@@ -62,6 +64,26 @@ impl<F: Disk> PathDisk<F> {
         PathDisk {
             below: Below::Nothing,
             refused: 0,
+        }
+    }
+}
+
+impl<R: Files<File = File> + Drop> PathDisk<FileDisk<R>> {
+    /// The word names a file that is not there, and none was made.
+    pub fn is_missing(&self) -> bool {
+        match &self.below {
+            Below::File(disk) => disk.file().is_missing(),
+            Below::Memory(_) => false,
+            Below::Nothing => false,
+        }
+    }
+
+    /// What the system said when it last refused a call.
+    pub fn cause(&self) -> Option<io::ErrorKind> {
+        match &self.below {
+            Below::File(disk) => disk.file().cause(),
+            Below::Memory(_) => None,
+            Below::Nothing => None,
         }
     }
 }

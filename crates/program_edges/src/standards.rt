@@ -4,9 +4,9 @@ ghost use Rattle.std.specs.String.{string_bytes};
 ghost use Rattle.program_edges.specs.Below.{IsOnFile, IsOnMemory, IsOnNothing};
 
 use crate::path_disk::PathDisk;
-use bench_disk::{FileDisk, MemoryDisk};
+use bench_disk::{Access, FileDisk, MemoryDisk};
 use bench_edges::Status;
-use std::fs::File;
+use std::fs::{File, TryLockError, metadata};
 use std::io;
 use std::os::fd::{AsRawFd, RawFd};
 
@@ -50,13 +50,14 @@ impl Standards {
     }
 
     /// The disk that a word names: `-` is an empty one in memory, and any other word is a file's
-    /// path. No call reaches the file system yet. Where the standard descriptors could not be
-    /// taken, no file is opened: each call of that disk fails. Gives the exit status where there is no
-    /// memory for the path.
+    /// path, which is opened as `access` says. No call reaches the file system yet. Where the standard
+    /// descriptors could not be taken, no file is opened: each call of that disk fails. Gives the exit
+    /// status where there is no memory for the path.
     pub fn disk_of<'a>(
         &self,
         rt: &'a HostRuntime,
         word: &str,
+        access: Access,
     ) -> Result<PathDisk<FileDisk<&'a HostRuntime>>, u8>
         ensures memory { word.now ≡ codes "-" → IfOk result (λ disk. IsOnMemory disk.below) }
         ensures file { word.now ≢ codes "-" → self.now.taken ≢ None → IfOk result (λ disk.
@@ -71,6 +72,26 @@ impl Standards {
             return Ok(PathDisk::nothing());
         }
         let path = String::from_str(rt.alloc(), word).map_err(|_| Status::Memory.number())?;
-        Ok(PathDisk::file(FileDisk::new(rt, path)))
+        Ok(PathDisk::file(FileDisk::at(rt, path, access)))
+    }
+
+    /// Another run has the file that a word names open to write to it, as far as that can be seen: it
+    /// holds the lock on it. Nothing is made or kept open.
+    pub fn has_other_run(&self, rt: &HostRuntime, word: &str) -> bool {
+        if word == MEMORY_WORD || self.taken.is_none() || !is_file(rt, word) {
+            return false;
+        }
+        match File::open(rt, word) {
+            Ok(file) => matches!(file.try_lock(), Err(TryLockError::WouldBlock)),
+            Err(_) => false,
+        }
+    }
+}
+
+/// There is a file at this path.
+fn is_file(rt: &HostRuntime, path: &str) -> bool {
+    match metadata(rt, path) {
+        Ok(found) => found.is_file(),
+        Err(_) => false,
     }
 }

@@ -5,11 +5,12 @@ ghost use Rattle.turn_lock.specs.Seen.{IsOutside};
 ghost use Rattle.worker_gate.specs.Work.{CanSearch};
 
 use crate::sessions::session_with;
-use bench_core::Settings;
+use bench_core::{Bench, Settings};
 use bench_disk::{Disk, FuseDisk, MemoryDisk};
 use draughts_board::{Position, Value};
 use endgame_table::{Table, fill};
 use fen_text::{FenRefusal, read_fen};
+use lease_table::Lease;
 use proof_tree::Tree;
 use std::alloc::{AllocError, Global};
 use std::sync::Wait;
@@ -207,19 +208,19 @@ fn searches_run_at_the_same_time(rt: HostRuntime) -> Result<(), Fail> {
     Ok(())
 }
 
-/// Wants to see the counts before each search, and adds up what it is shown.
+/// Wants to look at the bench before each search, and adds up what it sees.
 #[derive(Drop)]
 struct AddingGate {
-    /// How often it was shown counts.
+    /// How often it looked.
     shown: AtomicU64,
-    /// How many roots it was shown.
+    /// How many roots it saw.
     all: AtomicU64,
     /// How many of them were settled.
     settled: AtomicU64,
 }
 
 impl AddingGate {
-    /// It was shown nothing.
+    /// It saw nothing.
     fn new() -> AddingGate {
         AddingGate {
             shown: AtomicU64::new(0),
@@ -228,7 +229,7 @@ impl AddingGate {
         }
     }
 
-    /// How often it was shown counts, and the sums.
+    /// How often it looked, and the sums.
     fn sums(&self) -> (u64, u64, u64) {
         (
             self.shown.load(Ordering::SeqCst),
@@ -239,13 +240,14 @@ impl AddingGate {
 }
 
 impl Gate for AddingGate {
-    fn before_search(&self, _worker: u32) {}
+    fn before_search(&self, _lease: &Lease) {}
 
-    fn wants_counts(&self) -> bool {
+    fn wants_look(&self) -> bool {
         true
     }
 
-    fn show_counts(&self, counts: RootCounts) {
+    fn look(&self, bench: &Bench) {
+        let counts = RootCounts::of(bench.tree());
         self.shown.fetch_add(1, Ordering::SeqCst);
         self.all.fetch_add(u64::from(counts.all), Ordering::SeqCst);
         self.settled

@@ -20,7 +20,7 @@ use std::alloc::Global;
 use std::thread;
 use std::thread::Threads;
 use std::time::Instant;
-use worker_gate::{can_search, search_lease};
+use worker_gate::{OpenGate, can_search, search_lease};
 
 /// How many positions a thread remembers in which looking ahead shows no win.
 const REMEMBERED: usize = 65_536;
@@ -66,7 +66,7 @@ pub(crate) fn outcome_of(
     if memo.pieces() != table.pieces() || !can_search(lease, table) {
         return None;
     }
-    search_lease(alloc, lease, table, memo).ok()
+    search_lease(alloc, lease, table, &OpenGate, memo).ok()
 }
 
 /// Searches the positions of a part, and keeps what was found, with its sheet. It ends early where memory runs out.

@@ -1,22 +1,36 @@
 //! What a worker passes before each search.
+use bench_core::Bench;
+use lease_table::Lease;
 use std::hint::spin_loop;
 use std::sync::atomic::{AtomicU64, Ordering};
 use std::thread;
-use tree_manager::RootCounts;
 
-/// What a worker passes before each search. It decides nothing: no answer of a worker rests on it.
+/// What a worker passes before each search, and what looks on while a run works. It decides nothing: no answer rests on it.
 pub trait Gate {
-    /// Is called once before each search of the worker with this number, when the worker has its lease.
-    fn before_search(&self, worker: u32);
+    /// Is called once before each search of a worker, when the worker has this lease.
+    fn before_search(&self, lease: &Lease);
 
-    /// Whether it wants to see now how many roots are settled. Each worker asks before each of its searches, and takes a turn
-    /// to count them only where it does.
-    fn wants_counts(&self) -> bool {
+    /// Whether it wants to look at the bench now. Each worker asks before each of its searches, and takes a turn to show the
+    /// bench only where it does.
+    fn wants_look(&self) -> bool {
         false
     }
 
-    /// Is shown the counts, where it wanted them.
-    fn show_counts(&self, _counts: RootCounts) {}
+    /// Looks at the bench. It is shown where it was wanted, in a turn, and before and behind the work of a run.
+    fn look(&self, _bench: &Bench) {}
+
+    /// Tells of what it saw, where it wanted to look, behind the turn.
+    fn tell(&self) {}
+
+    /// A run begins to work on a journal that has this number of records.
+    fn begins(&self, _records: u64) {}
+
+    /// The work of a run has ended, and this is its bench.
+    fn ends(&self, _bench: &Bench) {}
+
+    /// Hears, while a worker searches and when its search ends, that it looked at this number of positions since the gate
+    /// heard last.
+    fn looked_at(&self, _positions: u64) {}
 }
 
 /// Holds nobody.
@@ -24,7 +38,7 @@ pub trait Gate {
 pub struct OpenGate;
 
 impl Gate for OpenGate {
-    fn before_search(&self, _worker: u32) {}
+    fn before_search(&self, _lease: &Lease) {}
 }
 
 /// How often the first search looks for a second one at most.
@@ -87,7 +101,7 @@ impl MeetGate {
 }
 
 impl Gate for MeetGate {
-    fn before_search(&self, _worker: u32) {
+    fn before_search(&self, _lease: &Lease) {
         if self.goes_on(NONE_BEGUN, FIRST_HELD) {
             self.hold();
         } else {

@@ -6,7 +6,7 @@
 //!
 //! Proved: the front of a pass goes on by entries that turns may add. With `Done` or `Spent` it is
 //! of a state in which a worker is answered so; with `Failed` it ends with the fault of the disk. A
-//! gate that wants to see how many roots are settled is shown it in a turn that changes nothing.
+//! gate that wants to look at the bench is shown it in a turn that changes nothing.
 //! `run_workers` works in threads, and then in the caller. `search_together` searches leaves that a
 //! session alone has leased, in threads, and touches no session: it answers each lease, in their
 //! order, by the outcome of its own search (`specs/Found.antt`). What a lease asks for is searched
@@ -25,6 +25,7 @@ mod pauses;
 mod searching;
 mod threads;
 mod together;
+mod watched;
 mod worker;
 
 pub use found::LeafFound;

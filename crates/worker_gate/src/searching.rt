@@ -3,6 +3,8 @@ ghost use Rattle.std.specs.Prelude.{◌≡◌, ◌↔◌, IfOk, IsTrue};
 ghost use Rattle.bench_core.specs.Cores.{IsOutcomeOf};
 ghost use Rattle.worker_gate.specs.Work.{CanSearchLeaf};
 
+use crate::gates::Gate;
+use crate::watched::Watched;
 use certificate_checker::{MOST_DEPTH, Outcome};
 use leaf_search::{Memo, is_undecided, search};
 use lease_table::Lease;
@@ -19,11 +21,12 @@ pub fn can_search<O: Oracle>(lease: &Lease, oracle: &O) -> bool
         && is_undecided(&lease.position, oracle)
 }
 
-/// Searches the leaf of a lease for its goal, as many plies ahead as it says.
-///
-/// Answers `AllocError` where memory ran out; what the memo holds is then still exact.
+/// A search of at most this number of plies takes less than two seconds: its gate hears nothing of it.
+const MOST_SHORT: u8 = 8;
+
+/// Searches the leaf of a lease for its goal, as many plies ahead as it says, by this oracle.
 #[tactic(auto, using(crate::proofs::SearchingLemmas::outcome_is))]
-pub fn search_lease<O: Oracle>(
+fn search_by<O: Oracle>(
     alloc: Global,
     lease: &Lease,
     oracle: &O,
@@ -42,4 +45,29 @@ pub fn search_lease<O: Oracle>(
         oracle,
         memo,
     )
+}
+
+/// Searches the leaf of a lease for its goal, as many plies ahead as it says. The gate hears of the positions that a search of more
+/// than 8 plies looks at.
+///
+/// Answers `AllocError` where memory ran out; what the memo holds is then still exact.
+pub fn search_lease<O: Oracle, G: Gate>(
+    alloc: Global,
+    lease: &Lease,
+    oracle: &O,
+    gate: &G,
+    memo: &mut Memo,
+) -> Result<Outcome, AllocError>
+    requires settings { CanSearchLeaf (O.piece_limit oracle.now) lease.now }
+    requires memo { memo.old ≡ O.piece_limit oracle.now }
+    ensures outcome { IfOk result (IsOutcomeOf lease.now) }
+    ensures memo { memo.new ≡ memo.old }
+{
+    if lease.depth <= MOST_SHORT {
+        return search_by(alloc, lease, oracle, memo);
+    }
+    let watched = Watched::new(oracle, gate);
+    let outcome = search_by(alloc, lease, &watched, memo)?;
+    watched.ends();
+    Ok(outcome)
 }

@@ -16,7 +16,6 @@ use std::collections::VecDeque;
 use std::thread;
 use std::thread::Threads;
 use strategy_certificate::Oracle;
-use tree_manager::RootCounts;
 
 /// How many positions a thread remembers in which looking ahead shows no win, where it looks no deeper than `SHALLOW`.
 const REMEMBERED_SHALLOW: usize = 4_096;
@@ -29,8 +28,8 @@ const SHALLOW: u8 = 4;
 
 /// Searches these leaves in as many threads, and gives what it found: one result for each lease, in their order.
 ///
-/// Each thread passes the gate before each of its searches, and shows it these counts where it wants to see them. Where no
-/// thread can be made, the leaves are searched one after another.
+/// Each thread passes the gate before each of its searches, and lets it tell of what it saw last, where it wants to look. Where
+/// no thread can be made, the leaves are searched one after another.
 pub fn search_together<R: Threads + Sync, O: Oracle + Sync, G: Gate + Sync>(
     rt: &R,
     alloc: Global,
@@ -38,7 +37,6 @@ pub fn search_together<R: Threads + Sync, O: Oracle + Sync, G: Gate + Sync>(
     workers: u8,
     oracle: &O,
     gate: &G,
-    counts: RootCounts,
 ) -> Result<VecDeque<LeafFound>, AllocError>
     requires { All (CanSearchLeaf (O.piece_limit oracle.now)) leases.now }
     ensures { IfOk result (λ found. AreFoundOf leases.now found.items) }
@@ -52,7 +50,7 @@ pub fn search_together<R: Threads + Sync, O: Oracle + Sync, G: Gate + Sync>(
         &|_: usize, part: &[Lease]| -> Result<VecDeque<LeafFound>, AllocError>
             requires { All (CanSearchLeaf (O.piece_limit oracle.now)) part.now }
             ensures { IfOk result (λ found. AreFoundOf part.now found.items) }
-        { search_part(alloc, part, oracle, gate, counts) },
+        { search_part(alloc, part, oracle, gate) },
     )?;
     let mut found = VecDeque::new(alloc);
     for part in parts {
@@ -67,7 +65,6 @@ fn search_part<O: Oracle, G: Gate>(
     leases: &[Lease],
     oracle: &O,
     gate: &G,
-    counts: RootCounts,
 ) -> Result<VecDeque<LeafFound>, AllocError>
     requires { All (CanSearchLeaf (O.piece_limit oracle.now)) leases.now }
     ensures { IfOk result (λ found. AreFoundOf leases.now found.items) }
@@ -75,12 +72,12 @@ fn search_part<O: Oracle, G: Gate>(
     let mut memo = Memo::new(alloc, oracle.pieces(), remembered(leases))?;
     let mut found = VecDeque::new(alloc);
     for lease in leases {
-        gate.before_search(lease.worker);
-        if gate.wants_counts() {
-            gate.show_counts(counts);
+        gate.before_search(lease);
+        if gate.wants_look() {
+            gate.tell();
         }
         found.reserve(1)?;
-        found.push_back_reserved(find(alloc, lease, oracle, &mut memo)?);
+        found.push_back_reserved(find(alloc, lease, oracle, gate, &mut memo)?);
     }
     Ok(found)
 }
@@ -96,10 +93,11 @@ fn remembered(leases: &[Lease]) -> usize
 }
 
 /// Searches a leaf, and sees whether what it found tells the value of its position.
-fn find<O: Oracle>(
+fn find<O: Oracle, G: Gate>(
     alloc: Global,
     lease: &Lease,
     oracle: &O,
+    gate: &G,
     memo: &mut Memo,
 ) -> Result<LeafFound, AllocError>
     requires settings { CanSearchLeaf (O.piece_limit oracle.now) lease.now }
@@ -108,7 +106,7 @@ fn find<O: Oracle>(
     ensures own { IfOk result (λ found. IsOutcomeOf lease.now found.result.outcome) }
     ensures memo { memo.new ≡ memo.old }
 {
-    let outcome = search_lease(alloc, lease, oracle, memo)?;
+    let outcome = search_lease(alloc, lease, oracle, gate, memo)?;
     let tells_value = tells_value(lease, &outcome);
     Ok(LeafFound {
         result: LeaseResult::new(alloc, lease, outcome)?,

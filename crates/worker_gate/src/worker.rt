@@ -194,18 +194,19 @@ fn search_leaves<R: Wait, D: Disk, O: Oracle, G: Gate>(
     ensures memo { memo.new ≡ memo.old }
 {
     for lease in leases {
-        pass_gate(rt, shared, pass, lease.worker, gate);
+        pass_gate(rt, shared, pass, lease, gate);
         results.reserve(1)?;
-        results.push_back_reserved(search_leaf(alloc, lease, oracle, memo)?);
+        results.push_back_reserved(search_leaf(alloc, lease, oracle, gate, memo)?);
     }
     Ok(())
 }
 
 /// Searches a leaf that was leased, and makes the sheet of what it found.
-fn search_leaf<O: Oracle>(
+fn search_leaf<O: Oracle, G: Gate>(
     alloc: Global,
     lease: &Lease,
     oracle: &O,
+    gate: &G,
     memo: &mut Memo,
 ) -> Result<LeaseResult, AllocError>
     requires settings { CanSearchLeaf (O.piece_limit oracle.now) lease.now }
@@ -213,25 +214,42 @@ fn search_leaf<O: Oracle>(
     ensures lease { IfOk result (λ found. found.lease ≡ lease.now) }
     ensures memo { memo.new ≡ memo.old }
 {
-    let outcome = search_lease(alloc, lease, oracle, memo)?;
+    let outcome = search_lease(alloc, lease, oracle, gate, memo)?;
     LeaseResult::new(alloc, lease, outcome)
 }
 
-/// Passes the gate, and shows it how many roots are settled, where it wants to see that.
-fn pass_gate<R: Wait, D: Disk, G: Gate>(
+/// Lets the gate look at the bench, in a turn that changes nothing.
+fn show_bench<R: Wait, D: Disk, G: Gate>(
     rt: &R,
     shared: &SharedBench<D>,
     pass: &mut BenchPass<D>,
-    worker: u32,
     gate: &G,
 )
     requires outside { IsOutside shared.now pass.old }
     ensures outside { IsOutside shared.now pass.new }
     ensures grows { GrowsByTurns pass.old.front pass.new.front }
 {
-    gate.before_search(worker);
-    if gate.wants_counts() {
-        gate.show_counts(shared.count_roots(rt, pass));
+    let turn = shared.enter(rt, pass);
+    gate.look(turn.session.bench());
+    shared.leave(pass, turn);
+}
+
+/// Passes the gate, and shows it the bench, where it wants to look.
+fn pass_gate<R: Wait, D: Disk, G: Gate>(
+    rt: &R,
+    shared: &SharedBench<D>,
+    pass: &mut BenchPass<D>,
+    lease: &Lease,
+    gate: &G,
+)
+    requires outside { IsOutside shared.now pass.old }
+    ensures outside { IsOutside shared.now pass.new }
+    ensures grows { GrowsByTurns pass.old.front pass.new.front }
+{
+    gate.before_search(lease);
+    if gate.wants_look() {
+        show_bench(rt, shared, pass, gate);
+        gate.tell();
     }
 }
 

@@ -1,4 +1,5 @@
 //! Pauses before searches.
+use lease_table::Lease;
 use std::hint::spin_loop;
 use std::sync::atomic::{AtomicU64, Ordering};
 use std::thread;
@@ -43,7 +44,7 @@ impl PauseGate {
 }
 
 impl Gate for PauseGate {
-    fn before_search(&self, _worker: u32) {
+    fn before_search(&self, _lease: &Lease) {
         let search = self.searches.fetch_add(1, Ordering::SeqCst);
         let word = mixed(self.seed.wrapping_add(search.wrapping_mul(STEP)));
         for _ in 0..word % YIELDS {
