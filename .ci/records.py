@@ -4,7 +4,8 @@
 Without words it works out what crates/records_trial has to print, by dice of the same make. Then a journal that `solve` makes is
 written again with the records of either version, and of both mixed: `report` has to write the same of each. Each byte of the mixed
 journal is changed, and it is cut behind each byte: where this reader finds no record, `report` has to refuse that payload, and
-nothing before the change may be refused. An argument names another program.
+nothing before the change may be refused. The journals of `examples/version_1`, which stood in the tests before version 2 did, have to
+be reported as the files beside them say. An argument names another program.
 
 With the words `version N OLD NEW` it writes a journal again with the records of version N, 1 or 2.
 """
@@ -39,6 +40,7 @@ class Record:
 
     def __init__(self, payload, named, listed):
         self.payload, self.at, self.named, self.listed, self.new, self.sheet = payload, 1, named, listed, {}, []
+        self.first = []  # the positions of `new`, in order
         self.short = payload[0] >= 4
         if payload[0] in (1, 4):
             self.position(())
@@ -85,7 +87,7 @@ class Record:
             if n > count or n == 2 ** 32 - 1:
                 raise BadField(at)
             if n < count:
-                p = self.listed[n] if n < len(self.listed) else list(self.new)[n - len(self.listed)]
+                p = self.listed[n] if n < len(self.listed) else self.first[n - len(self.listed)]
                 if p in others:
                     raise BadField(at)
             else:
@@ -94,6 +96,7 @@ class Record:
                     raise BadField(at + 4)
         if not self.is_named(p):
             self.new[p] = count
+            self.first.append(p)
         self.sheet.append((p,))
         return p
 
@@ -347,6 +350,17 @@ def look(program):
     return faults
 
 
+def look_at_kept(program):
+    """The faults of the program on the journals of version 1 that are kept."""
+    faults = []
+    for path in sorted((TOP / "examples/version_1").glob("*.journal")):
+        before = path.read_bytes()
+        run = subprocess.run([program, path, "report"], stdin=subprocess.DEVNULL, capture_output=True, check=False)
+        if run.stdout != path.with_suffix(".written").read_bytes() or path.read_bytes() != before:
+            faults.append(f"{path.name} is reported as {run.stdout!r}")
+    return faults
+
+
 def main():
     if sys.argv[1:2] == ["version"]:
         version, old, new = int(sys.argv[2]), pathlib.Path(sys.argv[3]), pathlib.Path(sys.argv[4])
@@ -357,7 +371,7 @@ def main():
     else:
         subprocess.run([TOP / "bin/opening_bench", "--version"], stdout=subprocess.DEVNULL, check=True)
         program = TOP / "crates/opening_bench/out/opening_bench"
-    faults = look(program)
+    faults = look_at_kept(program) + look(program)
     if trial() != (TOP / "crates/records_trial/stdout").read_text():
         faults.append("records_trial is to print something else")
     for fault in faults:

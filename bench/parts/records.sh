@@ -1,9 +1,10 @@
 #!/usr/bin/env bash
 # Records of either version. What a position of a record takes to fill in in a turn, and to read, with 20,000 positions named
-# before and with a million, and how many bytes of memory a position of such a list takes at the highest. Then two journals, on
-# files in the folder for temporary files: a million records of work on the named openings, each the search of one position alone,
-# and 20,000 at depth 5, whose records of wins and holds have entries. Each is written again with the records of version 1 and of
-# version 2, and of each `report` is run three times: the least processor time, and the memory at the highest.
+# before and with a million, and how many bytes of memory a position of a list takes at the highest, just before and just behind
+# lists of such lengths get new room. Then two journals, on files in the folder for temporary files: a million records of work at
+# depth 2 on the 96 positions of values.txt, and 20,000 at depth 5 on the 64 of fixed.txt; nearly half of the first are results,
+# and every thirteenth or so of the second. Each is written again with the records of version 1 and of version 2, and of each
+# `report` and the attaching by a `solve` without a budget are run three times: the least processor time, and the highest memory.
 set -euo pipefail
 bin/opening_bench --version >/dev/null
 bench=crates/opening_bench/out/opening_bench
@@ -20,35 +21,37 @@ def memory(count):
     return os.wait4(run.pid, 0)[2].ru_maxrss * 1024
 
 
-least = memory(1)
-for count in (700_000, 1_000_000, 2_000_000):
-    print(f"a list of {count} positions: {(memory(count) - least) / count:.1f} bytes a position", flush=True)
+for count in (589_824, 589_825, 1_000_000, 1_179_648, 1_179_649, 2_359_297):
+    print(f"a list of {count} positions: {memory(count) / count:.1f} bytes a position, with all else that the program holds", flush=True)
 PYTHON
 folder=$(mktemp -d)
 trap 'rm -r "$folder"' EXIT
-# journal DEPTH RECORDS: status 1 says that some roots are unsolved
+# journal LIST DEPTH RECORDS: status 1 says that some roots are unsolved
 journal() {
     rm -f "$folder/journal"
-    "$bench" "$folder/journal" solve --depth "$1" --budget "$2" <examples/openings.pdn >/dev/null || [ $? = 1 ]
+    sed 's/ .*//; s/.*/[FEN "&"] */' "crates/search_bench/data/$1.txt" >"$folder/games"
+    "$bench" "$folder/journal" solve --depth "$2" --budget "$3" <"$folder/games" >/dev/null 2>&1 || [ $? = 1 ]
     for version in 1 2; do
         python3 .ci/records.py version "$version" "$folder/journal" "$folder/$version.journal"
     done
-    python3 - "$bench" "$1" "$2" "$folder/1.journal" "$folder/2.journal" <<'PYTHON'
+    python3 - "$bench" "$1.txt, depth $2, $3 records" "$folder/1.journal" "$folder/2.journal" <<'PYTHON'
 import os, subprocess, sys
 
-program, depth, records, *journals = sys.argv[1:]
-for version, journal in enumerate(journals, 1):
-    seconds, memory = [], []
-    for _ in range(3):
-        run = subprocess.Popen([program, journal, "report"], stdin=subprocess.DEVNULL, stdout=subprocess.DEVNULL)
-        _, status, used = os.wait4(run.pid, 0)
-        if os.waitstatus_to_exitcode(status) not in (0, 1):
-            sys.exit(f"report ended with status {os.waitstatus_to_exitcode(status)}")
-        seconds.append(used.ru_utime)
-        memory.append(used.ru_maxrss * 1024 / 1e6)
-    print(f"report of {records} records at depth {depth} in version {version}: {os.path.getsize(journal)} bytes, "
-          f"{min(seconds):.2f} s of processor time, {max(memory):.0f} MB at the highest", flush=True)
+program, name, *journals = sys.argv[1:]
+for words in (["report"], ["solve", "--budget", "0"]):
+    for version, journal in enumerate(journals, 1):
+        seconds, memory = [], []
+        for _ in range(3):
+            run = subprocess.Popen([program, journal, *words], stdin=subprocess.DEVNULL, stdout=subprocess.DEVNULL,
+                                   stderr=subprocess.DEVNULL)
+            _, status, used = os.wait4(run.pid, 0)
+            if os.waitstatus_to_exitcode(status) not in (0, 1):
+                sys.exit(f"{words[0]} ended with status {os.waitstatus_to_exitcode(status)}")
+            seconds.append(used.ru_utime)
+            memory.append(used.ru_maxrss * 1024 / 1e6)
+        print(f"{' '.join(words)}, {name} in version {version}: {os.path.getsize(journal)} bytes, "
+              f"{min(seconds):.2f} s of processor time, {max(memory):.0f} MB at the highest", flush=True)
 PYTHON
 }
-journal 0 1000000
-journal 5 20000
+journal values 2 1000000
+journal fixed 5 20000

@@ -26,8 +26,8 @@ const BLOCKED: &[u8] = &[
     0, 0, 0, 0, 0, 8, 0, 0, 0, 0, 0, 0, 4, 0x80, 0, 0, 0, 0, 0, 0,
 ];
 
-/// The same root as a record of version 1.
-const BLOCKED_BEFORE: &[u8] = &[
+/// The same root as a record of version 1. The frame's record has its length field at 17.
+const BLOCKED_BEFORE: [u8; 40] = [
     0x44, 0x52, 0x42, 0x45, 0x4e, 0x43, 0x48, 2, 1, 0, 0, 0, 0, 0, 0, 0, 22, 0, 0, 0, 18, 1, 0, 0,
     0, 8, 0, 0, 0, 0, 0, 0, 4, 0x80, 0, 0, 0, 0, 0, 0,
 ];
@@ -220,7 +220,51 @@ fn runs_go_on_where_those_before_ended(rt: HostRuntime) -> Result<(), Fail> {
 
 #[test]
 fn a_journal_of_before_is_gone_on_with(rt: HostRuntime) -> Result<(), Fail> {
-    expect_runs(&rt, rt.alloc(), BLOCKED_BEFORE, GOES_ON)?;
+    expect_runs(&rt, rt.alloc(), &BLOCKED_BEFORE, GOES_ON)?;
+    Ok(())
+}
+
+/// A frame that is whole, and no gate behind it.
+const WITHOUT_END: &[Run] = &[Run {
+    status: Status::Journal,
+    written: "refused journal damaged byte 39\n",
+    ..REPORT
+}];
+
+/// A payload that is no record.
+const NO_RECORD: &[Run] = &[Run {
+    status: Status::Journal,
+    written: "refused journal damaged byte 17\n",
+    ..REPORT
+}];
+
+/// The fronts of a journal, by their lengths, and what is due of each.
+const FRONTS: [(usize, usize, &[Run]); 4] = [
+    (0, 9, EMPTY),
+    (10, 38, DAMAGED),
+    (39, 39, WITHOUT_END),
+    (40, 40, &[REPORT_OF_BLOCKED]),
+];
+
+#[test]
+fn fronts_of_a_journal_of_before(rt: HostRuntime) -> Result<(), Fail> {
+    for (first, last, due) in FRONTS {
+        for count in first..=last {
+            let front = BLOCKED_BEFORE.get(..count).unwrap_or(&[]);
+            expect_runs(&rt, rt.alloc(), front, due)?;
+        }
+    }
+    Ok(())
+}
+
+#[test]
+fn records_of_before_with_a_bad_field(rt: HostRuntime) -> Result<(), Fail> {
+    let mut another_kind = BLOCKED_BEFORE;
+    another_kind[21] = 9;
+    expect_runs(&rt, rt.alloc(), &another_kind, NO_RECORD)?;
+    let mut another_side = BLOCKED_BEFORE;
+    another_side[22] = 2;
+    expect_runs(&rt, rt.alloc(), &another_side, NO_RECORD)?;
     Ok(())
 }
 
