@@ -1,0 +1,4 @@
+pub mod Steps
+pub mod PlayLemmas
+pub mod LawLemmas
+pub mod Finds

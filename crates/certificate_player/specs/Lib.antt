@@ -1,0 +1,4 @@
+pub mod Plays
+pub mod Choices
+pub mod Sides
+pub mod Laws
