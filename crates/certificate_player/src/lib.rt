@@ -10,6 +10,8 @@
 //! plies the side wins, and each move of either side makes it smaller. So against every list of
 //! replies the other side stands without a move after at most as many plies as the first rank. A
 //! reply is refused exactly as `resolve` refuses it, and what is refused changes nothing.
+//!
+//! Tests: player_tests/src/players.rt
 #![tactic(auto)]
 
 pub mod laws;
