@@ -3,8 +3,8 @@
 
 A session is a block between lines of three backquotes whose first line begins with `$ `. Each line that begins so is a
 command of bash, which goes on in lines that begin with `> `; the lines behind it are what it writes. The sessions of one
-document are run in order in one new folder, in which `examples` is that of the repository, and `bin/opening_bench` the program
-itself, which `bin/opening_bench` of the repository has built.
+document are run in order in one new folder, in which `examples` is that of the repository, and `bin/` has the programs themselves,
+which the scripts of the same names in the repository have built.
 """
 import pathlib
 import subprocess
@@ -12,6 +12,7 @@ import sys
 import tempfile
 
 SECONDS = 120
+PROGRAMS = ("opening_bench", "strategy_player")
 
 
 def sessions(text):
@@ -43,7 +44,8 @@ def differences(top, document, errors):
     with tempfile.TemporaryDirectory(prefix="sessions-") as folder:
         (pathlib.Path(folder) / "examples").symlink_to(top / "examples")
         (pathlib.Path(folder) / "bin").mkdir()
-        (pathlib.Path(folder) / "bin/opening_bench").symlink_to(top / "crates/opening_bench/out/opening_bench")
+        for program in PROGRAMS:
+            (pathlib.Path(folder) / "bin" / program).symlink_to(top / "crates" / program / "out" / program)
         for line, command, due in sessions((top / document).read_text(encoding="utf-8")):
             words = ["bash", "-c", "\n".join(command)]
             how = {"stdin": subprocess.DEVNULL, "stdout": subprocess.PIPE, "stderr": errors}
@@ -60,7 +62,8 @@ def differences(top, document, errors):
 
 def main():
     top = pathlib.Path(__file__).resolve().parent.parent
-    subprocess.run([top / "bin/opening_bench", "--version"], stdout=subprocess.DEVNULL, check=True)
+    for program in PROGRAMS:
+        subprocess.run([top / "bin" / program, "--version"], stdout=subprocess.DEVNULL, check=True)
     errors, count = subprocess.STDOUT, 0
     for word in sys.argv[1:]:
         if word == "--output":

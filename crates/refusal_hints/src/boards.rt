@@ -56,7 +56,7 @@ pub(crate) fn say_board(text: &mut Vec<u8>, p: &Position) -> Result<(), AllocErr
 }
 
 /// Appends whose turn it is, the FEN, and the board.
-pub(crate) fn say_position(text: &mut Vec<u8>, p: &Position) -> Result<(), AllocError> {
+pub fn say_position(text: &mut Vec<u8>, p: &Position) -> Result<(), AllocError> {
     say(text, side_name(p.to_move()))?;
     say(text, " is to move: ")?;
     say(text, print_fen(p).as_str())?;

@@ -26,5 +26,6 @@ mod tables;
 mod tag_faults;
 mod words;
 
+pub use boards::say_position;
 pub use hints::hint;
-pub use move_lists::legal_moves_text;
+pub use move_lists::{legal_moves_text, push_move};

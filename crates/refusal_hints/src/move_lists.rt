@@ -42,7 +42,7 @@ fn push_further(text: &mut Vec<u8>, separator: u8, squares: &[Square]) -> Result
 
 /// Appends a move by its squares, with `x` between those of a capture and `-` between those of a
 /// step.
-pub(crate) fn push_move(text: &mut Vec<u8>, m: &Move) -> Result<(), AllocError>
+pub fn push_move(text: &mut Vec<u8>, m: &Move) -> Result<(), AllocError>
     ensures { OnOk result (text.new.items ≡ text.old.items ++ move_text m.now) }
 {
     let path = m.path();
