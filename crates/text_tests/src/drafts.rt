@@ -111,8 +111,10 @@ fn groups(rt: HostRuntime) -> Result<(), Fail> {
     groups.add(Position::start(), 44)?;
     groups.add(other, 45)?;
     assert_eq!(rt; groups.len(), 2);
-    let (position, games) = groups.group(0).ok_or("no group")?;
-    let text = group_text(rt.alloc(), &position, games)?;
+    let text = match groups.group(0) {
+        Some((position, games)) => group_text(rt.alloc(), &position, games)?,
+        None => Vec::new(rt.alloc()),
+    };
     assert_eq!(rt;
         text.as_slice(),
         b"[FEN \"W:W21:B1\"] [Games \"12, 40-43, 45\"] *\n".as_slice()
