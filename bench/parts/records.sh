@@ -16,7 +16,7 @@ import os, subprocess, sys
 
 
 def memory(count):
-    """The highest memory of a list of so many positions, in bytes."""
+    """The highest memory of a list of this number of positions, in bytes."""
     run = subprocess.Popen([sys.argv[1], "list", str(count)], stdout=subprocess.DEVNULL)
     return os.wait4(run.pid, 0)[2].ru_maxrss * 1024
 

@@ -222,7 +222,7 @@ next_falls answer (Hold list) q (Some r) now on next = absurd on
 next_falls answer (Hold list) q None (Some m) on next = absurd next
 next_falls answer (Hold list) q None None on next = tt
 
--- a rank falls exactly where one is kept
+-- a rank falls exactly if one is kept
 pub falls_some : (before now : Option ℕ) → RankFalls before now → IsSome now ↔ IsSome before
 falls_some (Some r) (Some m) falls = (λ _. refl, λ _. refl)
 falls_some (Some r) None falls = absurd falls

@@ -16,14 +16,14 @@ use Rattle.certificate_player.specs.Plays.{Play, here, own_part}
 
 -- ---- the move
 
--- It is the move of the position's entry, whose rank, where one is kept, is not above the kept one.
+-- It is the move of the position's entry, whose rank is not above the kept one, if one is kept.
 abbrev pub IsEntryMove : Board → Option ℕ → Part → List ℕ → Type 0
 IsEntryMove p (Some r) (Win list) path =
     (e : WinEntry) × (Contains list.entries (p, e) × ((e.rank ≤ r) × (e.chosen ≡ Some path)))
 IsEntryMove p None (Hold list) path = Contains list.entries (p, Some path)
 IsEntryMove p rank other path = ⊥
 
--- the table shows that the part's side wins here with a smaller rank, or holds where none is kept
+-- the table shows that the part's side wins here with a smaller rank, or holds if no rank is kept
 abbrev pub IsShown : (Board → Option Answer) → Board → Option ℕ → Part → Type 0
 IsShown answer q (Some r) (Win list) =
     (m : ℕ) × ((m < r) × TableWins draughts answer list.side m q)

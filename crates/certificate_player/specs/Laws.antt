@@ -6,7 +6,7 @@ use Rattle.strategy_certificate.specs.declared.oracle.Answer.{Answer}
 use Rattle.certificate_player.specs.Choices.{GoesOn}
 use Rattle.certificate_player.specs.Plays.{IsPlay, Play, RankFalls, here}
 
--- So many moves lead from the one play to the other, whoever makes them, each as `choose` and `hear`
+-- This number of moves leads from the one play to the other, whoever makes them, each as `choose` and `hear`
 -- leave a player.
 abbrev pub LeadsIn : (Board → Option Answer) → ℕ → Play → Play → Type 0
 LeadsIn answer zero v w = v ≡ w
@@ -18,7 +18,7 @@ LeadsIn answer (suc n) v w =
 abbrev pub NeverStuck : Type 0
 NeverStuck = (v : Play) → IsPlay v → (here v).to_move ≡ v.side → successors_of (here v) ≢ []
 
--- Against whatever replies, so many moves and the rank that is left are no more than the first rank.
+-- Against whatever replies, this number of moves and the rank that is left are no more than the first rank.
 abbrev pub WithinRank : Type 0
 WithinRank =
     (answer : Board → Option Answer) (n r : ℕ) (v w : Play) → v.rank ≡ Some r → LeadsIn answer n v w

@@ -82,7 +82,7 @@ pub record IsPlay (v : Play) : Type 0 where
       → IsSoundTable draughts v.certificate.pieces answer
       → IfSome (own_part v.certificate v.side) (Follows answer (here v) v.rank)
 
--- the rank is smaller, where one is kept
+-- the rank is smaller, if one is kept
 abbrev pub RankFalls : Option ℕ → Option ℕ → Type 0
 RankFalls (Some r) (Some m) = m < r
 RankFalls None None = Unit {0}

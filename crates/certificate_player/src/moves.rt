@@ -41,7 +41,7 @@ fn entry_move(part: &Part, p: &Position, rank: Option<u64>) -> Option<Move>
 }
 
 /// The table shows that the part's side wins here with a rank below the kept one, or that it holds
-/// where none is kept.
+/// if no rank is kept.
 fn is_shown<O: Oracle>(part: &Part, oracle: &O, q: &Position, rank: Option<u64>) -> bool
     ensures { IsTrue result ↔ IsShown (O.answer_at oracle.now) q.now rank part.now }
 {

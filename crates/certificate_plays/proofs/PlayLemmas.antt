@@ -81,7 +81,7 @@ answers_by answer v w path before after mine makes made = record {
 
 -- ---- a play so far
 
--- The play stands at `now`, so many lines were used, and this is left of the source and made.
+-- The play stands at `now`, this number of lines was used, and this is left of the source and made.
 pub record Comes (answer : Board → Option Answer) (c : Certificate) (side : Side) (source rest : List ℕ) (moves : List (List ℕ)) (number : ℕ) (now : Play) : Type 0 where
   pub start : Play
   pub begins : Begins answer c side start
