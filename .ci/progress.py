@@ -3,13 +3,14 @@
 
 Standard output has to be the same byte for byte, and the exit status too. The terminal has to show one line of progress that is
 rewritten, once a second at most, whose numbers do not fall, and that is cleared at the end. What is no terminal has to get
-one line a minute at most, and none in the first one. A terminal that has both streams shows that a journal is read and that certificates are joined, and then
+one line a minute at most, and none in the first one: a run that stands still for a minute has one line when it goes on, and no second one. A terminal that has both streams shows that a journal is read and that certificates are joined, and then
 the report from the line's begin on. An argument names another program.
 """
 import os
 import pathlib
 import pty
 import re
+import signal
 import subprocess
 import sys
 import tempfile
@@ -48,12 +49,34 @@ def at_terminal(program, words, has_both=False, source=os.devnull):
     return output, shown, status, time.monotonic() - begun
 
 
+def held(program):
+    """Begins a run without a terminal that has hours to go, and holds it a second later."""
+    words = [program, "-", "solve", "--depth", "6", "--budget", "1000000"]
+    run = subprocess.Popen(words, stdin=subprocess.PIPE, stdout=subprocess.DEVNULL, stderr=subprocess.PIPE)
+    run.stdin.write(b"*")
+    run.stdin.close()
+    time.sleep(1)
+    run.send_signal(signal.SIGSTOP)
+    return run, time.monotonic()
+
+
+def said_by(run, since):
+    """What the held run has written a minute after it was held, and two seconds more."""
+    time.sleep(max(0, since + 60 - time.monotonic()))
+    run.send_signal(signal.SIGCONT)
+    time.sleep(2)
+    ended = run.poll() is not None
+    run.kill()
+    return run.stderr.read(), ended
+
+
 def main():
     if len(sys.argv) > 1:
         program = sys.argv[1]
     else:
         subprocess.run([TOP / "bin/opening_bench", "--version"], stdout=subprocess.DEVNULL, check=True)
         program = TOP / "crates/opening_bench/out/opening_bench"
+    waits, since = held(program)
     output, shown, status, seconds = at_terminal(program, WORDS)
     begun = time.monotonic()
     plain = subprocess.run([program, *WORDS], stdin=subprocess.DEVNULL, capture_output=True, check=False)
@@ -80,6 +103,9 @@ def main():
         joined = at_terminal(program, [f"{folder}/journal", "solve", "--depth", "1"], has_both=True, source=first)[1]
     if read != READ or LINE.sub(b"", joined) != JOINED:
         faults.append(f"a terminal shows other reports: {read[:200]!r}, {joined[:400]!r}")
+    said, ended = said_by(waits, since)
+    if ended or not LOGGED.fullmatch(said):
+        faults.append(f"where standard error is no terminal it gets in a minute {said[:200]!r}" + (", and the run ends" if ended else ""))
     for fault in faults:
         print(f"progress: {fault}", file=sys.stderr)
     return 1 if faults else 0

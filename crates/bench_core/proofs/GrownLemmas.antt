@@ -1,7 +1,7 @@
 -- The records of a log and a shelf, when one more is added.
 use Rattle.std.proofs.Common.{◌≡◌, ℕ, suc, ◌+◌, List, [], ◌∷◌, ◌++◌, length, refl, ap, sym, ◌∙◌, arith}
 use Rattle.std.specs.Prelude.{Bool, cond, count_by}
-use Rattle.std.proofs.lemmas.List.Sums.{sum_by-cons}
+use Rattle.std.proofs.lemmas.List.Sums.{sum_by-append, sum_by-cons}
 use Rattle.draughts_board.specs.Board.{Board}
 use Rattle.strategy_certificate.specs.declared.certificates.Certificate.{Certificate}
 use Rattle.bench_records.specs.declared.records.BenchRecord.{BenchRecord}
@@ -89,3 +89,21 @@ work_logged (Expand m ∷ log) puts same = count_both is_work_applied is_work (E
 work_logged (Solve q ∷ log) [] same = absurd (omega (arith, same))
 work_logged (Solve q ∷ log) (put ∷ puts) same =
     count_both is_work_applied is_work (Solve q) (records.Solve put.0 q put.1) log (logged log puts) refl (work_logged log puts (omega (arith, same)))
+
+-- ---- counting work behind one record more
+
+work_by : (log : List Applied) (item : Applied) → count_by is_work_applied (log ++ item ∷ []) ≡ count_by is_work_applied log + cond (is_work_applied item) 1 0
+work_by log item =
+    let both : count_by is_work_applied (log ++ item ∷ []) ≡ count_by is_work_applied log + count_by is_work_applied (item ∷ []) =
+    sum_by-append (λ y. cond (is_work_applied y) 1 0) log (item ∷ []) in
+    let one : count_by is_work_applied (item ∷ []) ≡ cond (is_work_applied item) 1 0 + 0 = count_cons is_work_applied item [] in
+    omega (arith, both, one)
+
+pub work_begin : (log : List Applied) (p : Board) → count_by is_work_applied (log ++ Begin p ∷ []) ≡ count_by is_work_applied log
+work_begin log p = let more = work_by log (Begin p) in omega (arith, more)
+
+pub work_solve : (log : List Applied) (p : Board) → count_by is_work_applied (log ++ Solve p ∷ []) ≡ count_by is_work_applied log + 1
+work_solve log p = let more = work_by log (Solve p) in omega (arith, more)
+
+pub work_expand : (log : List Applied) (n : ℕ) → count_by is_work_applied (log ++ Expand n ∷ []) ≡ count_by is_work_applied log + 1
+work_expand log n = let more = work_by log (Expand n) in omega (arith, more)

@@ -1,5 +1,5 @@
 -- What a tree that grew by records is seen as, and how it is kept.
-use Rattle.std.specs.Prelude.{◌≡◌, ℕ, suc, ◌-◌, min, Bool, true, false, List, [], ◌∷◌, length}
+use Rattle.std.specs.Prelude.{◌≡◌, ◌≤◌, ℕ, suc, ◌-◌, ◌^◌, min, Bool, true, false, List, [], ◌∷◌, length, count_by}
 use Rattle.proof_tree.specs.Forest.{Forest}
 use Rattle.proof_tree.specs.Sound.{TreeState}
 use Rattle.certificate_joiner.specs.Shelf.{Put, ShelfState}
@@ -38,16 +38,21 @@ logged (Expand n ∷ log) puts = records.Expand n ∷ logged log puts
 logged (Solve p ∷ log) [] = []
 logged (Solve p ∷ log) (put ∷ puts) = records.Solve put.0 p put.1 ∷ logged log puts
 
--- .. where the log has room for this number of records in all
-abbrev pub grown_state : TreeState → ShelfState → List Applied → ℕ → GrownState
-grown_state tree shelf log capacity =
+-- how many records a log has at most: their number is kept in 64 bits
+abbrev pub most_logged : ℕ
+most_logged = 2 ^ 64 - 1
+
+abbrev pub grown_state : TreeState → ShelfState → List Applied → GrownState
+grown_state tree shelf log =
     record {
       forest = tree.forest;
       records = logged log shelf.puts;
       nodes = tree.spare;
-      room = min shelf.spare (capacity - length log);
+      room = min shelf.spare (most_logged - length log);
     }
 
--- each batch is of a record
-abbrev pub IsGrown : ShelfState → List Applied → Type 0
-IsGrown shelf log = solves log ≡ length shelf.puts
+-- each batch is of a record, and the records of a search are counted
+pub record IsGrown (shelf : ShelfState) (log : List Applied) (work : ℕ) : Type 0 where
+  pub shown : solves log ≡ length shelf.puts
+  pub counted : work ≡ count_by is_work_applied log
+  pub few : work ≤ length log

@@ -356,16 +356,10 @@ impl Bench {
     fn is_open(&self, lease: &Lease) -> bool
         ensures { IsTrue result ↔ Contains self.now.state.leases.rows (unkept lease.now) }
     {
-        let Some(row) = self.leases.row(lease.id) else {
-            return false;
-        };
-        if !is_same_lease(&row, lease) {
-            return false;
+        match self.leases.waiting(lease.id, self.given) {
+            Some(waiting) => is_same_lease(&waiting, lease),
+            None => false,
         }
-        if !self.leases.is_live(lease.id, self.given) {
-            return false;
-        }
-        !self.leases.is_kept(lease.id)
     }
 
     /// Stages what the search under an open lease found, whose record has this kind and this sheet.

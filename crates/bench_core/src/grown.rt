@@ -1,11 +1,9 @@
 //! A tree with the records by which it grew.
-ghost use Rattle.std.specs.Prelude.{◌≡◌, ◌<◌, ◌≤◌, ◌++◌, ◌∷◌, [], count_by, vec_len, vec_capacity};
-ghost use Rattle.bench_core.specs.Grown.{is_work_applied};
-
 use crate::staged::Applied;
 use bench_records::CertificateList;
 use certificate_joiner::{PartShelf, join};
 use draughts_board::Position;
+use ghost_list::CountedTrace;
 use proof_numbers::{Child, Facts};
 use proof_tree::{NodeId, Tree};
 use std::alloc::{AllocError, Global};
@@ -19,11 +17,13 @@ use strategy_certificate::Certificate;
 pub(crate) struct GrownTree {
     tree: Tree,
     shelf: PartShelf,
-    log: Vec<Applied>,
+    /// What the shelf lacks of the records: they are counted, and no byte of them is kept.
+    log: CountedTrace<Applied>,
+    /// How many of the records are of a search.
+    work: usize,
 }
 
 impl Model for GrownTree {
-    ghost use Rattle.std.specs.Prelude.{vec_capacity};
     ghost use Rattle.std.specs.Coded.{codes};
     ghost use Rattle.proof_tree.specs.Code.{forest_code};
     ghost use Rattle.bench_core.specs.Grown.{GrownState, IsGrown, grown_state};
@@ -32,9 +32,9 @@ impl Model for GrownTree {
 
     ghost coded = { Prim.hlevel (codes, forest_code) };
 
-    ghost view = { λ g. grown_state g.tree g.shelf g.log.items (vec_capacity g.log) };
+    ghost view = { λ g. grown_state g.tree g.shelf g.log };
 
-    ghost invariant = { λ g. IsGrown g.shelf g.log.items };
+    ghost invariant = { λ g. IsGrown g.shelf g.log g.work };
 }
 
 impl GrownTree {
@@ -59,7 +59,8 @@ impl GrownTree {
         GrownTree {
             tree: Tree::new(alloc),
             shelf: PartShelf::new(alloc),
-            log: Vec::new(alloc),
+            log: CountedTrace::new(),
+            work: 0,
         }
     }
 
@@ -74,7 +75,7 @@ impl GrownTree {
     pub(crate) fn work_records(&self) -> usize
         ensures { result ≡ count_by is_work self.now.records }
     {
-        count_work(&self.log)
+        self.work
     }
 
     /// Makes room for `nodes` more nodes and `records` more records.
@@ -103,7 +104,7 @@ impl GrownTree {
         ensures nodes { self.old.nodes ≤ self.new.nodes + 1 }
         ensures room { self.old.room ≤ self.new.room + 1 }
     {
-        push_applied(&mut self.log, Applied::Begin(root.position));
+        self.log.push(&Applied::Begin(root.position));
         let _place = self.tree.add_root(root);
     }
 
@@ -125,7 +126,8 @@ impl GrownTree {
         ensures nodes { self.old.nodes ≤ self.new.nodes }
         ensures room { self.old.room ≤ self.new.room + 1 }
     {
-        push_applied(&mut self.log, Applied::Solve(position));
+        self.log.push(&Applied::Solve(position));
+        self.work += 1;
         self.tree.bound(n, facts);
         self.shelf.put(n, shown.into_vec());
     }
@@ -142,7 +144,8 @@ impl GrownTree {
         ensures nodes { self.old.nodes ≤ self.new.nodes + length children.now }
         ensures room { self.old.room ≤ self.new.room + 1 }
     {
-        push_applied(&mut self.log, Applied::Expand(n));
+        self.log.push(&Applied::Expand(n));
+        self.work += 1;
         self.tree.expand(n, children);
     }
 
@@ -164,22 +167,4 @@ impl GrownTree {
     {
         join(alloc, &self.tree, &self.shelf, root, pieces)
     }
-}
-
-/// How many of them are of a search.
-fn count_work(log: &[Applied]) -> usize
-    ensures { result ≡ count_by is_work_applied log.now }
-{
-    log.iter().filter(|item| item.is_work()).count()
-}
-
-/// Adds what is stored of a record, for which there is room.
-fn push_applied(log: &mut Vec<Applied>, item: Applied)
-    requires { vec_len log.old < vec_capacity log.old }
-    ensures items { log.new.items ≡ log.old.items ++ item ∷ [] }
-    ensures room { vec_capacity log.old ≤ vec_capacity log.new }
-{
-    let Ok(()) = log.push(item) else {
-        unreachable!()
-    };
 }

@@ -1,7 +1,6 @@
 //! What a bench stores of its records: those applied, and those staged.
 ghost use Rattle.std.specs.Prelude.{◌≡◌};
 ghost use Rattle.bench_core.specs.Benches.{lease_kept, nodes_made, work_made};
-ghost use Rattle.bench_core.specs.Grown.{is_work_applied};
 
 use bench_records::CertificateList;
 use certificate_checker::ChildList;
@@ -19,19 +18,6 @@ pub(crate) enum Applied {
     Solve(Position),
     /// This node.
     Expand(NodeId),
-}
-
-impl Applied {
-    /// Whether it is a record of a search.
-    pub(crate) fn is_work(&self) -> bool
-        ensures { result ≡ is_work_applied self.now }
-    {
-        match self {
-            Applied::Begin(_) => false,
-            Applied::Solve(_) => true,
-            Applied::Expand(_) => true,
-        }
-    }
 }
 
 /// A record that is staged, with all that applying it needs.

@@ -64,12 +64,16 @@ impl<R: Files<File = File> + Drop> HandleDisk<PathFile<R>> {
 
 impl<R: Files<File = File> + Drop> PathFile<R> {
     /// There was no file when it was last to be opened, and none was made.
-    pub fn is_missing(&self) -> bool {
+    pub fn is_missing(&self) -> bool
+        ensures field { result ≡ self.now.is_missing }
+    {
         self.is_missing
     }
 
     /// What the system said when it last refused a call.
-    pub fn cause(&self) -> Option<io::ErrorKind> {
+    pub fn cause(&self) -> Option<io::ErrorKind>
+        ensures field { result ≡ self.now.cause }
+    {
         self.cause
     }
 

@@ -12,6 +12,8 @@ use std::marker::Model;
 #[derive(Drop)]
 pub struct Named {
     positions: IndexSet<Position>,
+    /// The number noted last: a record often names a position twice running.
+    last: u32,
 }
 
 impl Model for Named {
@@ -45,6 +47,7 @@ impl Named {
     {
         Named {
             positions: IndexSet::new(alloc),
+            last: 0,
         }
     }
 
@@ -77,7 +80,19 @@ impl Named {
         Some(n as u32)
     }
 
-    /// The number of a position, and whether it is new; a new one goes last. It is hashed once.
+    /// The number noted last, if it is this position's.
+    fn noted_last(&self, p: &Position) -> Option<u32>
+        ensures { IfSome result (λ n. slice_get self.now n ≡ Some p.now) }
+    {
+        let last = self.positions.get_index(self.last as usize)?;
+        if last != p {
+            return None;
+        }
+        Some(self.last)
+    }
+
+    /// The number of a position, and whether it is new; a new one goes last. It is hashed once, and not at all if it was
+    /// noted last.
     pub fn note(&mut self, p: Position) -> Result<(u32, bool), AllocError>
         ensures number { IfOk result (λ r. r.0 ≡ position_or_len (same_board p) self.old) }
         ensures new { IfOk result (λ r. r.1 ≡ not (list_any (same_board p) self.old)) }
@@ -86,10 +101,14 @@ impl Named {
         ensures err { OnErr result (self.new ≡ self.old) }
     {
         note_rule(&p);
+        if let Some(n) = self.noted_last(&p) {
+            return Ok((n, false));
+        }
         if self.positions.len() >= u32::MAX as usize {
             return Err(AllocError);
         }
         let noted = self.positions.insert_full(p)?;
+        self.last = noted.0 as u32;
         Ok((noted.0 as u32, noted.1))
     }
 

@@ -1,2 +1,5 @@
 pub mod Playing
 pub mod Written
+pub mod Notes
+pub mod Reading
+pub mod Told

@@ -1,8 +1,10 @@
 -- What a game of an archive is played as.
-use Rattle.std.specs.Prelude.{◌≡◌, ℕ, List, map, take, Option, Some, None}
+use Rattle.std.specs.Prelude.{◌≡◌, ◌≤◌, ℕ, All, List, map, take, Option, Some, None}
 use Rattle.archive_records.specs.declared.game.ArchiveGame.{ArchiveGame}
 use Rattle.archive_records.specs.declared.game.ArchiveMove.{ArchiveMove}
 use Rattle.archive_records.specs.declared.game.FoundPosition.{FoundPosition}
+use Rattle.archive_records.specs.declared.notes.Note.{Note}
+use Rattle.archive_records.specs.Inside.{IsGameWithin}
 use Rattle.draughts_board.specs.Board.{Board}
 use Rattle.fen_text.specs.Spelled.{Spells}
 use Rattle.game_reader.specs.declared.drafting.DraftOutcome.{DraftOutcome}
@@ -26,6 +28,20 @@ pub record IsPlayed (plies : ℕ) (game : ArchiveGame) (draft : drafts.Drafted) 
   pub led : led_to (Some (begins draft.set_up)) (map squares_of (take plies game.moves.items))
       ≡ Some draft.here
 
+-- the note stands within each source in which the game does
+abbrev pub IsNoteIn : ArchiveGame → Note → Type 0
+IsNoteIn game note = (bytes : ℕ) → IsGameWithin bytes game → note.place.byte ≤ bytes
+
+-- the note stands within each source in which the moves do
+abbrev pub IsNoteAmong : List ArchiveMove → Note → Type 0
+IsNoteAmong moves note =
+    (bytes : ℕ) → All (λ move. move.place.byte ≤ bytes) moves → note.place.byte ≤ bytes
+
+-- the game has no place beyond a source beyond which it had none
+abbrev pub StaysWithin : ArchiveGame → ArchiveGame → Type 0
+StaysWithin old new = (bytes : ℕ) → IsGameWithin bytes old → IsGameWithin bytes new
+
+-- A game that is left out has a note that says why, at a place of the game.
 abbrev pub IsDraftedAs : ℕ → ArchiveGame → DraftOutcome → Type 0
 IsDraftedAs plies game (Whole draft) = IsPlayed plies game draft
-IsDraftedAs plies game (LeftOut note) = Unit {0}
+IsDraftedAs plies game (LeftOut note) = IsNoteIn game note

@@ -2,3 +2,8 @@ pub mod Drafting
 pub mod Writing
 pub mod Counting
 pub mod Scores
+pub mod Telling
+pub mod Reading
+pub mod Refusals
+pub mod Listing
+pub mod Seen

@@ -2,7 +2,7 @@
 ghost use Rattle.std.specs.Prelude.{◌≡◌, OnOk, IfNone, IfOk, IfSome, Option, Some, map};
 ghost use Rattle.draughts_board.specs.Board.{Board};
 ghost use Rattle.strict_games.specs.Drafts.{begins, led_to};
-ghost use Rattle.game_reader.specs.Drafting.{BeginsAs, IsDraftedAs, squares_of};
+ghost use Rattle.game_reader.specs.Drafting.{BeginsAs, IsDraftedAs, IsNoteAmong, IsNoteIn, squares_of};
 ghost use Rattle.game_reader.specs.Scores.{score_of, score_of_outcome};
 ghost use Rattle.archive_records.specs.declared.notes.NoteKind.TheVariants as kinds;
 
@@ -52,10 +52,11 @@ fn add_tags(draft: &mut Draft, tags: &[ArchiveTag]) -> Result<bool, AllocError>
 
 /// Plays the moves one after another. Answers the note on the first that is not legal or may be
 /// several.
-#[tactic(auto, using(crate::proofs::Playing::led_more))]
+#[tactic(auto, using(crate::proofs::Playing::led_more, crate::proofs::Playing::at_move))]
 fn play_all(draft: &mut Draft, moves: &[ArchiveMove]) -> Result<Option<Note>, AllocError>
     ensures played { IfOk result (λ note. IfNone note
         (led_to (Some draft.old.here) (map squares_of moves.now) ≡ Some draft.new.here)) }
+    ensures place { IfOk result (λ note. IfSome note (IsNoteAmong moves.now)) }
     ensures same { OnOk result (draft.new.set_up ≡ draft.old.set_up) }
 {
     draft.reserve(moves.len())?;
@@ -105,6 +106,7 @@ pub fn drafted(alloc: Global, game: &ArchiveGame, plies: usize) -> Result<DraftO
 /// The note on a game whose own position is no FEN.
 pub fn position_fault(alloc: Global, game: &ArchiveGame) -> Option<Note>
     ensures kind { IfSome result (λ note. note.kind ≡ kinds.BadPosition) }
+    ensures place { IfSome result (IsNoteIn game.now) }
     ensures none { IfNone result ((set_up : Option Board) × BeginsAs game.now.position set_up) }
 {
     match begun(alloc, &game.position) {
@@ -115,7 +117,8 @@ pub fn position_fault(alloc: Global, game: &ArchiveGame) -> Option<Note>
 
 /// A note on a game as a whole, at its position, if it has one of its own, or its beginning.
 fn note_on(game: &ArchiveGame, kind: NoteKind) -> Note
-    ensures { result.kind ≡ kind }
+    ensures kind { result.kind ≡ kind }
+    ensures place { IsNoteIn game.now result }
 {
     let place = match &game.position {
         Some(found) => found.place,

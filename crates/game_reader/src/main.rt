@@ -7,14 +7,17 @@
 //! Proved: what `write` and `openings` give their sink, if they come to their end, is texts of games
 //! of English draughts one behind the other, each with legal moves from where it begins
 //! (`specs/Writing.antt`). [`drafted`] begins a game where the archive says, and its draft stands where
-//! the game's moves lead, as the archive has them (`specs/Drafting.antt`).
+//! the game's moves lead, as the archive has them (`specs/Drafting.antt`). What `check` writes, if it
+//! comes to its end, is lines of notes, each at a byte of the source or at its end, and the line that
+//! counts (`specs/Listing.antt`).
 //!
 //! Not proved, but tested on the files of `data/archives`: that each game which can be read is written,
-//! and what is told.
+//! which notes are told, and their words.
 #![tactic(auto)]
 
 mod archive;
 mod drafting;
+mod listing;
 mod seen;
 mod telling;
 mod usage;

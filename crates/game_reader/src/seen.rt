@@ -58,7 +58,8 @@ fn key_of(bytes: &[u8]) -> (u64, u64) {
 }
 
 impl Seen {
-    ghost use Rattle.std.specs.Prelude.{◌≡◌, []};
+    ghost use Rattle.std.specs.Prelude.{◌≡◌, [], IfOk};
+    ghost use Rattle.game_reader.specs.Seen.{IsSeen};
 
     /// No game.
     pub fn new(alloc: Global) -> Seen
@@ -70,14 +71,16 @@ impl Seen {
     }
 
     /// The number of the first game whose text with this result is the same, if there was one; else
-    /// this game is the first.
+    /// this game is the first. After want of memory nothing is said of the games.
     pub fn first_same(
         &mut self,
         alloc: Global,
         draft: &Draft,
         score: Score,
         number: u64,
-    ) -> Result<Option<u64>, AllocError> {
+    ) -> Result<Option<u64>, AllocError>
+        ensures { IfOk result (IsSeen self.old self.new number) }
+    {
         let key = key_of(&told_by(alloc, draft, score)?);
         if let Some(first) = self.games.get(&key) {
             return Ok(Some(*first));

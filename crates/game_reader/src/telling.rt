@@ -1,33 +1,83 @@
 //! What is told of an archive, a line for each note.
-use archive_games::{ArchiveGame, Note, NoteKind, Weight};
+ghost use Rattle.std.specs.Prelude.{◌≡◌, ◌++◌, ℕ, List, OnOk, option_copied};
+ghost use Rattle.archive_records.specs.Weights.{weight_of};
+ghost use Rattle.game_reader.specs.Telling.{IsNoteLine, counts_text, game_text, note_front, parts_text, tag_named, text_of_game, value_text, word_of};
+
+use archive_games::{ArchiveGame, ArchiveTag, Note, NoteKind, Weight};
 use std::alloc::{AllocError, Global};
 use terminal_text::{quote, say, say_number};
 
-/// The value of the first tag of this name, if it has one.
-fn value_of<'a>(game: &'a ArchiveGame, name: &[u8]) -> Option<&'a [u8]> {
-    let tag = game.tags.iter().find(|tag| tag.name.as_slice() == name)?;
-    Some(tag.value.as_slice())
+/// The first tag of this name, if the game has one.
+fn tag_named<'a>(game: &'a ArchiveGame, name: &[u8]) -> Option<&'a ArchiveTag>
+    ensures { option_copied result ≡ tag_named game.now name.now }
+{
+    game.tags.iter().find(|tag| tag.name.as_slice() == name)
 }
 
-/// Appends which game it is: `, game 3 (Club, Ann - Bob)`. Bytes that are not printable ASCII are
-/// escaped.
-fn say_game(text: &mut Vec<u8>, game: &ArchiveGame) -> Result<(), AllocError> {
+/// Appends the value of the first tag of this name; `?` if the game has none. Bytes that are not
+/// printable ASCII are escaped.
+fn say_value(text: &mut Vec<u8>, game: &ArchiveGame, name: &[u8]) -> Result<(), AllocError>
+    ensures { OnOk result (text.new.items ≡ text.old.items ++ value_text game.now name.now) }
+{
+    match tag_named(game, name) {
+        Some(tag) => quote(text, &tag.value),
+        None => quote(text, b"?"),
+    }
+}
+
+/// Appends which game it is: `, game 3 (Club, Ann - Bob)`.
+fn say_game(text: &mut Vec<u8>, game: &ArchiveGame) -> Result<(), AllocError>
+    ensures { OnOk result (text.new.items ≡ text.old.items ++ game_text game.now) }
+{
     say_number(text, ", game ", game.number, " (")?;
-    quote(text, value_of(game, b"Event").unwrap_or(b"?"))?;
+    say_value(text, game, b"Event")?;
     say(text, ", ")?;
-    quote(text, value_of(game, b"Black").unwrap_or(b"?"))?;
+    say_value(text, game, b"Black")?;
     say(text, " - ")?;
-    quote(text, value_of(game, b"White").unwrap_or(b"?"))?;
+    say_value(text, game, b"White")?;
     say(text, ")")
 }
 
 /// The word for what becomes of a game.
-fn word_of(weight: Weight) -> &'static str {
+fn word_of(weight: Weight) -> &'static str
+    ensures { result.now ≡ word_of weight }
+{
     match weight {
         Weight::Fault => ": left out: ",
         Weight::Doubt => ": doubtful: ",
         Weight::Change => ": changed: ",
     }
+}
+
+/// Appends which game it is, if it is one.
+fn say_of_game(text: &mut Vec<u8>, game: Option<&ArchiveGame>) -> Result<(), AllocError>
+    ensures { OnOk result (text.new.items
+        ≡ text.old.items ++ text_of_game (option_copied game.entry)) }
+{
+    match game {
+        Some(game) => say_game(text, game),
+        None => Ok(()),
+    }
+}
+
+/// Appends the front of a note's line, up to the words of its kind.
+fn say_front(text: &mut Vec<u8>, game: Option<&ArchiveGame>, note: &Note) -> Result<(), AllocError>
+    ensures { OnOk result (text.new.items
+        ≡ text.old.items ++ note_front (option_copied game.entry) note.now) }
+{
+    say_number(text, "line ", note.place.line, "")?;
+    say_number(text, ", column ", note.place.column, "")?;
+    say_of_game(text, game)?;
+    say(text, word_of(note.kind.weight()))
+}
+
+/// Appends the words of a kind of notes.
+fn say_kind(alloc: Global, text: &mut Vec<u8>, kind: NoteKind) -> Result<(), AllocError>
+    ensures { OnOk result ((words : List ℕ) × (text.new.items ≡ text.old.items ++ words)) }
+{
+    let words = format!(in alloc; "{kind}")?;
+    say(text, &words)?;
+    Ok(())
 }
 
 /// Appends the line of a note: `line 2, column 9, game 3 (Club, Ann - Bob): left out: ..`. A note of
@@ -37,15 +87,14 @@ pub fn say_note(
     text: &mut Vec<u8>,
     game: Option<&ArchiveGame>,
     note: &Note,
-) -> Result<(), AllocError> {
-    say_number(text, "line ", note.place.line, "")?;
-    say_number(text, ", column ", note.place.column, "")?;
-    if let Some(game) = game {
-        say_game(text, game)?;
-    }
-    say(text, word_of(note.kind.weight()))?;
-    say(text, &format!(in alloc; "{}", note.kind)?)?;
-    say(text, "\n")
+) -> Result<(), AllocError>
+    ensures { OnOk result ((line : List ℕ) × (IsNoteLine (option_copied game.entry) note.now line
+        × (text.new.items ≡ text.old.items ++ line))) }
+{
+    say_front(text, game, note)?;
+    say_kind(alloc, text, note.kind)?;
+    say(text, "\n")?;
+    Ok(())
 }
 
 /// How many games there were, what became of them, and how many notes of each weight.
@@ -60,7 +109,6 @@ pub struct Counts {
 
 impl Counts {
     ghost use Rattle.std.specs.Prelude.{◌≡◌, ◌==◌, ◌&&◌};
-    ghost use Rattle.archive_records.specs.Weights.{weight_of};
     ghost use Rattle.game_reader.specs.Counting.{no_counts, with_game, with_note};
 
     /// Nothing counted.
@@ -105,7 +153,9 @@ impl Counts {
     }
 
     /// Appends the line that counts: `games 10 left-out 1 faults 1 doubts 3 changes 2`.
-    pub fn say(&self, text: &mut Vec<u8>) -> Result<(), AllocError> {
+    pub fn say(&self, text: &mut Vec<u8>) -> Result<(), AllocError>
+        ensures { OnOk result (text.new.items ≡ text.old.items ++ counts_text self.now) }
+    {
         say_number(text, "games ", self.games, "")?;
         say_number(text, " left-out ", self.left_out, "")?;
         say_number(text, " faults ", self.faults, "")?;
@@ -115,7 +165,9 @@ impl Counts {
 }
 
 /// Appends that there are more games than `solve` reads of one source.
-pub fn say_parts(text: &mut Vec<u8>, games: u64) -> Result<(), AllocError> {
+pub fn say_parts(text: &mut Vec<u8>, games: u64) -> Result<(), AllocError>
+    ensures { OnOk result (text.new.items ≡ text.old.items ++ parts_text games) }
+{
     say_number(
         text,
         "",

@@ -65,7 +65,7 @@ fn read_openings(options: &[&str]) -> Result<Asked, WordsRefusal> {
 }
 
 /// What the words ask, without the program's name.
-pub fn read_words(words: &[&str]) -> Result<Asked, WordsRefusal> {
+pub(crate) fn read_words(words: &[&str]) -> Result<Asked, WordsRefusal> {
     match words {
         ["check"] => Ok(Asked::Check),
         ["write"] => Ok(Asked::Write { part: None }),

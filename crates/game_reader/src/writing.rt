@@ -1,12 +1,15 @@
 //! What the commands do with each game of an archive.
 ghost use Rattle.std.specs.Prelude.{IfOk, IfSome, OnOk};
+ghost use Rattle.game_reader.specs.Drafting.{StaysWithin};
+ghost use Rattle.game_reader.specs.Listing.{Lists};
 ghost use Rattle.game_reader.specs.Writing.{IsOneText, WritesGames};
 
 use crate::archive::{Archive, ArchiveRefusal, MOST_STEPS};
 use crate::drafting::{DraftOutcome, drafted, position_fault, score_of};
+use crate::listing::{last_lines, lines_of};
 use crate::seen::Seen;
-use crate::telling::{Counts, say_note, say_parts};
-use archive_games::{ArchiveGame, Note, NoteKind, Weight};
+use crate::telling::{Counts, say_parts};
+use archive_games::{ArchiveGame, Note, NoteKind};
 use bench_edges::{Sink, SinkFault, Source, write_all};
 use std::alloc::{AllocError, Global};
 use strict_games::{Draft, Layout, OpeningGroups, group_text};
@@ -77,11 +80,9 @@ fn is_in_part(number: u64, part: Option<u64>) -> bool {
 
 /// The game's draft after its first `plies` moves. Where it cannot be written there is none, and its
 /// notes say why.
-fn judged(
-    alloc: Global,
-    game: &mut ArchiveGame,
-    plies: usize,
-) -> Result<Option<Draft>, AllocError> {
+fn judged(alloc: Global, game: &mut ArchiveGame, plies: usize) -> Result<Option<Draft>, AllocError>
+    ensures { OnOk result (StaysWithin game.old game.new) }
+{
     if game.is_left_out {
         if let Some(note) = position_fault(alloc, game) {
             game.notes.push(note)?;
@@ -104,7 +105,8 @@ fn text_of(
     game: &mut ArchiveGame,
     seen: &mut Seen,
 ) -> Result<Option<Vec<u8>>, AllocError>
-    ensures { IfOk result (λ found. IfSome found (λ text. IsOneText text.items)) }
+    ensures text { IfOk result (λ found. IfSome found (λ text. IsOneText text.items)) }
+    ensures within { OnOk result (StaysWithin game.old game.new) }
 {
     let Some(draft) = judged(alloc, game, ALL_PLIES)? else {
         return Ok(None);
@@ -120,48 +122,18 @@ fn text_of(
     Ok(Some(text))
 }
 
-/// The lines of the game's notes of this weight or more, in the order of their places; each note is
-/// counted.
-fn lines_of(
-    alloc: Global,
-    game: &mut ArchiveGame,
-    counts: &mut Counts,
-    tells_changes: bool,
-) -> Result<Vec<u8>, AllocError> {
-    game.notes.sort_by_key(|note| note.place.byte)?;
-    let mut lines = Vec::new(alloc);
-    for note in game.notes.iter() {
-        counts.note(note.kind);
-        if tells_changes || note.kind.weight() != Weight::Change {
-            say_note(alloc, &mut lines, Some(game), note)?;
-        }
-    }
-    Ok(lines)
-}
-
-/// The lines of the notes that stand behind the last game.
-fn last_lines(
-    alloc: Global,
-    archive: &mut Archive,
-    counts: &mut Counts,
-) -> Result<Vec<u8>, AllocError> {
-    let mut lines = Vec::new(alloc);
-    for note in archive.notes_left().iter() {
-        counts.note(note.kind);
-        say_note(alloc, &mut lines, None, note)?;
-    }
-    Ok(lines)
-}
-
 /// `check`: the lines of all faults and doubtful readings, and a line that counts.
 pub fn check<S: Source, K: Sink>(
     alloc: Global,
     source: &mut S,
     sink: &mut K,
-) -> Result<Counts, RunRefusal> {
+) -> Result<Counts, RunRefusal>
+    ensures { IfOk result (Lists (S.left source.old) (S.left source.new)
+        (K.taken sink.old) (K.taken sink.new)) }
+{
     let mut archive = Archive::new(alloc)?;
     let mut tally = Tally::new(alloc);
-    for _ in 0..MOST_STEPS {
+    'games: for _ in 0..MOST_STEPS {
         let Some(mut game) = archive.next(source)? else {
             let mut lines = last_lines(alloc, &mut archive, &mut tally.counts)?;
             tally.counts.say(&mut lines)?;

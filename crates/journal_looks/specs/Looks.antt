@@ -1,7 +1,8 @@
 -- What is shown of a journal that is only looked at, and what is left of it.
-use Rattle.std.specs.Prelude.{◌≡◌, ◌≤◌, ◌<◌, ◌-◌, ◌⊎◌, ℕ, Bool, true, false, List, length, slice_get, Some, None, IfSome, Result, Err, IfErr}
+use Rattle.std.specs.Prelude.{◌≡◌, ◌≤◌, ◌<◌, ◌-◌, ◌⊎◌, ℕ, Bool, true, false, List, length, slice_get, is_some, Some, None, IfSome, Result, Err, IfErr}
 use Rattle.std.specs.declared.alloc.AllocError.{AllocError}
 use Rattle.std.specs.Bool.{OnFalse}
+use Rattle.std.specs.List.{list_all}
 use Rattle.shared_words.specs.Answers.{Unless}
 use Rattle.disk_journal.specs.Refusals.{ExplainsAny, says_nothing_of_file}
 use Rattle.disk_journal.specs.declared.refusal.JournalRefusal.{JournalRefusal}
@@ -60,12 +61,14 @@ pub record Certifies (file : List ℕ) (n : ℕ) (c : Certificate) : Type 0 wher
 
 -- ---- whatever the disk tells
 
--- the text is the report on roots whose values are true
-pub record IsTrueReport (text : List ℕ) : Type 0 where
+-- The text is the report on roots whose values are true; and every root has one, or (false) some root
+-- has none.
+pub record IsTrueReport (text : List ℕ) (settled : Bool) : Type 0 where
   pub roots : List Root
   pub few : length roots ≤ MOST_ROOTS
   pub text_is : text ≡ report_of roots
   pub values : AreTrueRoots roots
+  pub settled_is : settled ≡ list_all (λ r. is_some r.value) roots
 
 -- ---- refusals
 

@@ -3,8 +3,8 @@
 //!
 //! What is shown, and what is left of the disk, stands in `specs/Looks.antt`.
 //!
-//! Proved, whatever the disk tells: the values are true, and the certificate of `certify` is good
-//! by each sound table, and checked before it is given. Proved of an honest disk: the report is on
+//! Proved, whatever the disk tells: the values are true, the report says whether each root has one,
+//! and the certificate of `certify` is good by each sound table, and checked before it is given. Proved of an honest disk: the report is on
 //! the roots of the records that it reads as, and says whether each is settled; the certificate
 //! claims the value of the root that was asked, counted from 1. A journal's flaw, the first payload
 //! that is no lawful record, a root that is not there and one without a value are each refused

@@ -29,7 +29,8 @@ fn looked_of(alloc: Global, bench: &Bench, table: &Table) -> Result<Written, All
         written.text.items ≡ report_of (forest_roots bench.now.state.forest)) }
     ensures settled { IfOk result (λ written.
         written.is_settled ≡ are_settled bench.now.state.forest) }
-    ensures values { IfOk result (λ written. IsTrueReport written.text.items) }
+    ensures values { IfOk result (λ written.
+        IsTrueReport written.text.items written.is_settled) }
 {
     let text = report_text(alloc, bench, table)?;
     let is_settled = is_settled(bench);
@@ -53,8 +54,9 @@ pub fn report<D: Disk>(alloc: Global, disk: &mut D) -> Result<Written, LookRefus
     ensures accepted { IsHonest D.TELLS → (pieces : ℕ) (records : List BenchRecord) →
         ReadsRecords pieces (D.reads disk.old) records → BlamesNoFile result }
 
-    // The values are true whatever the disk tells.
-    ensures values { IfOk result (λ written. IsTrueReport written.text.items) }
+    // The values are true, and it says whether each root has one, whatever the disk tells.
+    ensures values { IfOk result (λ written.
+        IsTrueReport written.text.items written.is_settled) }
 
     // What is left of the disk.
     ensures reads { OnlyReads D.Disk disk.old disk.new

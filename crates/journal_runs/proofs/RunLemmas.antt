@@ -306,6 +306,6 @@ pub if_ok_both : {T E : Type 0} (P P' Q : T → Type 0) (r : Result T E) → ((x
 if_ok_both P P' Q (Ok x) f p p' = f x p p'
 if_ok_both P P' Q (Err e) f p p' = tt
 
-pub if_ok_on : {T E : Type 0} (A B : Type 0) (P Q : T → Type 0) (r : Result T E) → ((x : T) → A → B → P x → Q x) → OnOk r A → OnOk r B → IfOk r P → IfOk r Q
-if_ok_on A B P Q (Ok x) f a b p = f x a b p
-if_ok_on A B P Q (Err e) f a b p = tt
+pub if_ok_on_both : {T E : Type 0} (A B : Type 0) (P P' Q : T → Type 0) (r : Result T E) → ((x : T) → A → B → P x → P' x → Q x) → OnOk r A → OnOk r B → IfOk r P → IfOk r P' → IfOk r Q
+if_ok_on_both A B P P' Q (Ok x) f a b p p' = f x a b p p'
+if_ok_on_both A B P P' Q (Err e) f a b p p' = tt

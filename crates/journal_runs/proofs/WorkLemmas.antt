@@ -1,25 +1,32 @@
 -- What begun roots and the work behind them come to.
-use Rattle.std.proofs.Common.{length, ◌≡◌, ◌≤◌, ◌⊎◌, inl, inr, ⊎_elim, ℕ, List, [], ◌∷◌, ◌++◌, refl, ap, sym, ◌∙◌, subst, map, append_assoc, append-nil}
-use Rattle.std.specs.Prelude.{All, Contains, Bool, true, false, cond}
-use Rattle.std.specs.List.{list_any}
+use Rattle.std.proofs.Common.{length, ◌≡◌, ◌≤◌, ◌⊎◌, inl, inr, ⊎_elim, ℕ, List, [], ◌∷◌, ◌++◌, refl, ap, sym, ◌∙◌, subst, map, append_assoc, append-nil, arith}
+use Rattle.std.specs.Prelude.{All, Contains, Bool, true, false, cond, is_some, IfSome, Option}
+use Rattle.std.specs.List.{list_all, list_any}
 use Rattle.std.specs.declared.alloc.AllocError.{AllocError}
 use Rattle.std.proofs.lemmas.Bool.{true≢false, or_cases}
+use Rattle.std.proofs.lemmas.List.Folds.{list_all-map}
 use Rattle.std.proofs.lemmas.List.Elements.{All-head, All-tail, Contains-append_left, Contains-push, Contains-push_cases}
 use Rattle.draughts_board.specs.Board.{Board, same_board}
+use Rattle.draughts_board.specs.Draughts.{draughts}
+use Rattle.draughts_board.specs.Game.{HasValue}
 use Rattle.draughts_board.specs.Same.{same_board-Decides}
-use Rattle.proof_tree.specs.Forest.{Forest, no_node, Node, nodes}
-use Rattle.proof_tree.specs.Sound.{root_positions}
+use Rattle.proof_tree.specs.Forest.{Forest, no_node, Node, nodes, value_of}
+use Rattle.proof_tree.specs.Sound.{IsSoundForest, root_positions}
+use Rattle.strategy_certificate.specs.declared.oracle.Answer.{Answer}
+use Rattle.strategy_certificate.specs.Tables.{IsSoundTable, IsTableSize}
 use Rattle.bench_records.specs.declared.records.BenchRecord.{BenchRecord}
 use Rattle.bench_records.specs.declared.records.BenchRecord.TheVariants.{Begin, Solve, Expand}
 use Rattle.bench_core.specs.Records.{begun}
 use Rattle.bench_core.specs.Growing.{GrowsWith, GrowsWithAll, IsForestOf}
-use Rattle.bench_core.specs.States.{are_settled}
+use Rattle.bench_core.specs.States.{CoreState, IsSoundState, are_settled}
+use Rattle.bench_core.proofs.EventLaws.{sound_values_are_true}
 use Rattle.bench_core.proofs.Lists.{Contains-here, Contains-there, Contains-cases, Contains-map}
 use Rattle.bench_core.proofs.OneForest.{roots_are_those_begun}
 use Rattle.bench_core.proofs.SoundApplied.{roots_grown}
 use Rattle.opening_report.specs.declared.roots.Root.{Root}
 use Rattle.opening_report.specs.Lines.{IsLine}
-use Rattle.opening_report.specs.Report.{report_of, summary_line, root_of, forest_roots, AreTrueRoots, AreApart}
+use Rattle.opening_report.specs.Report.{report_of, summary_line, root_of, forest_roots, IsTrueRoot, AreTrueRoots, AreApart}
+use Rattle.opening_report.proofs.BenchLemmas.{root_true}
 use Rattle.turn_lock.specs.Growth.{GrowsTo}
 use Rattle.tree_manager.specs.declared.entries.Entry.{Entry}
 use Rattle.tree_manager.specs.declared.entries.Entry.TheVariants.{Put, Attached, Leased, Released, Acked, Broken}
@@ -35,7 +42,7 @@ use Rattle.worker_gate.specs.declared.worker.Ended.TheVariants.{Done, Spent}
 use Rattle.journal_runs.specs.Ends.{IsIdle, IsEndedBy, GoesOnFrom, HasRun, HasWorked}
 use Rattle.journal_runs.specs.Journals.{CountsRoots, ReportsTruth}
 use Rattle.journal_runs.specs.FirstPass.{HasSearched}
-use Rattle.journal_runs.proofs.AmpleLines.{ample_settles}
+use Rattle.journal_runs.proofs.AmpleLines.{ample_settles, records_sound}
 use Rattle.journal_runs.proofs.AttachedLines.{all_applied, begun_append}
 use Rattle.journal_runs.proofs.FirstLines.{reached_ends}
 
@@ -113,6 +120,22 @@ root_found (x ∷ xs) p there = ⊎_elim
     (λ rest. let found = root_found xs p rest in (found.0, (Contains-there (root_of x) found.0 (map root_of xs) found.1.0, found.1.1)))
     (Contains-cases x.own.position p (map (λ (y : Node). y.own.position) xs) there)
 
+-- ---- the values of a forest of records are true
+
+true_of : (roots : Forest) → IsSoundForest roots → (xs : List Node) → ((x : Node) → Contains xs x → Contains (nodes roots) x) → All (λ (x : Node). IfSome (value_of x) (HasValue draughts x.own.position)) xs
+    → AreTrueRoots (map root_of xs)
+true_of roots sound [] within right r there = absurd (contains_nothing r there)
+true_of roots sound (x ∷ xs) within right r there = ⊎_elim
+    (λ same. subst IsTrueRoot same (root_true roots sound x (within x (Contains-here x xs)) (All-head (λ (y : Node). IfSome (value_of y) (HasValue draughts y.own.position)) x xs right)))
+    (λ rest. true_of roots sound xs (λ y h. within y (Contains-there x y xs h)) (All-tail (λ (y : Node). IfSome (value_of y) (HasValue draughts y.own.position)) x xs right) r rest)
+    (Contains-cases (root_of x) r (map root_of xs) there)
+
+values_true : (k : ℕ) (answer : Board → Option Answer) (rs : List BenchRecord) (f : Forest) → IsSoundTable draughts k answer → k ≤ 3 → IsForestOf k rs f → AreTrueRoots (forest_roots f)
+values_true k answer rs f table few grown =
+    let state : CoreState = record { forest = f; leases = record { limit = 1; rows = [] }; given = 0; work = 0; settings = record { budget = 0; depth = 0; pieces = k } } in
+    let sound : IsSoundState state = records_sound rs state (omega arith) refl grown in
+    true_of f sound.1.numbered (nodes f) (λ x there. there) (sound_values_are_true answer state table few sound)
+
 module _ (k : ℕ) (rs : List BenchRecord) (f : Forest) (old positions : List Board) (grown : IsForestOf k rs f) (roots : root_positions f ≡ with_roots old positions) where
   each_held : (p : Board) → Contains positions p → RootAt (nodes f) p
   each_held p there = root_found (nodes f) p (subst (λ (ps : List Board). Contains ps p) (sym roots) (each_comes old positions p there))
@@ -120,11 +143,16 @@ module _ (k : ℕ) (rs : List BenchRecord) (f : Forest) (old positions : List Bo
   all_apart : AreApart (forest_roots f)
   all_apart = are_apart (nodes f) (all_once k no_node rs f grown tt)
 
-  pub reports_truth : (text : List ℕ) → AreTrueRoots (forest_roots f) → length (forest_roots f) ≤ 65536 → text ≡ report_of (forest_roots f) → ReportsTruth positions text
-  reports_truth text values few is = record { roots = forest_roots f; few = few; true_values = values; text_is = is; each = each_held; apart = all_apart }
+  all_settled : (settled : Bool) → settled ≡ are_settled f → settled ≡ list_all (λ (r : Root). is_some r.value) (forest_roots f)
+  all_settled settled is = is ∙ sym (list_all-map (λ (r : Root). is_some r.value) root_of (nodes f))
 
-  pub counts_roots : (text : List ℕ) → IsLine (summary_line (forest_roots f)) → text ≡ summary_line (forest_roots f) → CountsRoots positions text
-  counts_roots text line is = record { roots = forest_roots f; text_is = is; line = subst IsLine (sym is) line; each = each_held; apart = all_apart }
+  pub reports_truth : (text : List ℕ) (settled : Bool) → settled ≡ are_settled f → AreTrueRoots (forest_roots f) → length (forest_roots f) ≤ 65536 → text ≡ report_of (forest_roots f) → ReportsTruth positions text settled
+  reports_truth text settled told values few is =
+      record { roots = forest_roots f; few = few; true_values = values; text_is = is; settled_is = all_settled settled told; each = each_held; apart = all_apart }
+
+  pub counts_roots : (answer : Board → Option Answer) (text : List ℕ) (settled : Bool) → IsSoundTable draughts k answer → k ≤ 3 → settled ≡ are_settled f → IsLine (summary_line (forest_roots f)) → text ≡ summary_line (forest_roots f) → CountsRoots positions text settled
+  counts_roots answer text settled table few told line is =
+      record { roots = forest_roots f; true_values = values_true k answer rs f table few grown; text_is = is; settled_is = all_settled settled told; line = subst IsLine (sym is) line; each = each_held; apart = all_apart }
 
 -- ---- lines
 
@@ -213,12 +241,15 @@ module _ {D : Type 0} (old mid : SessionState D) (positions : List Board) (m : �
       reached = λ replayed a budget core budget_is limit_is room. reached_ends replayed a old mid positions m core begins budget lease new budget_is limit_is room stood grows searched history;
     }
 
-    truth_after : (text : List ℕ) → AreTrueRoots (forest_roots new.core.state.forest) → length (forest_roots new.core.state.forest) ≤ 65536 → text ≡ report_of (forest_roots new.core.state.forest) → ReportsTruth positions text
-    truth_after text values few is =
-        reports_truth new.core.state.settings.pieces (applied_in new.line) new.core.state.forest (root_positions old.core.state.forest) positions stands.state.forest roots_after text values few is
+    truth_after : (text : List ℕ) (settled : Bool) → settled ≡ are_settled new.core.state.forest → AreTrueRoots (forest_roots new.core.state.forest) → length (forest_roots new.core.state.forest) ≤ 65536 → text ≡ report_of (forest_roots new.core.state.forest)
+        → ReportsTruth positions text settled
+    truth_after text settled told values few is =
+        reports_truth new.core.state.settings.pieces (applied_in new.line) new.core.state.forest (root_positions old.core.state.forest) positions stands.state.forest roots_after text settled told values few is
 
-    count_after : (text : List ℕ) → IsLine (summary_line (forest_roots new.core.state.forest)) → text ≡ summary_line (forest_roots new.core.state.forest) → CountsRoots positions text
-    count_after text line is = counts_roots new.core.state.settings.pieces (applied_in new.line) new.core.state.forest (root_positions old.core.state.forest) positions stands.state.forest roots_after text line is
+    count_after : (answer : Board → Option Answer) (text : List ℕ) (settled : Bool) → IsSoundTable draughts new.core.state.settings.pieces answer → new.core.state.settings.pieces ≤ 3 → settled ≡ are_settled new.core.state.forest
+        → IsLine (summary_line (forest_roots new.core.state.forest)) → text ≡ summary_line (forest_roots new.core.state.forest) → CountsRoots positions text settled
+    count_after answer text settled table few told line is =
+        counts_roots new.core.state.settings.pieces (applied_in new.line) new.core.state.forest (root_positions old.core.state.forest) positions stands.state.forest roots_after answer text settled table few told line is
 
 -- by how the work ended
 module _ {D : Type 0} (old mid new : SessionState D) (positions : List Board) (m : ℕ) (begins : HasBegun old positions m mid) (stood : IsCoreOf mid.line mid.core) (grows : GrowsTo MayAddInTurn mid.line new.line)
@@ -249,17 +280,24 @@ module _ {D : Type 0} (old mid new : SessionState D) (positions : List Board) (m
     spent = λ h. spent.1.1;
   }
 
+few_pieces : (k : ℕ) → IsTableSize k → k ≤ 3
+few_pieces k (inl two) = omega (arith, two)
+few_pieces k (inr three) = omega (arith, three)
+
 -- and then written
 module _ {D : Type 0} (lease : ℕ) (old new : SessionState D) (positions : List Board) (settled : Bool) (run : HasRun lease old positions new settled) (was : IsIdle old) (stood : IsCoreOf old.line old.core) (stands : IsCoreOf new.line new.core) where
   pub worked_run : (text_of : Forest → List ℕ) (text : List ℕ) (told : Bool) → text ≡ text_of new.core.state.forest → told ≡ settled → IsHistory new.line new.core → HasWorked text_of lease old positions new text told
   worked_run text_of text told text_is told_is history =
       worked_from old run.begun positions run.moment run.begins new was stood run.grows run.idle stands text_of lease text told text_is (told_is ∙ run.settled_is) (λ h. run.spent (sym told_is ∙ h)) run.stood run.searched history
 
-  pub truth_run : (text : List ℕ) → AreTrueRoots (forest_roots new.core.state.forest) → length (forest_roots new.core.state.forest) ≤ 65536 → text ≡ report_of (forest_roots new.core.state.forest) → ReportsTruth positions text
-  truth_run text values few is = truth_after old run.begun positions run.moment run.begins new was stood run.grows run.idle stands text values few is
+  pub truth_run : (text : List ℕ) (told : Bool) → told ≡ settled → AreTrueRoots (forest_roots new.core.state.forest) → length (forest_roots new.core.state.forest) ≤ 65536 → text ≡ report_of (forest_roots new.core.state.forest) → ReportsTruth positions text told
+  truth_run text told told_is values few is = truth_after old run.begun positions run.moment run.begins new was stood run.grows run.idle stands text told (told_is ∙ run.settled_is) values few is
 
-  pub count_run : (text : List ℕ) → IsLine (summary_line (forest_roots new.core.state.forest)) → text ≡ summary_line (forest_roots new.core.state.forest) → CountsRoots positions text
-  count_run text line is = count_after old run.begun positions run.moment run.begins new was stood run.grows run.idle stands text line is
+  pub count_run : (k : ℕ) (answer : Board → Option Answer) (text : List ℕ) (told : Bool) → k ≡ new.core.state.settings.pieces → IsSoundTable draughts k answer → IsTableSize k → told ≡ settled
+      → IsLine (summary_line (forest_roots new.core.state.forest)) → text ≡ summary_line (forest_roots new.core.state.forest) → CountsRoots positions text told
+  count_run k answer text told same table size told_is line is =
+      count_after old run.begun positions run.moment run.begins new was stood run.grows run.idle stands answer text told
+      (subst (λ n. IsSoundTable draughts n answer) same table) (subst (λ n. n ≤ 3) same (few_pieces k size)) (told_is ∙ run.settled_is) line is
 
 -- ---- refusals of the beginning
 

@@ -1,8 +1,8 @@
 -- What a run leaves of the journal on its disk, and what it writes of it. Tables are of a given
 -- number of pieces.
-use Rattle.std.specs.Prelude.{◌≡◌, ◌≤◌, ◌<◌, ◌⊎◌, ◌+◌, ℕ, Bool, true, false, List, ◌++◌, count_by, length, Contains}
+use Rattle.std.specs.Prelude.{◌≡◌, ◌≤◌, ◌<◌, ◌⊎◌, ◌+◌, ℕ, Bool, true, false, List, ◌++◌, count_by, is_some, length, Contains}
 use Rattle.std.specs.Bool.{OnFalse}
-use Rattle.std.specs.List.{AllByRecursion as Each}
+use Rattle.std.specs.List.{list_all, AllByRecursion as Each}
 use Rattle.bench_disk.specs.declared.disk.Disk.{Ghosts}
 use Rattle.bench_disk.specs.Disk.{IsHonest, NothingPending, Stays}
 use Rattle.shared_words.specs.Counts.{Rose}
@@ -86,22 +86,24 @@ module _ {D : Type 0} (g : Ghosts D) where
     pub reached : IsRoomForEach pieces budget lease positions before
         → Each (IsReached pieces depth) (nodes roots)
 
--- The text is the report of roots, each with no value but the true one. Each of the positions is
--- one of them, and no position is two of them.
-pub record ReportsTruth (positions : List Board) (text : List ℕ) : Type 0 where
+-- The text is the report of roots, each with no value but the true one; and every root has one, or
+-- (false) some root has none. Each of the positions is one of them, and no position is two of them.
+pub record ReportsTruth (positions : List Board) (text : List ℕ) (is_settled : Bool) : Type 0 where
   pub roots : List Root
   pub few : length roots ≤ MOST_ROOTS
   pub true_values : AreTrueRoots roots
   pub text_is : text ≡ report_of roots
+  pub settled_is : is_settled ≡ list_all (λ r. is_some r.value) roots
   pub each : (p : Board) → Contains positions p
       → (r : Root) × (Contains roots r × (r.position ≡ p))
   pub apart : AreApart roots
 
--- The text is the one line that counts roots. Each of the positions is one of them, and no position
--- is two of them.
-pub record CountsRoots (positions : List Board) (text : List ℕ) : Type 0 where
+-- .. the one line that counts such roots.
+pub record CountsRoots (positions : List Board) (text : List ℕ) (is_settled : Bool) : Type 0 where
   pub roots : List Root
+  pub true_values : AreTrueRoots roots
   pub text_is : text ≡ summary_line roots
+  pub settled_is : is_settled ≡ list_all (λ r. is_some r.value) roots
   pub line : IsLine text
   pub each : (p : Board) → Contains positions p
       → (r : Root) × (Contains roots r × (r.position ≡ p))
@@ -113,9 +115,9 @@ account_of Report roots = report_of (forest_roots roots)
 account_of Summary roots = summary_line (forest_roots roots)
 
 -- what such a text shows of the positions, whatever the disk tells
-abbrev pub IsTrueAccount : Account → List Board → List ℕ → Type 0
-IsTrueAccount Report positions text = ReportsTruth positions text
-IsTrueAccount Summary positions text = CountsRoots positions text
+abbrev pub IsTrueAccount : Account → List Board → List ℕ → Bool → Type 0
+IsTrueAccount Report positions text is_settled = ReportsTruth positions text is_settled
+IsTrueAccount Summary positions text is_settled = CountsRoots positions text is_settled
 
 -- ---- why a run is refused
 

@@ -1,5 +1,5 @@
 //! A run of `solve` on a journal.
-ghost use Rattle.std.specs.Prelude.{◌≡◌, ◌≤◌, true, length, IfOk, IfErr, OnOk};
+ghost use Rattle.std.specs.Prelude.{◌≡◌, ◌≤◌, true, length, IfOk, IfErr, OnOk, Option};
 ghost use Rattle.bench_disk.specs.Disk.{IsHonest};
 ghost use Rattle.disk_journal.specs.declared.refusal.JournalRefusal.TheVariants as journal;
 ghost use Rattle.shared_words.specs.Counts.{Rose};
@@ -9,7 +9,10 @@ ghost use Rattle.tree_manager.specs.Histories.{IsCoreOf, IsHistory};
 ghost use Rattle.tree_manager.specs.Lines.{is_failed};
 ghost use Rattle.worker_gate.specs.Work.{CanSearch};
 ghost use Rattle.journal_runs.specs.Ends.{GoesOnFrom, HasRun, HasWorked, IsIdle, IsWorkRefusal, out_of_memory};
-ghost use Rattle.strategy_certificate.specs.Tables.{IsTableSize};
+ghost use Rattle.draughts_board.specs.Board.{Board};
+ghost use Rattle.draughts_board.specs.Draughts.{draughts};
+ghost use Rattle.strategy_certificate.specs.Tables.{IsSoundTable, IsTableSize};
+ghost use Rattle.strategy_certificate.specs.declared.oracle.Answer.{Answer};
 ghost use Rattle.journal_runs.specs.Journals.{IsCaused, IsTrueAccount, LeavesJournal, Resumes, account_of};
 ghost use Rattle.journal_runs.specs.declared.refusals.RunRefusal.TheVariants as refusal;
 ghost use Rattle.proof_tree.specs.declared.tree.TheConstants.{MOST_ROOTS};
@@ -72,8 +75,8 @@ pub fn solve<R: Threads + Wait + Sync, D: Disk + Send, G: Gate + Sync>(
         (account_of plan.now.account) plan.now.settings.pieces plan.now.settings.depth
         plan.now.settings.budget plan.now.settings.lease positions.now disk result.0
         written.text.items written.is_settled) }
-    ensures shows { IfOk result.1
-        (λ written. IsTrueAccount plan.now.account positions.now written.text.items) }
+    ensures shows { IfOk result.1 (λ written.
+        IsTrueAccount plan.now.account positions.now written.text.items written.is_settled) }
     ensures fault { IfErr result.1
         (λ r. r ≡ refusal.Journal journal.DiskFault → Rose (D.faults disk) (D.faults result.0)) }
     ensures refused { IsHonest D.TELLS →
@@ -103,6 +106,9 @@ fn run_session<R: Threads + Wait + Sync, D: Disk + Send, O: Oracle + Sync, G: Ga
     gate: &G,
 ) -> (Session<D>, Result<Written, RunRefusal>)
     requires tables { O.piece_limit oracle.now ≡ session.core.state.settings.pieces }
+    requires size { IsTableSize (O.piece_limit oracle.now) }
+    requires sound { (answer : Board → Option Answer)
+        × IsSoundTable draughts (O.piece_limit oracle.now) answer }
     requires depth { session.core.state.settings.depth ≤ MOST_DEPTH }
     requires idle { IsIdle session }
     requires stands { IsCoreOf session.line session.core }
@@ -110,8 +116,8 @@ fn run_session<R: Threads + Wait + Sync, D: Disk + Send, O: Oracle + Sync, G: Ga
     ensures worked { IfOk result.1 (λ written. HasWorked
         (account_of plan.now.account) plan.now.settings.lease session positions.now result.0
         written.text.items written.is_settled) }
-    ensures shows { IfOk result.1
-        (λ written. IsTrueAccount plan.now.account positions.now written.text.items) }
+    ensures shows { IfOk result.1 (λ written.
+        IsTrueAccount plan.now.account positions.now written.text.items written.is_settled) }
     ensures fault { IfErr result.1
         (λ r. r ≡ refusal.Journal journal.DiskFault → is_failed result.0.line ≡ true) }
     ensures refused { IfErr result.1 (IsWorkRefusal session positions.now) }

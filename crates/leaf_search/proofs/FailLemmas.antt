@@ -1,14 +1,14 @@
 -- When looking ahead shows no hold.
-use Rattle.std.proofs.Common.{◌≡◌, ◌⊎◌, inl, inr, ℕ, zero, suc, true, false, List, [], ◌∷◌, ◌++◌, Option, None, Some, refl, sym, ◌∙◌, subst}
+use Rattle.std.proofs.Common.{◌≡◌, ◌⊎◌, inl, inr, ℕ, zero, suc, true, false, List, [], ◌∷◌, ◌++◌, Option, None, Some, refl, sym, ◌∙◌, ap, subst}
 use Rattle.std.specs.Prelude.{All, Contains, IsSome, is_some}
-use Rattle.std.proofs.lemmas.List.Elements.{All-cons, All-weaker, All-contains, All-contains_itself, Contains-append_right}
+use Rattle.std.proofs.lemmas.List.Elements.{All-nil, All-cons, All-weaker, All-contains, All-contains_itself, Contains-append_cases, Contains-append_right}
 use Rattle.draughts_board.specs.declared.pieces.Side.{Side}
 use Rattle.draughts_board.specs.Board.{Board, IsLawful, other}
 use Rattle.draughts_board.specs.Rules.{IsLegal, AreLegalPaths, after}
 use Rattle.draughts_board.specs.Play.{successors_of}
 use Rattle.draughts_board.specs.Game.{CanForce, by_move, by_every_reply, Holds, ShowsHold, is_at_sight}
 use Rattle.draughts_board.specs.Draughts.{draughts}
-use Rattle.draughts_board.proofs.Members.{Contains-head, Contains-nil}
+use Rattle.draughts_board.proofs.Members.{Contains-head, Contains-nil, only_one}
 use Rattle.draughts_board.proofs.Truth.{not_both_sides, one_side, other-other}
 use Rattle.draughts_board.proofs.Successors.{path-to_successor, successor-of_path, lost_without_move, draughts_takes_turns}
 use Rattle.strategy_certificate.specs.declared.oracle.Answer.{Answer}
@@ -40,6 +40,18 @@ move_fails k d part mid p m chosen side entries fails path all shows =
     (All-cons (HasEntry mid.entries) p path (here part mid p chosen entries)
     (All-weaker (HasEntry part.entries) (HasEntry mid.entries) (HasEntry-more part mid (record { side = side; added = (p, chosen) ∷ []; entries = entries })) path all))
     (subst (λ s. ShowsHold draughts k s d (p ∷ path) (after p m)) (sym side) shows)
+
+-- what fails at once fails also where the position before it has just got its entry
+pub still_fails : (k : ℕ) (part mid : HoldList) (p : Board) (m : List ℕ) (chosen : Option (List ℕ)) → mid.side ≡ part.side → mid.entries ≡ part.entries ++ (p, chosen) ∷ []
+    → HoldFails k 0 part (after p m) → HoldFails k 0 mid (after p m)
+still_fails k part mid p m chosen side entries fails path all (inr sight) =
+    fails [] (All-nil (HasEntry part.entries)) (inr (sight.0, subst (λ s. Holds draughts s (after p m)) side sight.1))
+still_fails k part mid p m chosen side entries fails path all (inl on) =
+    let entry : HasEntry mid.entries (after p m) = All-contains (HasEntry mid.entries) path (after p m) all on in
+    elim (Contains-append_cases part.entries ((p, chosen) ∷ []) (after p m, entry.0) (subst (λ es. Contains es (after p m, entry.0)) entries entry.1)) [
+      | inl before ↦ fails (after p m ∷ []) (All-cons (HasEntry part.entries) (after p m) [] (entry.0, before) (All-nil (HasEntry part.entries))) (inl (Contains-head (after p m) []))
+      | inr itself ↦ not_both_sides p.to_move p.to_move refl (ap (λ (row : Board × Option (List ℕ)). row.0.to_move) (only_one (p, chosen) (after p m, entry.0) itself))
+    ]
 
 -- ---- at sight
 

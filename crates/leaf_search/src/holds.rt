@@ -13,6 +13,37 @@ use std::alloc::{AllocError, Global};
 use strategy_certificate::{HoldPart, Oracle, is_held};
 use swift_moves::{apply, has_move, legal_moves};
 
+/// Looking no ply ahead shows no hold of the position: it has no entry, and at sight it is not held.
+fn fails_at_once<O: Oracle>(p: &Position, oracle: &O, part: &HoldPart) -> bool
+    ensures { OnTrue result (HoldFails (O.piece_limit oracle.now) 0 part.now p.now) }
+{
+    if is_held(part, oracle, p) {
+        return false;
+    }
+    if oracle.answer(p).is_some() {
+        return true;
+    }
+    if is_mover(p, part.side()) {
+        return true;
+    }
+    has_move(p)
+}
+
+/// After one of these moves looking no ply ahead shows no hold.
+fn some_fails<O: Oracle>(p: &Position, moves: &[Move], oracle: &O, part: &HoldPart) -> bool
+    requires legal { All (IsLegal p.now) moves.now }
+    ensures { OnTrue result (Any (λ m. HoldFails (O.piece_limit oracle.now) 0 part.now
+        (after p.now m)) moves.now) }
+{
+    for m in moves {
+        let next = apply(p, m);
+        if fails_at_once(&next, oracle, part) {
+            return true;
+        }
+    }
+    false
+}
+
 /// Looks `depth` plies ahead for a strategy by which the part's side holds the position.
 ///
 /// A position that has an entry counts as held. The part grows by a whole strategy, or it is as it was.
@@ -51,6 +82,11 @@ pub(crate) fn find_hold<O: Oracle>(
     if mine {
         let held = try_moves(alloc, p, &moves, depth - 1, oracle, part)?;
         return Ok(held);
+    }
+    if depth == 1 {
+        if some_fails(p, moves.as_slice(), oracle, part) {
+            return Ok(false);
+        }
     }
     let mark = part.len();
     part.add(*p, None)?;
@@ -109,9 +145,14 @@ fn try_move<O: Oracle>(
     ensures held { IfOk result (λ found. MatchBool found (HasEntry part.new.entries p.now)
         (MoveFails (O.piece_limit oracle.now) depth part.old p.now m.now)) }
 {
+    let next = apply(p, m);
+    if depth == 0 {
+        if fails_at_once(&next, oracle, part) {
+            return Ok(false);
+        }
+    }
     let mark = part.len();
     part.add(*p, Some(*m))?;
-    let next = apply(p, m);
     let held = find_hold(alloc, &next, depth, oracle, part)?;
     if held {
         return Ok(true);

@@ -4,6 +4,7 @@ ghost use Rattle.std.specs.Bool.{OnTrue, OnFalse};
 ghost use Rattle.draughts_board.specs.Board.{IsLawful, other};
 ghost use Rattle.draughts_board.specs.Draughts.{draughts};
 ghost use Rattle.draughts_board.specs.Rules.{IsLegal, after};
+ghost use Rattle.strategy_certificate.specs.Parts.{HasEntry};
 ghost use Rattle.strategy_certificate.specs.Tables.{IsSoundTable};
 ghost use Rattle.strategy_certificate.specs.Certificates.{IsReached, IsReachedBelow, HasDueMove, due_positions};
 ghost use Rattle.leaf_search.specs.Wins.{WinFails, IsLowFor, IsSteady, KeepsWins, Finds, FindsAll};
@@ -18,6 +19,23 @@ use swift_moves::{apply, has_move, legal_moves};
 /// A part with this number of entries grows no further, so that ranks stay small. None is ever that long.
 const MOST_ENTRIES: usize = 1 << 32;
 
+/// The rank of the position's entry; none exactly where it has none.
+fn entered_rank<O: Oracle>(part: &WinPart, oracle: &O, p: &Position) -> Option<u64>
+    requires { IsSteady (O.answer_at oracle.now) part.now }
+    ensures { MatchOption result
+        (HasEntry part.now.entries p.now → ⊥)
+        (λ r. IsReached part.now (O.answer_at oracle.now) r p.now
+        × IsLowFor (length part.now.entries) r) }
+{
+    if part.is_empty() {
+        return None;
+    }
+    match part.find(p) {
+        Some(entry) => Some(entry.rank),
+        None => None,
+    }
+}
+
 /// The rank at which the part or the table shows the win of a position.
 fn shown_rank<O: Oracle>(part: &WinPart, oracle: &O, p: &Position) -> Option<u64>
     requires { IsSteady (O.answer_at oracle.now) part.now }
@@ -26,8 +44,8 @@ fn shown_rank<O: Oracle>(part: &WinPart, oracle: &O, p: &Position) -> Option<u64
         (λ r. IsReached part.now (O.answer_at oracle.now) r p.now
         × IsLowFor (length part.now.entries) r) }
 {
-    match part.find(p) {
-        Some(entry) => Some(entry.rank),
+    match entered_rank(part, oracle, p) {
+        Some(rank) => Some(rank),
         None => table_rank(oracle, part.side(), p),
     }
 }
@@ -77,11 +95,11 @@ pub(crate) fn find_win<O: Oracle>(
         ((part.new ≡ part.old) × WinFails (O.piece_limit oracle.now) part.old.side depth p.now)
         (λ rank. Finds (O.answer_at oracle.now) part.old part.new p.now rank)) }
 {
-    if let Some(rank) = shown_rank(part, oracle, p) {
-        return Ok(Some(rank));
-    }
     if oracle.answer(p).is_some() {
-        return Ok(None);
+        return Ok(shown_rank(part, oracle, p));
+    }
+    if let Some(rank) = entered_rank(part, oracle, p) {
+        return Ok(Some(rank));
     }
     if memo.knows_no_win(part.side(), p, depth) {
         return Ok(None);

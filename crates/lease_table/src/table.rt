@@ -54,7 +54,7 @@ impl Model for Leases {
 }
 
 impl Leases {
-    ghost use Rattle.std.specs.Prelude.{◌++◌, ◌∷◌, [], ◌↔◌, true, false, length, count_by, None, OnOk, OnErr, IsErr, IfErr};
+    ghost use Rattle.std.specs.Prelude.{◌++◌, ◌∷◌, [], ◌↔◌, true, false, length, count_by, Some, None, IfSome, IfNone, OnSome, OnOk, OnErr, IsErr, IfErr};
     ghost use Rattle.std.specs.Option.{option_map};
     ghost use Rattle.lease_table.specs.Rows.{is_live, is_kept, is_leased, is_live_row, first_waiting, live_rows, row_with, without, without_node, marked};
 
@@ -123,6 +123,22 @@ impl Leases {
             Some(row) => row.kept,
             None => false,
         }
+    }
+
+    /// The lease of this number, if it lives at the number `now` and is not kept. It is looked up once.
+    pub fn waiting(&self, id: LeaseId, now: u128) -> Option<Lease>
+        ensures lease { IfSome result (λ lease.
+            option_map (λ row. row.lease) (row_with id self.now.rows) ≡ Some lease) }
+        ensures waits { OnSome result
+            ((is_live self.now id now ≡ true) × (is_kept self.now id ≡ false)) }
+        ensures none { IfNone result
+            ((is_live self.now id now ≡ false) ⊎ (is_kept self.now id ≡ true)) }
+    {
+        let row = self.numbered(id.number())?;
+        if row.kept || !row.is_live(self.limit, now) {
+            return None;
+        }
+        Some(row.lease)
     }
 
     /// Whether a lease of this node lives at this number.
@@ -281,9 +297,13 @@ fn put(rows: &mut IndexMap<u128, Option<Row>>, number: u128, row: Option<Row>)
     ensures unique { IsDistinct eqb (keys_of rows.new.entries) }
     ensures room { spare rows.old ≤ spare rows.new + 1 }
 {
-    let Ok(_) = rows.insert(number, row) else {
+    let Some(place) = rows.get_index_of(&number) else {
         unreachable!()
     };
+    let Some(slot) = rows.get_index_mut(place) else {
+        unreachable!()
+    };
+    *slot = row;
 }
 
 /// Makes room for two more, of which the first is under a number that no row has. Places of leases that ended may be freed

@@ -204,12 +204,12 @@ module _ {D : Type 0} (g : Ghosts D) where
   pub counts_answer : {X : Type 0} (seed count : ℕ) (positions seen : List Board) (old new : D) (answer : Result X Refusal) (text : X → List ℕ) (settled : X → Bool)
       → positions ≡ openings_from seed count → seen ≡ positions
       → (IsHonest g.TELLS → IfOk answer (λ x. Resumes g (λ roots. summary_line (forest_roots roots)) GENERATE_PIECES GENERATE_DEPTH count GENERATE_LEASE seen old new (text x) (settled x)))
-      → IfOk answer (λ x. CountsRoots seen (text x))
+      → IfOk answer (λ x. CountsRoots seen (text x) (settled x))
       → IfOk answer (λ x. AnswersBytes g (Generate seed count) [] old new (text x) (settled x))
   counts_answer seed count positions seen old new (Ok x) text settled is same resumes counts =
       let all : seen ≡ openings_from seed count = same ∙ is in
       record {
-        answers = subst (λ (ps : List Board). CountsRoots ps (text x)) all counts;
+        answers = subst (λ (ps : List Board). CountsRoots ps (text x) (settled x)) all counts;
         shows = λ honest. subst (λ (ps : List Board). Resumes g (λ roots. summary_line (forest_roots roots)) GENERATE_PIECES GENERATE_DEPTH count GENERATE_LEASE ps old new (text x) (settled x)) all (resumes honest);
       }
   counts_answer seed count positions seen old new (Err e) text settled is same resumes counts = tt

@@ -1,5 +1,5 @@
 -- What a run on a journal, and a look at one, answer and refuse.
-use Rattle.std.proofs.Common.{◌≡◌, ℕ, ◌<◌, ◌^◌, true, List, length, refl, sym, ◌∙◌, ap, subst, arith, lit<}
+use Rattle.std.proofs.Common.{◌≡◌, ℕ, ◌<◌, ◌^◌, true, Bool, List, length, refl, sym, ◌∙◌, ap, subst, arith, lit<}
 use Rattle.std.proofs.lemmas.Bool.{false≢true}
 use Rattle.std.specs.Prelude.{IfErr, Result, Ok, Err}
 use Rattle.bench_disk.specs.declared.disk.Disk.{Ghosts}
@@ -30,8 +30,8 @@ use Rattle.opening_bench.specs.Solving.{roots_of_openings}
 use Rattle.opening_bench.specs.Steps.{AcceptsBytes, AreRootsIn, SaysTrue, says_nothing_of_bytes}
 
 -- the report of a look at a journal says what is true
-pub true_report_says : (text : List ℕ) → IsTrueReport text → SaysTrue text
-true_report_says text p front back whole =
+pub true_report_says : (text : List ℕ) (settled : Bool) → IsTrueReport text settled → SaysTrue text
+true_report_says text settled p front back whole =
     let k : 65538 < 2 ^ 64 = lit< tt in
     let few = p.few in
     report-is_true p.roots front back (omega (arith, few, k)) p.values (sym p.text_is ∙ whole)

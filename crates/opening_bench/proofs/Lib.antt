@@ -14,3 +14,4 @@ pub mod NewJournalLemmas
 pub mod RunLemmas
 pub mod WordsLemmas
 pub mod ReachedLemmas
+pub mod OnceLemmas

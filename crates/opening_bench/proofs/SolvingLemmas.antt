@@ -30,8 +30,10 @@ use Rattle.tree_manager.proofs.ExactLemmas.{files_read_as_one_list}
 use Rattle.opening_report.specs.Conversions.{of_pdn, of_openings}
 use Rattle.opening_report.specs.declared.refusals.Refusal.TheVariants as refusal
 use Rattle.opening_report.specs.declared.roots.Root.{Root}
-use Rattle.opening_report.specs.Report.{report_of, StandsOnce}
-use Rattle.opening_report.proofs.ReportLemmas.{report-is_true, roots_stand_once}
+use Rattle.opening_report.specs.Report.{report_of}
+use Rattle.opening_report.proofs.ReportLemmas.{report-is_true}
+use Rattle.opening_bench.proofs.OnceLemmas.{roots_stand_in_one_line}
+use Rattle.opening_bench.specs.Lines.{StandsInOneLine}
 use Rattle.opening_bench.specs.Accepted.{Accepts, HasAmpleBudget, HasRoom, IsUnrefused}
 use Rattle.opening_bench.specs.declared.commands.generate.TheConstants.{GENERATE_DEPTH, GENERATE_LEASE, GENERATE_PIECES}
 use Rattle.opening_bench.specs.declared.commands.solve.TheConstants.{GAMES_LIMIT}
@@ -82,22 +84,22 @@ openings_only openings (opening.Memory error) h = refl
 few_lines : (roots : List Root) → length roots ≤ 65536 → 1 + length roots < 2 ^ 64
 few_lines roots few = let k : 65538 < 2 ^ 64 = lit< tt in omega (arith, few, k)
 
-pub report_says : (positions : List Board) (text : List ℕ) → ReportsTruth positions text → SaysTrue text
-report_says positions text p front back whole = report-is_true p.roots front back (few_lines p.roots p.few) p.true_values (sym p.text_is ∙ whole)
+pub report_says : (positions : List Board) (text : List ℕ) (settled : Bool) → ReportsTruth positions text settled → SaysTrue text
+report_says positions text settled p front back whole = report-is_true p.roots front back (few_lines p.roots p.few) p.true_values (sym p.text_is ∙ whole)
 
-once_each : (options : Options) (source text : List ℕ) → IsReportOn options source text
-    → (all : List Opening) → OpeningsOf options.plies source all → (o : Opening) → Contains all o → StandsOnce text o.position
-once_each options source text p all reads o h =
+once_each : (options : Options) (source text : List ℕ) (settled : Bool) → IsReportOn options source text settled
+    → (all : List Opening) → OpeningsOf options.plies source all → (o : Opening) → Contains all o → StandsInOneLine text o.position
+once_each options source text settled p all reads o h =
     let report = p.reported in
     let here = subst (λ l. Contains l o) (one_list_of options.plies source all p.openings reads p.read) h in
     let at = report.each o.position (opening_root p.openings o here) in
-    subst (λ t. StandsOnce t o.position) (sym report.text_is)
-    (subst (StandsOnce (report_of report.roots)) at.1.1 (roots_stand_once report.roots at.0 (few_lines report.roots report.few) report.true_values report.apart at.1.0))
+    subst (λ t. StandsInOneLine t o.position) (sym report.text_is)
+    (subst (StandsInOneLine (report_of report.roots)) at.1.1 (roots_stand_in_one_line report.roots at.0 (few_lines report.roots report.few) report.true_values report.apart at.1.0))
 
 -- the same of what a run writes, if it does
-pub run_says : {X E : Type 0} (positions : List Board) (r : Result X E) (text : X → List ℕ) → IfOk r (λ x. ReportsTruth positions (text x)) → IfOk r (λ x. SaysTrue (text x))
-run_says positions (Ok x) text h = report_says positions (text x) h
-run_says positions (Err e) text h = tt
+pub run_says : {X E : Type 0} (positions : List Board) (r : Result X E) (text : X → List ℕ) (settled : X → Bool) → IfOk r (λ x. ReportsTruth positions (text x) (settled x)) → IfOk r (λ x. SaysTrue (text x))
+run_says positions (Ok x) text settled h = report_says positions (text x) (settled x) h
+run_says positions (Err e) text settled h = tt
 
 -- ---- the openings of the source of a run
 
@@ -152,16 +154,16 @@ module _ {D : Type 0} (g : Ghosts D) where
 
 -- ---- each opening's position once
 
-of_source : (options : Options) (source : Option (List ℕ)) (input text : List ℕ) → IfSome source (λ told. input ≡ told) → IsReportOn options input text
-    → IfSome source (λ told. (openings : List Opening) → OpeningsOf options.plies told openings → (opening : Opening) → Contains openings opening → StandsOnce text opening.position)
-of_source options None input text same p = tt
-of_source options (Some told) input text same p = λ all reads. once_each options input text p all (subst (λ t. OpeningsOf options.plies t all) (sym same) reads)
+of_source : (options : Options) (source : Option (List ℕ)) (input text : List ℕ) (settled : Bool) → IfSome source (λ told. input ≡ told) → IsReportOn options input text settled
+    → IfSome source (λ told. (openings : List Opening) → OpeningsOf options.plies told openings → (opening : Opening) → Contains openings opening → StandsInOneLine text opening.position)
+of_source options None input text settled same p = tt
+of_source options (Some told) input text settled same p = λ all reads. once_each options input text settled p all (subst (λ t. OpeningsOf options.plies t all) (sym same) reads)
 
 answers_hold : (command : Command) (source : Option (List ℕ)) (input text : List ℕ) (settled : Bool) → IsInput (source_limit command) source input → Answers command input text settled → HoldsOpenings command source text
 answers_hold (Solve options) source input text settled is_input answers = λ other said.
     let same : options ≡ other = cc in
-    subst (λ (o : Options). IfSome source (λ told. (openings : List Opening) → OpeningsOf o.plies told openings → (opening : Opening) → Contains openings opening → StandsOnce text opening.position))
-    same (of_source options source input text (is_input.same refl) answers)
+    subst (λ (o : Options). IfSome source (λ told. (openings : List Opening) → OpeningsOf o.plies told openings → (opening : Opening) → Contains openings opening → StandsInOneLine text opening.position))
+    same (of_source options source input text settled (is_input.same refl) answers)
 answers_hold Report source input text settled is_input answers = λ options said. absurd cc
 answers_hold (Certify root) source input text settled is_input answers = λ options said. absurd cc
 answers_hold Verify source input text settled is_input answers = λ options said. absurd cc

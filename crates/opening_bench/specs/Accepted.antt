@@ -3,7 +3,7 @@ use Rattle.std.specs.Prelude.{◌≡◌, ◌≢◌, ℕ, ◌≤◌, List, length
 use Rattle.bench_disk.specs.declared.disk.Disk.{Ghosts}
 use Rattle.draughts_board.specs.Board.{Board}
 use Rattle.bench_edges.specs.declared.status.Status.{Status}
-use Rattle.bench_edges.specs.declared.status.Status.TheVariants.{Input, Disk, Journal, Memory}
+use Rattle.bench_edges.specs.declared.status.Status.TheVariants.{Done, Unsolved, Words, Input, Disk, Journal, Memory, Read, Write}
 use Rattle.bench_edges.specs.declared.words.Command.{Command}
 use Rattle.bench_edges.specs.declared.words.Command.TheVariants.{Solve, Report, Certify, Verify, MakeTable, TableCheck, Generate}
 use Rattle.bench_disk.specs.Disk.{IsHonest}
@@ -73,12 +73,17 @@ pub record HasRoomToSearch {D : Type 0} (g : Ghosts D)
   pub read : ReadsRecords pieces (g.reads disk) records
   pub room : IsRoomForEach pieces budget lease positions records
 
--- The journal has room for the roots of the source's openings.
+-- The journal has room for the roots of the source's openings. No other command reads roots of its source.
 abbrev pub HasRoomFor : {D : Type 0} → Ghosts D → Command → List ℕ → D → Type 0
 HasRoomFor g (Solve options) bytes disk =
     (openings : List Opening) → OpeningsOf options.plies bytes openings
     → HasRoom g options.pieces (roots_of_openings openings) disk
-HasRoomFor g command bytes disk = Unit {0}
+HasRoomFor g Report bytes disk = Unit {0}
+HasRoomFor g (Certify root) bytes disk = Unit {0}
+HasRoomFor g Verify bytes disk = Unit {0}
+HasRoomFor g (MakeTable pieces) bytes disk = Unit {0}
+HasRoomFor g TableCheck bytes disk = Unit {0}
+HasRoomFor g (Generate seed count) bytes disk = Unit {0}
 
 -- A source of the right length that is good for the command, and a journal that has room for it, are
 -- not refused.
@@ -94,25 +99,47 @@ Accepts g command source disk status =
 -- For a command that reads no source the disk has what it asks of it: a journal to report, a root
 -- with a value to certify, or room for the openings that a seed gives. A table asks nothing.
 abbrev pub HasAsked : {D : Type 0} → Ghosts D → Command → D → Type 0
+HasAsked g (Solve options) disk = ⊥
 HasAsked g Report disk =
     IsHonest g.TELLS × ((pieces : ℕ) × ((records : List BenchRecord)
     × ReadsRecords pieces (g.reads disk) records))
 HasAsked g (Certify root) disk = IsHonest g.TELLS × HasSettledRoot (g.reads disk) root
+HasAsked g Verify disk = ⊥
 HasAsked g (MakeTable pieces) disk = Unit {0}
+HasAsked g TableCheck disk = ⊥
 HasAsked g (Generate seed count) disk =
     HasRoom g GENERATE_PIECES (openings_from seed count) disk
-HasAsked g command disk = ⊥
 
 -- a cause for which a look at a disk that reads as this file is refused
 abbrev pub HasLookCause : Command → List ℕ → LookRefusal → Type 0
+HasLookCause (Solve options) file cause = ⊥
 HasLookCause Report file cause = HasNoReport file cause
 HasLookCause (Certify root) file cause = HasNoCertificate file root cause
-HasLookCause command file cause = ⊥
+HasLookCause Verify file cause = ⊥
+HasLookCause (MakeTable pieces) file cause = ⊥
+HasLookCause TableCheck file cause = ⊥
+HasLookCause (Generate seed count) file cause = ⊥
 
--- The run is refused so: its status is that of the refusal, and the sink took its line. Or else the
--- disk failed, or memory ran out.
-abbrev pub IsRefusedFor : Refusal → Option (List ℕ) → Option (List ℕ) → ℕ → ℕ → Status → Type 0
-IsRefusedFor r before after faults_before faults_after Disk = Unit {0}
-IsRefusedFor r before after faults_before faults_after Memory = Unit {0}
-IsRefusedFor r before after faults_before faults_after status =
+-- The run is refused so: its status is that of the refusal, and the sink took its line.
+abbrev pub IsRefusedAs : Refusal → Option (List ℕ) → Option (List ℕ) → ℕ → ℕ → Status → Type 0
+IsRefusedAs r before after faults_before faults_after status =
     (status_of r ≡ status) × TakesLine (refusal_text r) before after faults_before faults_after
+
+-- .. or else the disk failed, or memory ran out
+abbrev pub IsRefusedFor : Refusal → Option (List ℕ) → Option (List ℕ) → ℕ → ℕ → Status → Type 0
+IsRefusedFor r before after faults_before faults_after Done =
+    IsRefusedAs r before after faults_before faults_after Done
+IsRefusedFor r before after faults_before faults_after Unsolved =
+    IsRefusedAs r before after faults_before faults_after Unsolved
+IsRefusedFor r before after faults_before faults_after Words =
+    IsRefusedAs r before after faults_before faults_after Words
+IsRefusedFor r before after faults_before faults_after Input =
+    IsRefusedAs r before after faults_before faults_after Input
+IsRefusedFor r before after faults_before faults_after Disk = Unit {0}
+IsRefusedFor r before after faults_before faults_after Journal =
+    IsRefusedAs r before after faults_before faults_after Journal
+IsRefusedFor r before after faults_before faults_after Memory = Unit {0}
+IsRefusedFor r before after faults_before faults_after Read =
+    IsRefusedAs r before after faults_before faults_after Read
+IsRefusedFor r before after faults_before faults_after Write =
+    IsRefusedAs r before after faults_before faults_after Write

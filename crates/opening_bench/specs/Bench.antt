@@ -15,13 +15,14 @@ use Rattle.opening_report.specs.declared.refusals.Refusal.{Refusal}
 use Rattle.opening_report.specs.declared.refusals.Refusal.TheVariants as refusal
 use Rattle.journal_runs.specs.Ample.{ShowsValue}
 use Rattle.opening_report.specs.Lines.{HasLine}
-use Rattle.opening_report.specs.Report.{StandsOnce, root_line}
+use Rattle.opening_report.specs.Report.{root_line}
 use Rattle.opening_report.specs.Refusals.{refusal_text}
 use Rattle.program_edges.specs.Answers.{TakesLine, TakesOutput}
 use Rattle.program_edges.specs.Sources.{IsCutShort, IsInput}
 use Rattle.program_edges.specs.Statuses.{status_of}
 use Rattle.opening_bench.specs.Commands.{source_limit, Answers, HasFault}
 use Rattle.opening_bench.specs.Disks.{ShowsDisk, HasDiskFault}
+use Rattle.opening_bench.specs.Lines.{StandsInOneLine}
 use Rattle.opening_bench.specs.Solving.{OpeningsOf}
 
 -- ---- statuses
@@ -30,33 +31,78 @@ use Rattle.opening_bench.specs.Solving.{OpeningsOf}
 abbrev pub Reports : Status → Type 0
 Reports Done = Unit {0}
 Reports Unsolved = Unit {0}
+Reports Words = ⊥
+Reports Input = ⊥
+Reports Disk = ⊥
+Reports Journal = ⊥
+Reports Memory = ⊥
+Reports Read = ⊥
 Reports Write = Unit {0}
-Reports status = ⊥
 
 -- the whole of it was written
 abbrev pub Finishes : Status → Type 0
 Finishes Done = Unit {0}
 Finishes Unsolved = Unit {0}
-Finishes status = ⊥
+Finishes Words = ⊥
+Finishes Input = ⊥
+Finishes Disk = ⊥
+Finishes Journal = ⊥
+Finishes Memory = ⊥
+Finishes Read = ⊥
+Finishes Write = ⊥
 
 -- the run was refused
 abbrev pub Refuses : Status → Type 0
+Refuses Done = ⊥
+Refuses Unsolved = ⊥
 Refuses Words = Unit {0}
 Refuses Input = Unit {0}
 Refuses Disk = Unit {0}
 Refuses Journal = Unit {0}
 Refuses Memory = Unit {0}
 Refuses Read = Unit {0}
-Refuses status = ⊥
+Refuses Write = ⊥
 
 -- the run came behind its source: to what it has to write, or to a refusal by the disk
 abbrev pub ComesToDisk : Status → Type 0
+ComesToDisk Done = Unit {0}
+ComesToDisk Unsolved = Unit {0}
+ComesToDisk Words = ⊥
+ComesToDisk Input = ⊥
 ComesToDisk Disk = Unit {0}
 ComesToDisk Journal = Unit {0}
-ComesToDisk status = Reports status
+ComesToDisk Memory = ⊥
+ComesToDisk Read = ⊥
+ComesToDisk Write = Unit {0}
 
 -- a refusal that comes before the disk is used: of the words, or of the source
 abbrev pub ComesBeforeDisk : Refusal → Type 0
+ComesBeforeDisk (refusal.Words at) = Unit {0}
+ComesBeforeDisk refusal.TooLong = Unit {0}
+ComesBeforeDisk (refusal.PdnBadByte at) = Unit {0}
+ComesBeforeDisk (refusal.PdnOpenTag at) = Unit {0}
+ComesBeforeDisk (refusal.PdnOpenComment at) = Unit {0}
+ComesBeforeDisk (refusal.PdnOpenVariation at) = Unit {0}
+ComesBeforeDisk (refusal.PdnBadMove at) = Unit {0}
+ComesBeforeDisk refusal.PdnTooManyGames = Unit {0}
+ComesBeforeDisk (refusal.OtherGame game) = Unit {0}
+ComesBeforeDisk (refusal.Fen game fault) = Unit {0}
+ComesBeforeDisk (refusal.Illegal game ply at) = Unit {0}
+ComesBeforeDisk (refusal.Ambiguous game ply at) = Unit {0}
+ComesBeforeDisk (refusal.TextBadLine n) = Unit {0}
+ComesBeforeDisk (refusal.TextBadFen n) = Unit {0}
+ComesBeforeDisk (refusal.TextDoubled n) = Unit {0}
+ComesBeforeDisk (refusal.TextAfterEnd n) = Unit {0}
+ComesBeforeDisk refusal.TextTruncated = Unit {0}
+ComesBeforeDisk refusal.ClaimNotMet = Unit {0}
+ComesBeforeDisk (refusal.BadRank part entry) = Unit {0}
+ComesBeforeDisk (refusal.BadMove part entry) = Unit {0}
+ComesBeforeDisk (refusal.Missing part entry) = Unit {0}
+ComesBeforeDisk (refusal.StuckHolder part entry) = Unit {0}
+ComesBeforeDisk (refusal.CheckNoRoot part) = Unit {0}
+ComesBeforeDisk refusal.TableBadHead = Unit {0}
+ComesBeforeDisk (refusal.TableWrongLength found due) = Unit {0}
+ComesBeforeDisk (refusal.TableBadEntry index kept) = Unit {0}
 ComesBeforeDisk refusal.TooManyRoots = ⊥
 ComesBeforeDisk (refusal.NoRoot n) = ⊥
 ComesBeforeDisk (refusal.UnsettledRoot n) = ⊥
@@ -65,7 +111,7 @@ ComesBeforeDisk refusal.NotAJournal = ⊥
 ComesBeforeDisk (refusal.OtherTable found asked) = ⊥
 ComesBeforeDisk (refusal.Damaged at) = ⊥
 ComesBeforeDisk refusal.Memory = ⊥
-ComesBeforeDisk other = Unit {0}
+ComesBeforeDisk refusal.Read = Unit {0}
 
 -- ---- what a sink takes
 
@@ -84,7 +130,7 @@ abbrev pub HoldsOpenings : Command → Option (List ℕ) → List ℕ → Type 0
 HoldsOpenings command source written =
     (options : Options) → command ≡ Solve options
     → IfSome source (λ text. (openings : List Opening) → OpeningsOf options.plies text openings
-    → (opening : Opening) → Contains openings opening → StandsOnce written opening.position)
+    → (opening : Opening) → Contains openings opening → StandsInOneLine written opening.position)
 
 -- Where looking so far ahead with tables of k pieces shows a value of a position, no whole line of the
 -- text says `root N F unsolved` of it.

@@ -31,16 +31,17 @@ source_limit (Generate seed count) = None
 abbrev pub IsCertificateText : List ℕ → Type 0
 IsCertificateText text = (c : Certificate) × (ReadsAs text c × IsGood c)
 
--- This text answers this source, whatever the disk tells. Where nothing can be unsettled, all is
--- settled.
+-- This text answers this source, whatever the disk tells, and all is settled, or (false) some root is
+-- not. Where nothing can be unsettled, all is settled.
 abbrev pub Answers : Command → List ℕ → List ℕ → Bool → Type 0
-Answers (Solve options) source text settled = IsReportOn options source text
-Answers Report source text settled = IsTrueReport text
+Answers (Solve options) source text settled = IsReportOn options source text settled
+Answers Report source text settled = IsTrueReport text settled
 Answers (Certify root) source text settled = IsCertificateText text × (settled ≡ true)
 Answers Verify source text settled = IsVerifiedOf source text × (settled ≡ true)
 Answers (MakeTable pieces) source text settled = AreTableBytes pieces text × (settled ≡ true)
 Answers TableCheck source text settled = IsSoundOf source text × (settled ≡ true)
-Answers (Generate seed count) source text settled = CountsRoots (openings_from seed count) text
+Answers (Generate seed count) source text settled =
+    CountsRoots (openings_from seed count) text settled
 
 -- nothing answers this source, for this fault
 abbrev pub HasFault : Command → List ℕ → Refusal → Type 0
@@ -55,5 +56,9 @@ HasFault (Generate seed count) source r = ⊥
 -- the command has workers search for values
 abbrev pub Searches : Command → Type 0
 Searches (Solve options) = Unit {0}
+Searches Report = ⊥
+Searches (Certify root) = ⊥
+Searches Verify = ⊥
+Searches (MakeTable pieces) = ⊥
+Searches TableCheck = ⊥
 Searches (Generate seed count) = Unit {0}
-Searches command = ⊥

@@ -2,8 +2,10 @@ pub mod Solving
 pub mod Verifying
 pub mod Tables
 pub mod Commands
+pub mod Lines
 pub mod Disks
 pub mod Bench
 pub mod Accepted
 pub mod Runs
 pub mod Steps
+pub mod Examples

@@ -1,5 +1,5 @@
 -- What `solve` makes of a text of games: its openings, the roots among them, and the report.
-use Rattle.std.specs.Prelude.{◌≡◌, ℕ, ◌⊎◌, List, map}
+use Rattle.std.specs.Prelude.{◌≡◌, ℕ, ◌⊎◌, Bool, List, map}
 use Rattle.draughts_board.specs.Board.{Board}
 use Rattle.draughts_board.specs.Rules.{first_places}
 use Rattle.bench_edges.specs.declared.words.Options.{Options}
@@ -30,12 +30,13 @@ roots_of_openings openings = first_places (opening_positions openings)
 
 -- ---- what is written
 
--- The text is a report of roots, each with no value but the true one. The positions of the source's
--- openings are among them, and no position is two of them.
-pub record IsReportOn (options : Options) (source text : List ℕ) : Type 0 where
+-- The text is a report of roots, each with no value but the true one; and every root has one, or (false)
+-- some root has none. The positions of the source's openings are among them, and no position is two of
+-- them.
+pub record IsReportOn (options : Options) (source text : List ℕ) (settled : Bool) : Type 0 where
   pub openings : List Opening
   pub read : OpeningsOf options.plies source openings
-  pub reported : ReportsTruth (roots_of_openings openings) text
+  pub reported : ReportsTruth (roots_of_openings openings) text settled
 
 -- ---- what is wrong
 

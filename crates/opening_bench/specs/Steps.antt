@@ -69,9 +69,41 @@ AcceptsBytes g command bytes disk r =
 
 -- the refusal says nothing of what the disk reads as: the disk failed, or memory ran out
 abbrev pub says_nothing_of_bytes : Refusal → Bool
+says_nothing_of_bytes (refusal.Words at) = false
+says_nothing_of_bytes refusal.TooLong = false
+says_nothing_of_bytes (refusal.PdnBadByte at) = false
+says_nothing_of_bytes (refusal.PdnOpenTag at) = false
+says_nothing_of_bytes (refusal.PdnOpenComment at) = false
+says_nothing_of_bytes (refusal.PdnOpenVariation at) = false
+says_nothing_of_bytes (refusal.PdnBadMove at) = false
+says_nothing_of_bytes refusal.PdnTooManyGames = false
+says_nothing_of_bytes (refusal.OtherGame game) = false
+says_nothing_of_bytes (refusal.Fen game fault) = false
+says_nothing_of_bytes (refusal.Illegal game ply at) = false
+says_nothing_of_bytes (refusal.Ambiguous game ply at) = false
+says_nothing_of_bytes (refusal.TextBadLine n) = false
+says_nothing_of_bytes (refusal.TextBadFen n) = false
+says_nothing_of_bytes (refusal.TextDoubled n) = false
+says_nothing_of_bytes (refusal.TextAfterEnd n) = false
+says_nothing_of_bytes refusal.TextTruncated = false
+says_nothing_of_bytes refusal.ClaimNotMet = false
+says_nothing_of_bytes (refusal.BadRank part entry) = false
+says_nothing_of_bytes (refusal.BadMove part entry) = false
+says_nothing_of_bytes (refusal.Missing part entry) = false
+says_nothing_of_bytes (refusal.StuckHolder part entry) = false
+says_nothing_of_bytes (refusal.CheckNoRoot part) = false
+says_nothing_of_bytes refusal.TableBadHead = false
+says_nothing_of_bytes (refusal.TableWrongLength found due) = false
+says_nothing_of_bytes (refusal.TableBadEntry index kept) = false
+says_nothing_of_bytes refusal.TooManyRoots = false
+says_nothing_of_bytes (refusal.NoRoot n) = false
+says_nothing_of_bytes (refusal.UnsettledRoot n) = false
 says_nothing_of_bytes refusal.Disk = true
+says_nothing_of_bytes refusal.NotAJournal = false
+says_nothing_of_bytes (refusal.OtherTable found asked) = false
+says_nothing_of_bytes (refusal.Damaged at) = false
 says_nothing_of_bytes refusal.Memory = true
-says_nothing_of_bytes other = false
+says_nothing_of_bytes refusal.Read = false
 
 -- a disk that has what the command asks of it is not refused for what it reads as
 abbrev pub AcceptsAsked : {D T : Type 0} → Ghosts D → Command → D → Result T Refusal

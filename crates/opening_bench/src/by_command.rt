@@ -1,4 +1,4 @@
-//! Whether workers search for a command, and how long its source may be.
+//! Of each command: whether workers search for it, what it does with its journal, and how long its source may be.
 ghost use Rattle.std.specs.Prelude.{◌≡◌, true, false};
 ghost use Rattle.opening_bench.specs.Commands.{Searches, source_limit};
 
@@ -33,4 +33,14 @@ pub(crate) fn source_limit(command: Command) -> Option<usize>
         Command::Report | Command::Certify(_) | Command::MakeTable(_) | Command::Generate { .. } =>
             None,
     }
+}
+
+/// The command writes to its journal.
+pub(crate) fn writes(command: Option<Command>) -> bool {
+    matches!(command, Some(Command::Solve(_) | Command::Generate { .. }))
+}
+
+/// The command looks at its journal, and writes nothing to it.
+pub(crate) fn looks(command: Option<Command>) -> bool {
+    matches!(command, Some(Command::Report | Command::Certify(_)))
 }

@@ -10,18 +10,18 @@ use std::thread::Threads;
 use worker_gate::{MeetGate, OpenGate};
 
 /// 23-19 blocks the last man of the first, and Black wins the second by 10-14.
-const TWO: &str = "[FEN \"W:W16,23:B12\"] * [FEN \"B:W21:B10,17\"] *";
+pub(crate) const TWO: &str = "[FEN \"W:W16,23:B12\"] * [FEN \"B:W21:B10,17\"] *";
 
 const BLOCKING_WON: &str = "root 1 W:W16,23:B12 white-wins\nroots 1 settled 1 unsolved 0\n";
 
 const HALF: &str = "root 1 W:W16,23:B12 white-wins\nroot 2 B:W21:B10,17 unsolved\n\
     roots 2 settled 1 unsolved 1\n";
 
-const WHOLE: &str = "root 1 W:W16,23:B12 white-wins\nroot 2 B:W21:B10,17 black-wins\n\
+pub(crate) const WHOLE: &str = "root 1 W:W16,23:B12 white-wins\nroot 2 B:W21:B10,17 black-wins\n\
     roots 2 settled 2 unsolved 0\n";
 
 /// A journal of one root, in which Black is blocked: a head, a frame, and a closed gate.
-const BLOCKED: &[u8] = &[
+const BLOCKED: [u8; 44] = [
     0x44, 0x52, 0x42, 0x45, 0x4e, 0x43, 0x48, 2, 1, 0, 0, 0, 0, 0, 0, 0, 26, 0, 0, 0, 22, 4, 0, 0,
     0, 0, 0, 0, 0, 8, 0, 0, 0, 0, 0, 0, 4, 0x80, 0, 0, 0, 0, 0, 0,
 ];
@@ -85,7 +85,7 @@ const SETTLED_AT_SIGHT: &[Run] = &[
         words: &["-", "solve"],
         source: "[FEN \"B:W16,19:B12\"] *",
         written: "root 1 B:W16,19:B12 white-wins\nroots 1 settled 1 unsolved 0\n",
-        leaves: Leaves::Bytes(BLOCKED),
+        leaves: Leaves::Bytes(&BLOCKED),
         ..RUN
     },
     Run {
@@ -140,6 +140,7 @@ const WON_BY_SEARCH: &[Run] = &[Run {
     words: &["-", "solve", "--depth", "1"],
     source: "[FEN \"W:W16,23:B12\"] *",
     written: BLOCKING_WON,
+    leaves: Leaves::Bytes(SOLVED),
     ..RUN
 }];
 
@@ -224,13 +225,6 @@ fn a_journal_of_before_is_gone_on_with(rt: HostRuntime) -> Result<(), Fail> {
     Ok(())
 }
 
-/// A frame that is whole, and no gate behind it.
-const WITHOUT_END: &[Run] = &[Run {
-    status: Status::Journal,
-    written: "refused journal damaged byte 39\n",
-    ..REPORT
-}];
-
 /// A payload that is no record.
 const NO_RECORD: &[Run] = &[Run {
     status: Status::Journal,
@@ -238,33 +232,137 @@ const NO_RECORD: &[Run] = &[Run {
     ..REPORT
 }];
 
-/// The fronts of a journal, by their lengths, and what is due of each.
-const FRONTS: [(usize, usize, &[Run]); 4] = [
-    (0, 9, EMPTY),
-    (10, 38, DAMAGED),
-    (39, 39, WITHOUT_END),
-    (40, 40, &[REPORT_OF_BLOCKED]),
+/// A frame that is whole, and no gate behind it, at 39 and at 43.
+const WITHOUT_END_BEFORE: &[Run] = &[Run {
+    status: Status::Journal,
+    written: "refused journal damaged byte 39\n",
+    ..REPORT
+}];
+
+const WITHOUT_END: &[Run] = &[Run {
+    status: Status::Journal,
+    written: "refused journal damaged byte 43\n",
+    ..REPORT
+}];
+
+/// Journals, and of the fronts of each what is due by their lengths.
+const FRONTS: [(&[u8], usize, usize, &[Run]); 8] = [
+    (&BLOCKED_BEFORE, 0, 9, EMPTY),
+    (&BLOCKED_BEFORE, 10, 38, DAMAGED),
+    (&BLOCKED_BEFORE, 39, 39, WITHOUT_END_BEFORE),
+    (&BLOCKED_BEFORE, 40, 40, &[REPORT_OF_BLOCKED]),
+    (&BLOCKED, 0, 9, EMPTY),
+    (&BLOCKED, 10, 42, DAMAGED),
+    (&BLOCKED, 43, 43, WITHOUT_END),
+    (&BLOCKED, 44, 44, &[REPORT_OF_BLOCKED]),
 ];
 
 #[test]
-fn fronts_of_a_journal_of_before(rt: HostRuntime) -> Result<(), Fail> {
-    for (first, last, due) in FRONTS {
+fn fronts_of_a_journal(rt: HostRuntime) -> Result<(), Fail> {
+    for (journal, first, last, due) in FRONTS {
         for count in first..=last {
-            let front = BLOCKED_BEFORE.get(..count).unwrap_or(&[]);
+            let front = journal.get(..count).unwrap_or(&[]);
             expect_runs(&rt, rt.alloc(), front, due)?;
         }
     }
     Ok(())
 }
 
+/// A journal, a place in it, and a byte that may not stand there: a kind that is none, a side that is none, and the number of a
+/// position that has none yet.
+const BAD_FIELDS: [(&[u8], usize, u8); 5] = [
+    (&BLOCKED_BEFORE, 21, 9),
+    (&BLOCKED_BEFORE, 22, 2),
+    (&BLOCKED, 21, 9),
+    (&BLOCKED, 22, 2),
+    (&BLOCKED, 26, 2),
+];
+
 #[test]
-fn records_of_before_with_a_bad_field(rt: HostRuntime) -> Result<(), Fail> {
-    let mut another_kind = BLOCKED_BEFORE;
-    another_kind[21] = 9;
-    expect_runs(&rt, rt.alloc(), &another_kind, NO_RECORD)?;
-    let mut another_side = BLOCKED_BEFORE;
-    another_side[22] = 2;
-    expect_runs(&rt, rt.alloc(), &another_side, NO_RECORD)?;
+fn records_with_a_bad_field(rt: HostRuntime) -> Result<(), Fail> {
+    for (journal, at, byte) in BAD_FIELDS {
+        let bytes = altered(rt.alloc(), journal, at, byte)?;
+        expect_runs(&rt, rt.alloc(), &bytes, NO_RECORD)?;
+    }
+    Ok(())
+}
+
+/// These bytes with another byte at a place.
+fn altered(alloc: Global, bytes: &[u8], at: usize, byte: u8) -> Result<Vec<u8>, Fail> {
+    let mut altered = bytes.to_vec(alloc)?;
+    match altered.get_mut(at) {
+        Some(found) => *found = byte,
+        None => return Err(Fail::from("no byte stands there")),
+    }
+    Ok(altered)
+}
+
+/// That 23-19 wins W:W16,23:B12, behind a frame that begins that root: records of version 1 and as they are now. The certificate's
+/// payload stands at 48 and at 52, and 19, the last square of its move, at 111 and at 119.
+const SOLVED_BEFORE: &[u8] = &[
+    0x44, 0x52, 0x42, 0x45, 0x4e, 0x43, 0x48, 2, // the head
+    1, 0, 0, 0, 0, 0, 0, 0, 22, // a gate, and the length of its frame
+    0, 0, 0, 18, 1, 1, 0, 0, 8, 0, 0, 0, 0, 0, 0, 0x40, 0x80, 0, 0, 0, 0, 0, // W:W16,23:B12
+    1, 0, 0, 0, 0, 0, 0, 0, 90, // a gate, and the length of its frame
+    0, 0, 0, 86, 2, 0, 0, 0, 0, 0, 0, 0, 0, // the first node is solved
+    1, 0, 0, 8, 0, 0, 0, 0, 0, 0, 0x40, 0x80, 0, 0, 0, 0, 0, // it has this position
+    1, 2, 0, 0, 0, 2, // one certificate: White wins, by two entries
+    1, 0, 0, 8, 0, 0, 0, 0, 0, 0, 0x40, 0x80, 0, 0, 0, 0, 0, // W:W16,23:B12
+    0, 0, 0, 0, 0, 0, 0, 1, 2, 23, 19, // in one ply, by 23-19
+    0, 0, 0, 8, 0, 0, 0, 0, 0, 0, 4, 0x80, 0, 0, 0, 0, 0, // B:W16,19:B12
+    0, 0, 0, 0, 0, 0, 0, 0, 0, // at once, without a move
+    0, // a closed gate
+];
+
+const SOLVED: &[u8] = &[
+    0x44, 0x52, 0x42, 0x45, 0x4e, 0x43, 0x48, 2, // the head
+    1, 0, 0, 0, 0, 0, 0, 0, 26, // a gate, and the length of its frame
+    0, 0, 0, 22, 4, 0, 0, 0, 0, // a root begins, at a position that gets the number 0
+    1, 0, 0, 8, 0, 0, 0, 0, 0, 0, 0x40, 0x80, 0, 0, 0, 0, 0, // W:W16,23:B12
+    1, 0, 0, 0, 0, 0, 0, 0, 68, // a gate, and the length of its frame
+    0, 0, 0, 64, 5, 0, 0, 0, 0, 0, 0, 0, 0, // the first node is solved
+    0, 0, 0, 0, // it has the position of this number
+    1, 2, 0, 0, 0, 2, // one certificate: White wins, by two entries
+    0, 0, 0, 1, // the position that gets the number 1
+    0, 0, 0, 8, 0, 0, 0, 0, 0, 0, 4, 0x80, 0, 0, 0, 0, 0, // B:W16,19:B12
+    0, 0, 0, 0, 0, 0, 0, 0, 0, // at once, without a move
+    0, 0, 0, 0, 0, 0, 0, 0, 0, 0, 0, 1, 2, 23, 19, // the position 0, in one ply, by 23-19
+    0, // a closed gate
+];
+
+/// The report of the root that 23-19 wins.
+const REPORT_OF_SOLVED: &[Run] = &[Run {
+    written: BLOCKING_WON,
+    ..REPORT
+}];
+
+/// A certificate in the journal is false.
+const FALSE_BEFORE: &[Run] = &[Run {
+    status: Status::Journal,
+    written: "refused journal damaged byte 48\n",
+    ..REPORT
+}];
+
+const FALSE: &[Run] = &[Run {
+    status: Status::Journal,
+    written: "refused journal damaged byte 52\n",
+    ..REPORT
+}];
+
+/// A journal with a certificate, the place of the square to which its move leads, and what is due if the move leads to another
+/// square, to which the man may go too.
+const CERTIFICATES: [(&[u8], usize, &[Run]); 2] = [
+    (SOLVED_BEFORE, 111, FALSE_BEFORE),
+    (SOLVED, 119, FALSE),
+];
+
+#[test]
+fn a_certificate_of_the_journal_is_false(rt: HostRuntime) -> Result<(), Fail> {
+    for (journal, at, due) in CERTIFICATES {
+        expect_runs(&rt, rt.alloc(), journal, REPORT_OF_SOLVED)?;
+        let bytes = altered(rt.alloc(), journal, at, 18)?;
+        expect_runs(&rt, rt.alloc(), &bytes, due)?;
+    }
     Ok(())
 }
 

@@ -18,12 +18,16 @@ mod certificate_tests;
 mod clearing_sink;
 mod commands;
 mod deeper;
-mod disk_texts;
 mod ended;
+pub mod examples;
+#[cfg(test)]
+mod failing_tests;
 #[cfg(test)]
 mod handing_back_tests;
 #[cfg(test)]
 mod journal_tests;
+#[cfg(test)]
+mod limit_tests;
 mod odd_journals;
 mod progress;
 mod progress_lines;
@@ -47,8 +51,8 @@ mod usage;
 
 use bench_disk::{Access, FileDisk};
 use bench_edges::{Command, StdSink, StdSource, read_words};
+use by_command::{looks, writes};
 use clearing_sink::ClearingSink;
-use disk_texts::{looks, writes};
 pub use ended::Ended;
 use program_edges::{KeepingSink, KeepingSource, PathDisk, Standards, args, print, told, words_of};
 use progress::ProgressGate;

@@ -16,15 +16,15 @@ use worker_gate::{Gate, OpenGate};
 /// What the objects of a run do: the numbers, from 0 on, of the reads, the writes and the calls of
 /// the disk that fail, and whether each read and each write moves one byte at most.
 #[derive(Clone, Copy)]
-pub(crate) struct Faults {
-    pub(crate) reads: &'static [u64],
-    pub(crate) writes: &'static [u64],
-    pub(crate) disk: &'static [u64],
+pub(crate) struct Faults<'a> {
+    pub(crate) reads: &'a [u64],
+    pub(crate) writes: &'a [u64],
+    pub(crate) disk: &'a [u64],
     pub(crate) is_slow: bool,
 }
 
 /// Nothing fails, and reads and writes move all they may.
-pub(crate) const NO_FAULTS: Faults = Faults {
+pub(crate) const NO_FAULTS: Faults<'static> = Faults {
     reads: &[],
     writes: &[],
     disk: &[],
@@ -49,7 +49,7 @@ pub(crate) enum Leaves {
 pub(crate) struct Run {
     pub(crate) words: &'static [&'static str],
     pub(crate) source: &'static str,
-    pub(crate) faults: Faults,
+    pub(crate) faults: Faults<'static>,
     pub(crate) status: Status,
     pub(crate) written: &'static str,
     /// How many bytes of the source are not read.
@@ -86,7 +86,7 @@ pub(crate) fn run_bench<R: Threads + Wait + Sync, G: Gate + Sync>(
     words: &[&str],
     source: &[u8],
     disk: &[u8],
-    faults: Faults,
+    faults: Faults<'_>,
     gate: &G,
 ) -> Result<Seen, Fail> {
     let mut source = MemorySource::new(source.to_vec(alloc)?, faults.reads.to_vec(alloc)?);

@@ -1,14 +1,13 @@
 //! What a person at a terminal is told on standard error, behind what the run itself wrote.
 use crate::NO_PATH;
 use crate::deeper::deeper_text;
-use crate::disk_texts::{failed_text, missing_text, other_run_text};
 use crate::ended::Ended;
 use crate::odd_journals::journal_text;
 use bench_disk::FileDisk;
 use bench_edges::{Command, MOST_PLIES, Options, Status};
 use opening_report::Refusal;
 use program_edges::{PathDisk, tell};
-use refusal_hints::hint;
+use refusal_hints::{failed_text, hint, missing_text, other_run_text};
 use source_warnings::warnings_text;
 use std::alloc::{AllocError, Global};
 use std::io::{ErrorKind, IsTerminal};

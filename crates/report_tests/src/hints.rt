@@ -2,8 +2,9 @@
 use draughts_board::{Position, Square};
 use fen_text::FenRefusal;
 use opening_report::Refusal;
-use refusal_hints::{hint, legal_moves_text};
+use refusal_hints::{failed_text, hint, legal_moves_text, missing_text, other_run_text};
 use std::alloc::{AllocError, Global};
+use std::io::ErrorKind;
 use std::process::Abort;
 use std::test::Fail;
 
@@ -464,4 +465,43 @@ const JOURNALS: [Case; 3] = [
 #[test]
 fn journals_and_limits(rt: HostRuntime) -> Result<(), Fail> {
     expect(&rt, rt.alloc(), &JOURNALS)
+}
+
+/// The three texts on the file of a journal: on one that has no room, on one that is missing, and on
+/// one that another run has open. A cause of which nothing is known has none.
+fn told_of_files(alloc: Global) -> Result<[Vec<u8>; 3], AllocError> {
+    let failed = failed_text(alloc, "games/journal", Some(ErrorKind::StorageFull))?;
+    let unknown = failed_text(alloc, "games/journal", Some(ErrorKind::TimedOut))?;
+    let told = match (failed, unknown) {
+        (Some(told), None) => told,
+        _ => Vec::new(alloc),
+    };
+    Ok([
+        told,
+        missing_text(alloc, "a`\x1B")?,
+        other_run_text(alloc, "journal")?,
+    ])
+}
+
+const FILES: [&str; 3] = [
+    "The file `games/journal` could not be opened, read or written: there is no room on the disk. What was written to the journal before is kept.\n",
+    "There is no file `a`\\x1B`: it is read as an empty journal.\n",
+    "Another run has the journal `journal` open, and two that write to it damage it: stop this one, and begin it again when the other one has ended.\n",
+];
+
+/// The first text on the file of a journal that is another one.
+fn first_other_of_files(alloc: Global) -> Result<Option<&'static str>, AllocError> {
+    let told = told_of_files(alloc)?;
+    for (text, want) in told.iter().zip(&FILES) {
+        if text.as_slice() != want.as_bytes() {
+            return Ok(Some(*want));
+        }
+    }
+    Ok(None)
+}
+
+#[test]
+fn files_of_journals(rt: HostRuntime) -> Result<(), Fail> {
+    assert_eq!(rt; first_other_of_files(rt.alloc())?, None);
+    Ok(())
 }

@@ -1,16 +1,19 @@
 -- How far a source has been read, and what was found there.
-use Rattle.std.proofs.Common.{◌≡◌, ◌∙◌, ◌<◌, ◌≤◌, ℕ, ◌+◌, arith, List, [], ◌∷◌, ◌++◌, length, drop, refl, sym, subst, ap, append-nil, append_assoc, length-append, get_or, take, Option, Some, None, Result, Ok, Err}
+use Rattle.std.proofs.Common.{◌≡◌, ◌∙◌, ◌<◌, ◌≤◌, ℕ, ◌+◌, ◌-◌, true, false, cond, ◌&&◌, ◌||◌, arith, List, [], ◌∷◌, ◌++◌, length, drop, refl, sym, subst, ap, append-nil, append_assoc, length-append, get_or, take, Option, Some, None, Result, Ok, Err}
 use Rattle.std.specs.Prelude.{All, IfNone, IfOk, IfSome, codes, option_to_list}
 use Rattle.terminal_text.specs.Places.{place_text}
 use Rattle.terminal_text.specs.Shown.{shown}
 use Rattle.std.proofs.lemmas.List.Elements.{All-append, All-nil, All-take}
 use Rattle.pdn_text.specs.Grammar.{IsItemOfText, IsStop, form_at}
-use Rattle.pdn_text.specs.Pdn.{AreItemsOfText, beginning}
+use Rattle.pdn_text.specs.Bytes.{is_skipped}
+use Rattle.pdn_text.specs.Pdn.{AreItemsOfText, beginning, behind_skipped}
+use Rattle.pdn_text.specs.Signs.{skipped}
 use Rattle.pdn_text.specs.declared.items.Item.{Item}
 use Rattle.pdn_text.proofs.OneReading.{one_stop}
 use Rattle.pdn_text.proofs.Reached.{push_item}
+use Rattle.pdn_text.proofs.SkippedRuns.{along_run, blank_item, one_inside, quiet}
 use Rattle.source_warnings.specs.Games.{after, first_game}
-use Rattle.source_warnings.specs.Items.{kind_of}
+use Rattle.source_warnings.specs.Items.{kind_of, number_of, runs_on, skipped_kind}
 use Rattle.source_warnings.specs.Told.{IsToldOf}
 use Rattle.source_warnings.specs.Warnings.{AreFound, AreWarnings, IsInside, IsKept, on_end, on_ending, on_item, on_items}
 use Rattle.source_warnings.specs.declared.found.TheConstants.{MOST_TOLD}
@@ -18,6 +21,7 @@ use Rattle.source_warnings.specs.declared.causes.Warning.{Warning}
 use Rattle.source_warnings.specs.declared.found.Found.{Found}
 use Rattle.source_warnings.specs.declared.games.Game.{Game}
 use Rattle.source_warnings.specs.declared.items.Kind.{Kind}
+use Rattle.source_warnings.specs.declared.items.Kind.TheVariants as kind
 use Rattle.source_warnings.proofs.Inside.{after_begins, after_number, after_plies, end_inside, ending_inside, item_inside}
 
 -- The source is items up to a place, this game stands there, and this was found.
@@ -135,6 +139,30 @@ some_holds P found item e h = subst (λ (o : Option Item). IfSome o P) e h
 pub none_holds : (P : Type 0) (found : Option Item) → ((item : Item) → found ≡ Some item → ⊥) → IfNone found P → P
 none_holds P None lacks h = h
 none_holds P (Some item) lacks h = absurd (lacks item refl)
+
+-- ---- bytes that are items by themselves and say nothing
+
+quiet_kind : (source : List ℕ) (at b : ℕ) (rest : List ℕ) → drop at source ≡ b ∷ rest → is_skipped b ≡ true → kind_of source at (skipped (at + 1)) ≡ kind.Skipped
+quiet_kind source at b rest here e =
+    let one : at + 1 - at ≡ 1 = omega arith in
+    let q = quiet b e in
+    ap (λ bytes. skipped_kind (take (at + 1 - at) bytes)) here
+    ∙ ap (λ n. skipped_kind (take n (b ∷ rest))) one
+    ∙ (λ i. cond ((q.1 i || q.0 i) && runs_on false (b ∷ [])) kind.RunsOn (cond (q.2 i) (kind.Number (number_of 0 (b ∷ []))) kind.Skipped))
+
+quiet_step : (source : List ℕ) (asked at : ℕ) (game : Game) (found : Found) (b : ℕ) (rest : List ℕ) → drop at source ≡ b ∷ rest → is_skipped b ≡ true
+    → IsRead source asked at game found → IsRead source asked (at + 1) game found
+quiet_step source asked at game found b rest here e r =
+    let k : kind_of source at (skipped (at + 1)) ≡ kind.Skipped = quiet_kind source at b rest here e in
+    read_on source asked at game game found found found (skipped (at + 1)) kind.Skipped None None r
+    (blank_item source at b rest here e) (omega arith) (one_inside source at b rest here) (sym k) refl refl refl
+    (λ all kept. subst (IsKept found) (sym (append-nil all)) kept) (λ all kept. subst (IsKept found) (sym (append-nil all)) kept)
+
+pub read_run : (source : List ℕ) (asked at to : ℕ) (game : Game) (found : Found) → to ≡ behind_skipped source at → IsRead source asked at game found
+    → IsRead source asked to game found
+read_run source asked at to game found e r =
+    subst (λ place. IsRead source asked place game found) (sym e)
+    (along_run source (λ place. IsRead source asked place game found) (λ k b rest here s h. quiet_step source asked k game found b rest here s h) at (drop at source) refl r)
 
 -- ---- there is one list of warnings
 

@@ -7,7 +7,7 @@ use crate::found::Found;
 use crate::games::{Game, after, first_game, game_of_tag, has_tag, lacks_fen, opened};
 use crate::items::{Kind, next_item, sign_kind};
 use crate::tags::TagKind;
-use pdn_text::{Item, beginning};
+use pdn_text::{Item, beginning, behind_skipped};
 use std::alloc::{AllocError, Global};
 
 /// The warning on a game that ends, if it has fewer moves than were asked.
@@ -197,13 +197,15 @@ pub fn warnings_of(alloc: Global, source: &[u8], asked: usize) -> Result<Found, 
 {
     let mut found = Found::new(alloc);
     let mut game = first_game();
-    let mut at = beginning(source);
+    let first = beginning(source);
+    let mut at = behind_skipped(source, first);
     while let Some(Item { end, sign }) = next_item(alloc, source, at)? {
         let kind = sign_kind(&source[at..end], sign);
+        let next = behind_skipped(source, end);
         found.keep(on_ending(asked, game, at, kind))?;
         found.keep(on_item(game, source, at, kind))?;
         game = after(game, at, kind);
-        at = end;
+        at = next;
     }
     found.keep(on_end(asked, game, source, at))?;
     Ok(found)

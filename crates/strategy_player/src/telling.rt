@@ -1,12 +1,14 @@
 //! What a person at a terminal is told of a refusal on standard error.
 use crate::ended::Ended;
 use crate::refusals::PlayRefusal;
+use bench_disk::FileDisk;
 use certificate_plays::{LineFault, split_line};
 use draughts_board::{Position, Side};
 use opening_report::Refusal;
-use program_edges::tell;
-use refusal_hints::{hint, legal_moves_text, say_position};
+use program_edges::{PathDisk, tell};
+use refusal_hints::{failed_text, hint, legal_moves_text, missing_text, say_position};
 use std::alloc::{AllocError, Global};
+use std::io::ErrorKind;
 use terminal_text::{EXCERPT_WIDTH, quote, say, say_number, shown};
 
 /// The line of a source with this number, counted from 1; empty where there is none.
@@ -101,24 +103,47 @@ fn refusal_text(
     Ok(text)
 }
 
-/// The text for a person on a run that ended so: what can be done about a refusal. `source` is what
-/// the run read, and empty where that did not come to its end. It is printable ASCII and line ends.
+/// The text for a person on a run that ended so: what can be done about a refusal. `cause` is what the
+/// system said of the journal's file when it last refused a call, and `source` what the run read,
+/// empty if that did not come to its end. It is printable ASCII and line ends.
 fn text_for(
     alloc: Global,
     words: &[&str],
     ended: &Ended,
+    cause: Option<ErrorKind>,
     source: &[u8],
 ) -> Result<Vec<u8>, AllocError> {
-    match &ended.refusal {
-        Some(refusal) => shown(alloc, &refusal_text(alloc, words, refusal, source)?),
-        None => Ok(Vec::new(alloc)),
+    let Some(refusal) = &ended.refusal else {
+        return Ok(Vec::new(alloc));
+    };
+    if matches!(refusal, PlayRefusal::Run(Refusal::Disk))
+        && let Some(path) = words.first()
+        && let Some(text) = failed_text(alloc, path, cause)?
+    {
+        return Ok(text);
     }
+    shown(alloc, &refusal_text(alloc, words, refusal, source)?)
 }
 
 /// Tells it on standard error: nothing else, and nothing where memory is wanting or standard error
 /// fails.
-pub(crate) fn tell_of(rt: &HostRuntime, words: &[&str], ended: &Ended, source: &[u8]) {
-    if let Ok(text) = text_for(rt.alloc(), words, ended, source) {
+pub(crate) fn tell_of(
+    rt: &HostRuntime,
+    words: &[&str],
+    ended: &Ended,
+    cause: Option<ErrorKind>,
+    source: &[u8],
+) {
+    if let Ok(text) = text_for(rt.alloc(), words, ended, cause, source) {
+        tell(rt, &text);
+    }
+}
+
+/// Tells of a journal whose file is not there.
+pub(crate) fn tell_of_disk(rt: &HostRuntime, path: &str, disk: &PathDisk<FileDisk<&HostRuntime>>) {
+    if disk.is_missing()
+        && let Ok(text) = missing_text(rt.alloc(), path)
+    {
         tell(rt, &text);
     }
 }

@@ -1,7 +1,5 @@
 -- What a session keeps among its fields. Nobody has to believe it.
-use Rattle.std.specs.Prelude.{◌≡◌, ◌≤◌, ◌+◌, ◌*◌, ◌++◌, [], ℕ, true, false, not, List, length, count_by, IfSome, Vec}
-use Rattle.std.specs.declared.alloc.Global.{Global}
-use Rattle.std.specs.Vec.{vec_capacity}
+use Rattle.std.specs.Prelude.{◌≡◌, ◌≤◌, ◌+◌, ◌*◌, ◌++◌, [], ℕ, true, false, not, ◌^◌, ◌-◌, List, length, count_by, IfSome}
 use Rattle.std.specs.List.{AllByRecursion as Each}
 use Rattle.bench_disk.specs.declared.disk.Disk.{Ghosts}
 use Rattle.bench_disk.specs.Disk.{IsHonest}
@@ -55,10 +53,14 @@ pub record Parts (D : Type 0) : Type 0 where
   pub core : Core
   pub log : Log D
 
-abbrev pub parts_of : {D : Type 0} → Vec Mark Global → ℕ → Core → Log D → Parts D
+-- how many entries a line has at most
+abbrev pub most_entries : ℕ
+most_entries = 2 ^ 63 - 1
+
+abbrev pub parts_of : {D : Type 0} → List Mark → ℕ → Core → Log D → Parts D
 parts_of marks due core log = record {
-  marks = marks.items;
-  capacity = vec_capacity marks;
+  marks = marks;
+  capacity = most_entries;
   due = due;
   core = core;
   log = log;

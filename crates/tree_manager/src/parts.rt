@@ -13,6 +13,7 @@ use crate::refusals::CommitRefusal;
 use bench_core::Bench;
 use bench_disk::Disk;
 use disk_journal::{Journal, Receipt};
+use ghost_list::CountedTrace;
 
 /// Makes all that is staged durable, and applies it. It takes no memory.
 ///
@@ -21,7 +22,7 @@ use disk_journal::{Journal, Receipt};
 pub(crate) fn commit_parts<D: Disk>(
     bench: &mut Bench,
     journal: &mut Journal<D>,
-    marks: &mut Vec<Mark>,
+    marks: &mut CountedTrace<Mark>,
     due: &mut usize,
 ) -> Result<Receipt, CommitRefusal>
     requires unfailed { journal.old.failed ≡ false }
@@ -54,14 +55,14 @@ pub(crate) fn commit_parts<D: Disk>(
         Ok(receipt) => {
             if waiting > 0 {
                 bench.apply_staged();
-                marks.push_reserved(Mark::Acked(receipt.moment));
+                marks.push(&Mark::Acked(receipt.moment));
                 *due -= waiting;
             }
             Ok(receipt)
         }
         Err(_) => {
             let faults = journal.disk().faults();
-            marks.push_reserved(Mark::Broken(faults));
+            marks.push(&Mark::Broken(faults));
             Err(CommitRefusal::Disk)
         }
     }

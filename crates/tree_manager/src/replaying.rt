@@ -11,7 +11,8 @@ ghost use Rattle.tree_manager.specs.Replaying.{IsReplayedCore, RefusesPayloads, 
 use crate::marks::Mark;
 use bench_core::{Bench, ReplayRefusal, Settings};
 use disk_journal::{JournalRefusal, Payload};
-use std::alloc::{AllocError, Global};
+use ghost_list::CountedTrace;
+use std::alloc::Global;
 use strategy_certificate::Oracle;
 
 /// The refusal of a payload at this place that is not replayed.
@@ -53,14 +54,14 @@ pub fn replay_payloads<O: Oracle>(
 }
 
 /// The mark of a Put for each of these payloads.
-fn puts_of(alloc: Global, payloads: &[Payload]) -> Result<Vec<Mark>, AllocError>
-    ensures { IfOk result (λ marks. marks.items ≡ map (λ _. Put) payloads.now) }
+fn puts_of(payloads: &[Payload]) -> CountedTrace<Mark>
+    ensures { result ≡ map (λ _. Put) payloads.now }
 {
-    let mut marks = Vec::new(alloc);
+    let mut marks = CountedTrace::new();
     for _ in payloads {
-        marks.push(Mark::Put)?;
+        marks.push(&Mark::Put);
     }
-    Ok(marks)
+    marks
 }
 
 /// A bench that has replayed the records of these payloads, and a mark for each. It refuses as
@@ -70,19 +71,16 @@ pub(crate) fn replay_all<O: Oracle>(
     s: Settings,
     payloads: &[Payload],
     oracle: &O,
-) -> Result<(Bench, Vec<Mark>), JournalRefusal>
+) -> Result<(Bench, CountedTrace<Mark>), JournalRefusal>
     requires tables { O.piece_limit oracle.now ≡ s.pieces }
     requires pieces { IsTableSize s.pieces }
     requires table { (answer : Board → Option Answer) × IsSoundTable draughts s.pieces answer }
     ensures replayed { IfOk result (λ r. IsReplayedCore s r.0) }
     ensures spelled { IfOk result
         (λ r. SpellsRecords s.pieces [] r.0.records (payload_texts payloads.now)) }
-    ensures marks { IfOk result (λ r. r.1.items ≡ map (λ _. Put) r.0.records) }
+    ensures marks { IfOk result (λ r. r.1 ≡ map (λ _. Put) r.0.records) }
     ensures refused { IfErr result (RefusesPayloads s.pieces payloads.now) }
 {
     let bench = replay_payloads(alloc, s, payloads, oracle)?;
-    match puts_of(alloc, payloads) {
-        Ok(marks) => Ok((bench, marks)),
-        Err(error) => Err(JournalRefusal::Memory(error)),
-    }
+    Ok((bench, puts_of(payloads)))
 }

@@ -14,6 +14,7 @@ use bench_disk::Disk;
 use certificate_checker::Outcome;
 use disk_journal::{Journal, JournalRefusal, Receipt};
 use draughts_board::Position;
+use ghost_list::CountedTrace;
 use lease_table::{Lease, LeaseId, Stale};
 use proof_tree::MOST_ROOTS;
 use std::alloc::Global;
@@ -26,10 +27,11 @@ use strategy_certificate::Oracle;
 /// alone: unless it has failed, none is staged between calls.
 #[derive(Drop)]
 pub struct Session<D: Disk> {
+    alloc: Global,
     bench: Bench,
     journal: Journal<D>,
-    /// The entries of the line, but for records.
-    marks: Vec<Mark>,
+    /// The entries of the line, but for records: they are counted, and no byte of them is kept.
+    marks: CountedTrace<Mark>,
     /// For how many entries more there is room, beyond those of which one is taken at once: those that end leases and
     /// commits.
     due: usize,
@@ -48,7 +50,7 @@ impl<D: Disk> Model for Session<D> {
     ghost coded = { Prim.hlevel (codes, forest_code) };
 
     ghost view = { λ s. record {
-      line = woven s.marks.items (s.bench.records ++ s.bench.staged);
+      line = woven s.marks (s.bench.records ++ s.bench.staged);
       core = s.bench;
       disk = s.journal.disk;
     } };
@@ -144,7 +146,7 @@ impl<D: Disk> Session<D> {
             return Err((journal.into_disk(), JournalRefusal::Memory(error)));
         }
         bench.start_session();
-        marks.push_reserved(Mark::Attached(Attachment {
+        marks.push(&Mark::Attached(Attachment {
             opened: journal.opened(),
             faults: journal.disk().faults(),
             budget: bench.budget(),
@@ -153,6 +155,7 @@ impl<D: Disk> Session<D> {
             limit: s.lease,
         }));
         Ok(Session {
+            alloc,
             bench,
             journal,
             marks,
@@ -239,7 +242,7 @@ impl<D: Disk> Session<D> {
         if self.journal.is_failed() {
             return Err(BeginRefusal::Failed);
         }
-        let added = new_roots(*self.marks.allocator(), self.bench.tree(), positions)?;
+        let added = new_roots(self.alloc, self.bench.tree(), positions)?;
         let count = added.len();
         if self.bench.tree().roots() as usize + count > MOST_ROOTS {
             return Err(BeginRefusal::TooManyRoots);
@@ -281,7 +284,7 @@ impl<D: Disk> Session<D> {
         self.marks.reserve(self.due + 3)?;
         let lease = self.bench.lease(worker)?;
         let given = &lease;
-        self.marks.push_reserved(Mark::Leased(*given));
+        self.marks.push(&Mark::Leased(*given));
         self.due += 2;
         Ok(lease)
     }
@@ -303,7 +306,7 @@ impl<D: Disk> Session<D> {
             return Err(Stale(id));
         }
         self.bench.release(id)?;
-        self.marks.push_reserved(Mark::Released(id));
+        self.marks.push(&Mark::Released(id));
         self.due -= 2;
         Ok(())
     }
@@ -327,7 +330,7 @@ impl<D: Disk> Session<D> {
         if self.journal.is_failed() {
             return Err(StageRefusal::Failed);
         }
-        let found = LeaseResult::new(*self.marks.allocator(), lease, outcome)?;
+        let found = LeaseResult::new(self.alloc, lease, outcome)?;
         self.stage_result(found)
     }
 
@@ -353,7 +356,7 @@ impl<D: Disk> Session<D> {
             self.bench.forget_ready();
             return Err(StageRefusal::Memory(error));
         }
-        self.marks.push_reserved(Mark::Put);
+        self.marks.push(&Mark::Put);
         self.due -= 1;
         Ok(())
     }

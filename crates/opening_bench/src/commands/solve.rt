@@ -66,8 +66,8 @@ pub(crate) fn run_by<R: Threads + Wait + Sync, D: Disk + Send, G: Gate + Sync>(
         (account_of plan.now.account) plan.now.settings.pieces plan.now.settings.depth
         plan.now.settings.budget plan.now.settings.lease positions.now disk result.0
         output.text.items output.is_settled) }
-    ensures shows { IfOk result.1
-        (λ output. IsTrueAccount plan.now.account positions.now output.text.items) }
+    ensures shows { IfOk result.1 (λ output.
+        IsTrueAccount plan.now.account positions.now output.text.items output.is_settled) }
     ensures refused { IfErr result.1
         (IsRefusedRun D.Disk plan.now.settings.pieces positions.now disk result.0) }
     ensures used { IfErr result.1 (λ r. ComesBeforeDisk r → ⊥) }

@@ -8,8 +8,8 @@ use Rattle.journal_runs.specs.declared.refusals.RunRefusal.{RunRefusal}
 use Rattle.journal_runs.specs.declared.refusals.RunRefusal.TheVariants as refusal
 use Rattle.journal_runs.specs.Journals.{account_of}
 use Rattle.journal_runs.specs.declared.runs.Account.TheVariants.{Report, Summary}
-use Rattle.journal_runs.proofs.AloneLemmas.{searches_on}
-use Rattle.journal_runs.proofs.RunLemmas.{at_ok, if_err, if_ok, if_ok_both, if_ok_on, memory_is_no_fault}
+use Rattle.journal_runs.proofs.AloneLemmas.{searches_on, tables_there}
+use Rattle.journal_runs.proofs.RunLemmas.{at_ok, if_err, if_ok_both, if_ok_on_both, memory_is_no_fault}
 use Rattle.journal_runs.proofs.WorkLemmas.{count_run, truth_run, worked_run}
 use Rattle.journal_runs.proofs.runs.run_session.Goals as goal
 use Rattle.journal_runs.proofs.runs.run_session.Goals.{in-Report, in-Summary}
@@ -38,13 +38,16 @@ returns-after-account-clause-shows g c =
     let run = at_ok (HasRun c.args.plan.now.settings.lease c.args.session c.args.positions.now last) c.work_on-session.result.1 c.in-Ok.is_settled c.in-Ok.is c.work_on-session.ensures.worked in
     elim c.match-account.branch [
       | in-Report w ↦ rw (w.in-Report.is, w.answer-is)
-          (if_ok_on (AreTrueRoots (forest_roots last.core.state.forest)) (length (forest_roots last.core.state.forest) ≤ 65536) (λ ran. ran.text.items ≡ report_of (forest_roots last.core.state.forest)) _ w.report_on-answer.result
-          (λ ran values few text. truth_run _ _ _ _ _ run c.requires.idle c.requires.stands w.report_on-answer.ensures.stands ran.text.items values few text)
-          w.report_on-answer.ensures.values w.report_on-answer.ensures.few w.report_on-answer.ensures.text)
-      | in-Summary w ↦ rw (w.in-Summary.is, w.answer-is)
-          (if_ok (λ ran. ran.text.items ≡ summary_line (forest_roots last.core.state.forest)) _ w.count_on-answer.result
-          (λ ran text. count_run _ _ _ _ _ run c.requires.idle c.requires.stands w.count_on-answer.ensures.stands ran.text.items w.count_on-answer.ensures.line text)
-          w.count_on-answer.ensures.text)
+          (if_ok_on_both (AreTrueRoots (forest_roots last.core.state.forest)) (length (forest_roots last.core.state.forest) ≤ 65536) (λ ran. ran.text.items ≡ report_of (forest_roots last.core.state.forest))
+          (λ ran. ran.is_settled ≡ c.in-Ok.is_settled) _ w.report_on-answer.result
+          (λ ran values few text told. truth_run _ _ _ _ _ run c.requires.idle c.requires.stands w.report_on-answer.ensures.stands ran.text.items ran.is_settled told values few text)
+          w.report_on-answer.ensures.values w.report_on-answer.ensures.few w.report_on-answer.ensures.text w.report_on-answer.ensures.settled)
+      | in-Summary w ↦
+          let same = tables_there _ _ _ (searches_on _ c.args.session.line _ c.args.session.core c.requires.stands c.requires.tables c.requires.depth c.work_on-session.ensures.goes_on) w.count_on-answer.ensures.stands in
+          rw (w.in-Summary.is, w.answer-is)
+          (if_ok_both (λ ran. ran.text.items ≡ summary_line (forest_roots last.core.state.forest)) (λ ran. ran.is_settled ≡ c.in-Ok.is_settled) _ w.count_on-answer.result
+          (λ ran text told. count_run _ _ _ _ _ run c.requires.idle c.requires.stands w.count_on-answer.ensures.stands _ c.requires.sound.0 ran.text.items ran.is_settled same c.requires.sound.1 c.requires.size told w.count_on-answer.ensures.line text)
+          w.count_on-answer.ensures.text w.count_on-answer.ensures.settled)
     ]
 
 pub returns-after-account-clause-fault : goal.returns-after-account-clause-fault

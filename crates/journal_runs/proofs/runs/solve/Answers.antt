@@ -1,6 +1,7 @@
 use Rattle.std.proofs.Common.{◌≡◌, ◌≤◌, ◌∙◌, inl, inr, refl, subst, sym}
 use Rattle.std.specs.Prelude.{true}
 use Rattle.certificate_checker.specs.declared.outcomes.TheConstants.{MOST_DEPTH}
+use Rattle.endgame_table.specs.Entries.{answers}
 use Rattle.disk_journal.specs.declared.refusal.JournalRefusal.TheVariants as journal
 use Rattle.tree_manager.specs.Lines.{is_failed}
 use Rattle.journal_runs.specs.Ends.{HasWorked, IsWorkRefusal}
@@ -20,6 +21,12 @@ returns-in-Err g c = record {
 
 pub run_session-session-requires-clause-tables : goal.run_session-session-requires-clause-tables
 run_session-session-requires-clause-tables g c κs within = c.in-Ok.ensures.pieces ∙ sym c.in-Ok-attach.ensures.pieces
+
+pub run_session-session-requires-clause-size : goal.run_session-session-requires-clause-size
+run_session-session-requires-clause-size g c κs within = c.in-Ok.ensures.table.size
+
+pub run_session-session-requires-clause-sound : goal.run_session-session-requires-clause-sound
+run_session-session-requires-clause-sound g c κs within = (answers c.in-Ok.table.pieces c.in-Ok.table.numbers, c.in-Ok.ensures.table.sound)
 
 pub run_session-session-requires-clause-depth : goal.run_session-session-requires-clause-depth
 run_session-session-requires-clause-depth g c κs within =

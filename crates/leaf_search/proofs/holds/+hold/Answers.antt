@@ -1,8 +1,8 @@
-use Rattle.std.proofs.Common.{rules, arith, ◌≡◌, ◌-◌, ◌⊎◌, inl, inr, suc, Bool, true, false, None, Some, [], sym, ap, ◌∙◌, subst, take}
+use Rattle.std.proofs.Common.{rules, arith, ◌≡◌, ◌-◌, ◌⊎◌, inl, inr, suc, ℕ, List, ◌∷◌, ◌++◌, Bool, true, false, None, Some, [], refl, sym, ap, ◌∙◌, subst, take}
 use Rattle.std.specs.Prelude.{All, MatchBool, is_some, IsTrue, ◌↔◌}
 use Rattle.std.proofs.lemmas.List.Elements.{All-nil, All-cons, All-weaker, All-contains}
 use Rattle.std.proofs.lemmas.Bool.{false≢true}
-use Rattle.draughts_board.specs.Board.{other}
+use Rattle.draughts_board.specs.Board.{Board, other}
 use Rattle.draughts_board.specs.Rules.{IsLegal, after}
 use Rattle.draughts_board.specs.Play.{successors_of}
 use Rattle.strategy_certificate.specs.Parts.{HoldList, HasEntry}
@@ -11,7 +11,7 @@ use Rattle.certificate_checker.proofs.ListLemmas.{one_more, all_taken}
 use Rattle.certificate_checker.proofs.SightLemmas.{answered_at_sight}
 use Rattle.leaf_search.specs.Lines.{Continues, HoldFails, MoveFails}
 use Rattle.leaf_search.proofs.LineLemmas.{Continues-refl, Continues-trans, Continues-enter, IsHeld-more, HasEntry-entered, kept}
-use Rattle.leaf_search.proofs.FailLemmas.{fails_at_zero, fails_at_sight, fails_by_moves, fails_by_reply, move_fails, HoldFails-fewer, answered_lost, blocked_lost, moving_unseen, All-successors, All-legal, moving, blocked}
+use Rattle.leaf_search.proofs.FailLemmas.{fails_at_zero, fails_at_sight, fails_by_moves, fails_by_reply, move_fails, still_fails, HoldFails-fewer, answered_lost, blocked_lost, moving_unseen, All-successors, All-legal, moving, blocked}
 use Rattle.leaf_search.proofs.holds.+hold.Goals as goal
 
 side_of : {a b : HoldList} → a ≡ b → a.side ≡ b.side
@@ -41,6 +41,17 @@ try_move-returns-clause-held g t c =
     let fails = rw (c.if-held.false, c.apply-next.ensures) at c.in_ok-held.ensures.held in
     move_fails (g.O.Oracle.piece_limit c.args.oracle.now) c.args.depth c.args.part.now c.add.new.self c.args.p.now c.args.m.now (Some c.args.m.now)
     (side_of c.in_ok-add.ensures.ok) (entries_of c.in_ok-add.ensures.ok) fails
+
+pub try_move-returns-then-fails_at_once-clause-held : goal.try_move-returns-then-fails_at_once-clause-held
+try_move-returns-then-fails_at_once-clause-held g t c =
+    let k = g.O.Oracle.piece_limit c.args.oracle.now in
+    let part : HoldList = c.args.part.now in
+    let p : Board = c.args.p.now in
+    let m : List ℕ = c.args.m.now in
+    let mid : HoldList = record { side = part.side; entries = part.entries ++ (p, Some m) ∷ [] } in
+    let fails = rw (c.if-fails_at_once.true, c.apply-next.ensures) at c.fails_at_once.ensures in
+    subst (λ d. MoveFails k d part p m) (sym c.if-depth-eq0.true)
+    (move_fails k 0 part mid p m (Some m) refl refl (still_fails k part mid p m (Some m) refl refl fails))
 
 pub try_moves-loop-m-preserved : goal.try_moves-loop-m-preserved
 try_moves-loop-m-preserved g t c =
@@ -175,6 +186,30 @@ find_hold-returns-then-mine-2-clause-held g t c =
     let by : (b : Bool) → MatchBool b (HasEntry new.entries p) (All (MoveFails k (c.args.depth - 1) part p) paths) → MatchBool b (IsHeld new answer p) (HoldFails k c.args.depth part p) =
     elim [ true ↦ λ h. inl h | false ↦ fails ] in
     by c.in_ok-held.held (rw c.deref.ensures.value at c.in_ok-held.ensures.held)
+
+pub find_hold-some_fails-requires : goal.find_hold-some_fails-requires
+find_hold-some_fails-requires g t c = record {
+  legal = subst (All (IsLegal c.args.p.now)) (sym c.as_slice.ensures.value)
+      (All-legal c.args.p.now c.in_ok-moves.moves.items c.in_ok-moves.ensures.rules);
+}
+
+pub find_hold-returns-then-some_fails-clause-held : goal.find_hold-returns-then-some_fails-clause-held
+find_hold-returns-then-some_fails-clause-held g t c =
+    let k = g.O.Oracle.piece_limit c.args.oracle.now in
+    let answer = g.O.Oracle.answer_at c.args.oracle.now in
+    let part : HoldList = c.args.part.now in
+    let p : Board = c.args.p.now in
+    let none : IsHeld part answer p → ⊥ = unheld c.is_held.result c.is_held.ensures c.if-is_held.false in
+    let unanswered : is_some (answer p) ≡ false = ap is_some (sym c.answer.ensures.value) ∙ sym c.is_some.ensures ∙ c.if-is_some.false in
+    let lawful = c.is_mover-mine.ensures.lawful in
+    let theirs : p.to_move ≡ other part.side = (rw c.if-mine-2.false at c.is_mover-mine.ensures.turn) ∙ ap other c.side.ensures.value in
+    let failed = rw (c.if-some_fails.true, c.as_slice.ensures.value) at c.some_fails.ensures in
+    let legal : IsLegal p failed.1 = c.in_ok-moves.ensures.rules.sound failed.1 (failed.0, failed.2, failed.3) in
+    let mid : HoldList = record { side = part.side; entries = part.entries ++ (p, None) ∷ [] } in
+    let one : suc 0 ≡ c.args.depth = (let e = c.if-depth-eq1.true in omega (arith, e)) in
+    subst (λ d. HoldFails k d part p) one
+    (fails_by_reply k answer part p none (moving_unseen k answer c.answer.ensures.sound part.side p lawful unanswered (moving p failed.1 lawful legal))
+    0 mid None refl refl theirs lawful failed.1 legal (still_fails k part mid p failed.1 None refl refl failed.4))
 
 pub find_hold-returns-then-held-clause-found : goal.find_hold-returns-then-held-clause-found
 find_hold-returns-then-held-clause-found g t c =

@@ -1,4 +1,4 @@
-use Rattle.std.proofs.Common.{arith, ◌≡◌, ◌<◌, ◌≤◌, ◌-◌, inr, ℕ, suc, true, Option, None, Some, [], refl, sym, ap, ◌∙◌, subst, take}
+use Rattle.std.proofs.Common.{arith, ◌≡◌, ◌<◌, ◌≤◌, ◌-◌, inr, ℕ, suc, true, Option, None, Some, [], refl, sym, ap, ◌∙◌, subst, take, length}
 use Rattle.std.specs.Prelude.{All, MatchOption, is_some}
 use Rattle.std.proofs.lemmas.List.Elements.{All-nil, All-weaker, All-contains}
 use Rattle.std.proofs.lemmas.Bool.{false≢true}
@@ -6,12 +6,12 @@ use Rattle.draughts_board.specs.Board.{Board, other}
 use Rattle.draughts_board.specs.Rules.{after}
 use Rattle.draughts_board.specs.Play.{successors_of}
 use Rattle.strategy_certificate.specs.Parts.{WinList}
-use Rattle.strategy_certificate.specs.Certificates.{IsReachedBelow}
+use Rattle.strategy_certificate.specs.Certificates.{IsReached, IsReachedBelow}
 use Rattle.certificate_checker.proofs.ListLemmas.{one_more, all_taken}
-use Rattle.leaf_search.specs.Wins.{WinFails, Grows, Finds}
+use Rattle.leaf_search.specs.Wins.{WinFails, IsLowFor, Grows, Finds}
 use Rattle.leaf_search.proofs.FailLemmas.{All-successors, moving, blocked}
 use Rattle.certificate_checker.proofs.SightLemmas.{unanswered_at_sight}
-use Rattle.leaf_search.proofs.WinLemmas.{is_none, cut_back, answered_fails, fails_at_zero, fails_by_moves, fails_by_reply, Finds-after, Grows-trans, below_more, below_up, longer}
+use Rattle.leaf_search.proofs.WinLemmas.{is_none, cut_back, answered_fails, Grows-refl, fails_at_zero, fails_by_moves, fails_by_reply, Finds-after, Grows-trans, below_more, below_up, longer}
 use Rattle.leaf_search.proofs.wins.+win.Goals as goal
 
 pub find_win-returns-then-is_some-clause-found : goal.find_win-returns-then-is_some-clause-found
@@ -20,9 +20,14 @@ find_win-returns-then-is_some-clause-found g t c =
     let answer = g.O.Oracle.answer_at c.args.oracle.now in
     let part = c.args.part.now in
     let p = c.args.p.now in
-    let unshown = rw (is_none c.shown_rank.result c.in_default.not-Some) at c.shown_rank.ensures in
     let some : is_some (answer p) ≡ true = ap is_some (sym c.answer.ensures.value) ∙ sym c.is_some.ensures ∙ c.if-is_some.true in
-    (refl, answered_fails k answer c.answer.ensures.sound part.side p some (λ r table. unshown r (inr table)) c.args.depth)
+    let by : (o : Option ℕ) → MatchOption o ((r : ℕ) → IsReached part answer r p → ⊥) (λ r. IsReached part answer r p × IsLowFor (length part.entries) r)
+    → MatchOption o ((part ≡ part) × WinFails k part.side c.args.depth p) (Finds answer part part p) =
+    elim [
+      | None ↦ λ unshown. (refl, answered_fails k answer c.answer.ensures.sound part.side p some (λ r table. unshown r (inr table)) c.args.depth)
+      | Some r ↦ λ shown. record { grows = Grows-refl answer part c.requires.steady; reached = shown.0; low = shown.1 }
+    ] in
+    by c.shown_rank.result c.shown_rank.ensures
 
 pub look_ahead-returns-then-mine-clause-found : goal.look_ahead-returns-then-mine-clause-found
 look_ahead-returns-then-mine-clause-found g t c =

@@ -8,12 +8,7 @@ use Rattle.strategy_certificate.specs.Tables.{TableWins}
 use Rattle.strategy_certificate.specs.Parts.{WinList, HasEntry}
 use Rattle.strategy_certificate.specs.Certificates.{IsReached}
 use Rattle.leaf_search.specs.Wins.{IsLowFor}
-use Rattle.leaf_search.proofs.WinLemmas.{entered_before}
 use Rattle.leaf_search.proofs.wins.shown_rank.Goals as goal
-
-pub returns-in-Some : goal.returns-in-Some
-returns-in-Some g c =
-    entered_before (g.O.Oracle.answer_at c.args.oracle.now) c.args.part.now c.requires c.args.p.now c.in-Some.entry ((c.in-Some.ensures.found c.in-Some.entry).0 refl)
 
 by_table : (answer : Board → Option Answer) (part : WinList) (p : Board) (side : Side) → side ≡ part.side → (HasEntry part.entries p → ⊥) → (o : Option ℕ)
     → ((r : ℕ) → (o ≡ Some r) ↔ TableWins draughts answer side r p) → IfSome o (λ r. r < 2 ^ 32)
@@ -27,5 +22,5 @@ by_table answer part p side is none (Some r) rank low = (inr (subst (λ s. Table
 
 pub returns-in-None : goal.returns-in-None
 returns-in-None g c =
-    by_table (g.O.Oracle.answer_at c.args.oracle.now) c.args.part.now c.args.p.now c.side.result c.side.ensures.value (c.in-None.ensures.none.0 refl)
+    by_table (g.O.Oracle.answer_at c.args.oracle.now) c.args.part.now c.args.p.now c.side.result c.side.ensures.value c.in-None.ensures
     c.table_rank.result c.table_rank.ensures.rank c.table_rank.ensures.low

@@ -3,4 +3,4 @@ use Rattle.tree_manager.specs.declared.marks.Mark.TheVariants.{Put}
 use Rattle.tree_manager.proofs.replaying.puts_of.Given as goal
 
 abbrev pub invariant-loop : goal.invariant-loop
-invariant-loop l = l.marks.items ≡ map (λ _. Put) (take l.index l.payloads)
+invariant-loop l = l.marks ≡ map (λ _. Put) (take l.index l.payloads)

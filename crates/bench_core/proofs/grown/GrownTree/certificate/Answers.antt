@@ -10,4 +10,4 @@ pub join-requires-clause-certified : goal.join-requires-clause-certified
 join-requires-clause-certified c =
     let g = c.self.inside in
     let here = subst (λ (s : GrownState). AreCertified c.args.pieces (batches_shown s.records) s.forest) (sym c.self.view_is) c.requires.certified in
-    subst (λ (puts : List Put). AreCertified c.args.pieces puts g.tree.forest) (batches_logged g.log.items g.shelf.puts c.self.invariant) here
+    subst (λ (puts : List Put). AreCertified c.args.pieces puts g.tree.forest) (batches_logged g.log g.shelf.puts c.self.invariant.shown) here

@@ -13,7 +13,7 @@ returns-in-Ok-clause-unused g c =
     IfErr-weaker c.run_by.result.1 (λ r. ComesBeforeDisk r → ⊥) _ (λ r none comes. absurd (none comes)) c.run_by.ensures.used
 
 pub returns-in-Ok-clause-says : goal.returns-in-Ok-clause-says
-returns-in-Ok-clause-says g c = counts_say _ c.run_by.result.1 (λ output. output.text.items) c.run_by.ensures.shows
+returns-in-Ok-clause-says g c = counts_say _ c.run_by.result.1 (λ output. output.text.items) (λ output. output.is_settled) c.run_by.ensures.shows
 
 pub returns-in-Ok-clause-answers : goal.returns-in-Ok-clause-answers
 returns-in-Ok-clause-answers g c =

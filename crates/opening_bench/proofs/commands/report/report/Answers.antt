@@ -4,7 +4,7 @@ use Rattle.opening_bench.proofs.LookingLemmas.{look_accepts, look_answers, no_er
 use Rattle.opening_bench.proofs.commands.report.report.Goals as goal
 
 pub returns-in-Ok-clause-says : goal.returns-in-Ok-clause-says
-returns-in-Ok-clause-says g c = true_report_says c.in-Ok.written.text.items c.in-Ok.ensures.values
+returns-in-Ok-clause-says g c = true_report_says c.in-Ok.written.text.items c.in-Ok.written.is_settled c.in-Ok.ensures.values
 
 pub returns-in-Ok-clause-leaves : goal.returns-in-Ok-clause-leaves
 returns-in-Ok-clause-leaves g c = reads_stays g.D.Disk g.met.D.Disk.now_counts _ _ _ c.in-Ok.ensures.reads

@@ -4,7 +4,7 @@ use Rattle.opening_bench.proofs.SolvingLemmas.{run_says}
 use Rattle.opening_bench.proofs.commands.solve.solve.Goals as goal
 
 pub returns-in-Ok-clause-says : goal.returns-in-Ok-clause-says
-returns-in-Ok-clause-says g c = run_says _ c.run_by.result.1 (λ output. output.text.items) c.run_by.ensures.shows
+returns-in-Ok-clause-says g c = run_says _ c.run_by.result.1 (λ output. output.text.items) (λ output. output.is_settled) c.run_by.ensures.shows
 
 pub returns-in-Ok-clause-accepted : goal.returns-in-Ok-clause-accepted
 returns-in-Ok-clause-accepted g c =

@@ -1,6 +1,5 @@
-use Rattle.std.proofs.Common.{rules, ◌≡◌, ◌≤◌, ◌++◌, ◌∷◌, [], ◌+◌, ◌-◌, ℕ, List, min, length, map, refl, ap, sym, ◌∙◌, subst, arith}
+use Rattle.std.proofs.Common.{rules, ◌≡◌, ◌≤◌, ◌++◌, ◌∷◌, [], ◌+◌, ◌-◌, ℕ, List, min, length, map, refl, ap, sym, ◌∙◌, subst, arith, length-append}
 use Rattle.std.specs.Prelude.{count_by}
-use Rattle.std.specs.Vec.{vec_capacity}
 use Rattle.disk_journal.specs.declared.payload.Payload.{Payload}
 use Rattle.bench_core.specs.Records.{begun, is_work}
 use Rattle.bench_core.specs.Cores.{Core}
@@ -16,6 +15,7 @@ use Rattle.disk_journal.specs.declared.refusal.JournalRefusal.{JournalRefusal}
 use Rattle.tree_manager.specs.Receipts.{SpellsRecords}
 use Rattle.tree_manager.specs.Sessions.{session_budget}
 use Rattle.tree_manager.specs.Replaying.{RefusesPayloads, payload_texts}
+use Rattle.tree_manager.specs.Keeping.{most_entries}
 use Rattle.tree_manager.proofs.ReplayLemmas.{cause_first, journal_explained, kept_begun, length_texts, line_begun, new_begun, none_attached, replayed_budget, replayed_pieces, replayed_staged, replay_explained, same_attachment}
 use Rattle.tree_manager.proofs.ExactLemmas.{refused_unlawful, unlawful_unread}
 use Rattle.tree_manager.proofs.session.Session.attach.Goals as goal
@@ -28,8 +28,8 @@ invariant_of-result g c =
     let payloads : List (List ℕ) = payload_texts c.in-Ok.attached.1.items in
     let k : c.pieces-pieces.result ≡ c.args.s.pieces = c.pieces-pieces.ensures.value ∙ c.requires.tables in
     let a : Attachment = record { opened = c.opened.result; faults = c.faults.result; budget = c.budget.result; depth = c.args.s.depth; pieces = c.pieces-pieces.result; limit = c.args.s.lease } in
-    let marks : c.push_reserved.new.self.items ≡ map (λ _. mark.Put) rs ++ mark.Attached a ∷ [] =
-    c.push_reserved.ensures.items ∙ ap (λ (l : List Mark). l ++ mark.Attached a ∷ []) (c.reserve.ensures.items ∙ c.in-Ok-replay_all.ensures.marks) in
+    let marks : c.push.new.self ≡ map (λ _. mark.Put) rs ++ mark.Attached a ∷ [] =
+    c.push.ensures ∙ ap (λ (l : List Mark). l ++ mark.Attached a ∷ []) c.in-Ok-replay_all.ensures.marks in
     let budget : c.budget.result ≡ min core.state.settings.budget (1000000 - count_by is_work rs) = c.budget.ensures ∙ ap (λ (x : Core). x.state.settings.budget) c.start_session.ensures in
     let given : c.deref.result.now ≡ c.in-Ok.attached.1.items = c.deref.ensures.value in
     let pieces : log.pieces ≡ c.pieces-pieces.result = c.in-Ok.ensures.state.0 in
@@ -38,11 +38,11 @@ invariant_of-result g c =
     let opened : c.opened.result ≡ log.opened = c.opened.ensures in
     let faults : c.faults.result ≡ g.D.Disk.faults log.disk = search rules in
     let number : log.count ≡ length payloads = c.in-Ok.ensures.state.2 ∙ sym (length_texts c.in-Ok.attached.1.items) in
-    let room : length c.push_reserved.new.self.items ≤ vec_capacity c.push_reserved.new.self = omega (arith, c.push_reserved.new.self.ok.0, c.push_reserved.new.self.ok.1) in
+    let room : length c.push.new.self ≤ most_entries = omega (arith, ap length c.push.ensures, length-append c.in-Ok-replay_all.replayed.1 (mark.Attached a ∷ []), c.in_default.ensures.ok) in
     record {
       within =
           kept_begun g.D.Disk
-          rs c.push_reserved.new.self.items (vec_capacity c.push_reserved.new.self) c.start_session.new.self log a payloads
+          rs c.push.new.self most_entries c.start_session.new.self log a payloads
           marks (new_begun c.args.s core c.start_session.new.self (min core.state.settings.budget (1000000 - count_by is_work rs)) a c.in-Ok-replay_all.ensures.replayed c.start_session.ensures c.args.s.lasts budget refl k refl)
           spelled pieces c.in-Ok.ensures.state.1 c.in-Ok.ensures.state.3 number faults room
           (λ tells. (
@@ -68,8 +68,8 @@ returns-clause-attached g c =
     let payloads : List (List ℕ) = payload_texts c.in-Ok.attached.1.items in
     let k : c.pieces-pieces.result ≡ c.args.s.pieces = c.pieces-pieces.ensures.value ∙ c.requires.tables in
     let a : Attachment = record { opened = c.opened.result; faults = c.faults.result; budget = c.budget.result; depth = c.args.s.depth; pieces = c.pieces-pieces.result; limit = c.args.s.lease } in
-    let marks : c.push_reserved.new.self.items ≡ map (λ _. mark.Put) rs ++ mark.Attached a ∷ [] =
-    c.push_reserved.ensures.items ∙ ap (λ (l : List Mark). l ++ mark.Attached a ∷ []) (c.reserve.ensures.items ∙ c.in-Ok-replay_all.ensures.marks) in
+    let marks : c.push.new.self ≡ map (λ _. mark.Put) rs ++ mark.Attached a ∷ [] =
+    c.push.ensures ∙ ap (λ (l : List Mark). l ++ mark.Attached a ∷ []) c.in-Ok-replay_all.ensures.marks in
     let budget : c.budget.result ≡ session_budget c.args.s.budget rs =
     c.budget.ensures ∙ (ap (λ (x : Core). x.state.settings.budget) c.start_session.ensures ∙ ap (λ n. session_budget n rs) (replayed_budget c.args.s core c.in-Ok-replay_all.ensures.replayed)) in
     let began : c.budget.result ≡ min core.state.settings.budget (1000000 - count_by is_work rs) = c.budget.ensures ∙ ap (λ (x : Core). x.state.settings.budget) c.start_session.ensures in
@@ -80,7 +80,7 @@ returns-clause-attached g c =
     record {
       replayed = rs;
       attachment = a;
-      line = line_begun rs c.push_reserved.new.self.items c.start_session.new.self a marks (ap (λ (x : Core). x.records) c.start_session.ensures)
+      line = line_begun rs c.push.new.self c.start_session.new.self a marks (ap (λ (x : Core). x.records) c.start_session.ensures)
           (ap (λ (x : Core). x.staged) c.start_session.ensures ∙ replayed_staged c.args.s core c.in-Ok-replay_all.ensures.replayed);
       read = λ honest. record {
         payloads = payloads;

@@ -1,5 +1,4 @@
 use Rattle.std.proofs.Common.{◌≡◌, ◌≤◌, ◌+◌, ◌++◌, ◌∷◌, [], List, length, map, arith, ap, sym, ◌∙◌, subst, false}
-use Rattle.std.specs.Vec.{vec_capacity}
 use Rattle.draughts_board.specs.Board.{Board}
 use Rattle.proof_tree.specs.Forest.{Forest}
 use Rattle.proof_tree.specs.Sound.{root_positions}
@@ -11,7 +10,7 @@ use Rattle.tree_manager.specs.declared.marks.Mark.TheVariants as mark
 use Rattle.tree_manager.specs.Lines.{is_failed}
 use Rattle.tree_manager.specs.Sessions.{SessionState, BeginsRoots, HasBegun, with_roots}
 use Rattle.tree_manager.proofs.BeginLemmas.{are_beginning, begin_refused, begun_stands, has_begun, kept_roots, rows_alive}
-use Rattle.tree_manager.specs.Keeping.{parts_of, state_of}
+use Rattle.tree_manager.specs.Keeping.{most_entries, parts_of, state_of}
 use Rattle.tree_manager.proofs.HistoryLaws.{history_stands}
 use Rattle.tree_manager.proofs.session.Session.begin.Goals as goal
 
@@ -23,13 +22,13 @@ commit_parts-requires-clause-within g c =
     let unfailed : c.self.inside.journal.failed ≡ false = cc (c.if-is_failed.false, c.is_failed.ensures) in
     let added : List Board = c.as_slice.result.now in
     let again : c.as_slice-2.result.now ≡ added = c.as_slice-2.ensures.keys ∙ sym c.as_slice.ensures.keys in
-    let marks : c.push_puts.new.marks.items ≡ c.self.inside.marks.items ++ map (λ (p : Board). mark.Put) added =
-    c.push_puts.ensures.items ∙ (ap (λ (l : List Mark). l ++ map (λ (p : Board). mark.Put) c.as_slice-2.result.now) c.reserve.ensures.items ∙ ap (λ (ps : List Board). c.self.inside.marks.items ++ map (λ (p : Board). mark.Put) ps) again) in
+    let marks : c.push_puts.new.marks ≡ c.self.inside.marks ++ map (λ (p : Board). mark.Put) added =
+    c.push_puts.ensures ∙ ap (λ (ps : List Board). c.self.inside.marks ++ map (λ (p : Board). mark.Put) ps) again in
     let count : c.len-count.result ≡ length added = c.len-count.ensures.len ∙ sym (ap length c.as_slice.ensures.keys) in
-    let room : length c.self.inside.marks.items + (c.self.inside.due + length added + length added) ≤ vec_capacity c.push_puts.new.marks =
-    omega (arith, c.in_ok-reserve.ensures.ok, c.reserve.ensures.len, c.self.inside.marks.ok.0, c.push_puts.ensures.capacity, count) in
+    let room : length c.self.inside.marks + (c.self.inside.due + length added + length added) ≤ most_entries =
+    omega (arith, c.in_ok-reserve.ensures.ok, count) in
     kept_roots g.D.Disk
-    c.self.inside.marks.items c.push_puts.new.marks.items (vec_capacity c.self.inside.marks) (vec_capacity c.push_puts.new.marks) c.self.inside.due (c.self.inside.due + c.len-count.result) c.self.inside.bench c.stage_roots.new.bench c.self.inside.journal c.stage_roots.new.journal added
+    c.self.inside.marks c.push_puts.new.marks most_entries most_entries c.self.inside.due (c.self.inside.due + c.len-count.result) c.self.inside.bench c.stage_roots.new.bench c.self.inside.journal c.stage_roots.new.journal added
     c.self.invariant.within unfailed marks c.in_ok-stage_roots.ensures.bench c.in_ok-stage_roots.ensures.may c.stage_roots.ensures.grows c.in_ok-stage_roots.ensures.journal (ap (λ n. c.self.inside.due + n) count) room
 
 pub returns-in-Ok-clause-begun : goal.returns-in-Ok-clause-begun
@@ -37,12 +36,12 @@ returns-in-Ok-clause-begun g c =
     let unfailed : c.self.inside.journal.failed ≡ false = cc (c.if-is_failed.false, c.is_failed.ensures) in
     let added : List Board = c.as_slice.result.now in
     let again : c.as_slice-2.result.now ≡ added = c.as_slice-2.ensures.keys ∙ sym c.as_slice.ensures.keys in
-    let marks : c.push_puts.new.marks.items ≡ c.self.inside.marks.items ++ map (λ (p : Board). mark.Put) added =
-    c.push_puts.ensures.items ∙ (ap (λ (l : List Mark). l ++ map (λ (p : Board). mark.Put) c.as_slice-2.result.now) c.reserve.ensures.items ∙ ap (λ (ps : List Board). c.self.inside.marks.items ++ map (λ (p : Board). mark.Put) ps) again) in
+    let marks : c.push_puts.new.marks ≡ c.self.inside.marks ++ map (λ (p : Board). mark.Put) added =
+    c.push_puts.ensures ∙ ap (λ (ps : List Board). c.self.inside.marks ++ map (λ (p : Board). mark.Put) ps) again in
     let all : root_positions c.self.inside.bench.state.forest ++ added ≡ with_roots (root_positions c.self.inside.bench.state.forest) c.args.positions.now =
     subst (λ (ps : List Board). root_positions c.self.inside.bench.state.forest ++ ps ≡ with_roots (root_positions c.self.inside.bench.state.forest) c.args.positions.now) (sym c.as_slice.ensures.keys)
     (subst (λ (f : Forest). root_positions f ++ c.in_ok-added.added.keys ≡ with_roots (root_positions f) c.args.positions.now) c.tree.ensures.forest c.in_ok-added.ensures.all) in
-    let mid = are_beginning c.self.inside.marks.items c.push_puts.new.marks.items c.self.inside.bench c.stage_roots.new.bench c.self.inside.journal c.stage_roots.new.journal c.args.positions.now added
+    let mid = are_beginning c.self.inside.marks c.push_puts.new.marks c.self.inside.bench c.stage_roots.new.bench c.self.inside.journal c.stage_roots.new.journal c.args.positions.now added
     c.self.invariant.within.filled marks c.in_ok-stage_roots.ensures.bench (ap (λ (l : Log g.row.D.Denot). l.disk) c.in_ok-stage_roots.ensures.journal.2) (sym c.self.invariant.within.failed ∙ unfailed) all in
     subst (λ (s : SessionState g.row.D.Denot). HasBegun s c.args.positions.now c.in-Ok.receipt.moment (state_of (parts_of c.commit_parts.new.marks c.commit_parts.new.due c.commit_parts.new.bench c.commit_parts.new.journal))) c.self.view_is
     (has_begun _ _ (state_of (parts_of c.commit_parts.new.marks c.commit_parts.new.due c.commit_parts.new.bench c.commit_parts.new.journal)) c.args.positions.now added c.in-Ok.receipt.moment mid (λ whole. c.in-Ok.ensures.idle) c.in-Ok.ensures.appends c.in-Ok.ensures.none_staged)
@@ -55,12 +54,12 @@ returns-clause-refused g c =
     let unfailed : c.self.inside.journal.failed ≡ false = cc (c.if-is_failed.false, c.is_failed.ensures) in
     let added : List Board = c.as_slice.result.now in
     let again : c.as_slice-2.result.now ≡ added = c.as_slice-2.ensures.keys ∙ sym c.as_slice.ensures.keys in
-    let marks : c.push_puts.new.marks.items ≡ c.self.inside.marks.items ++ map (λ (p : Board). mark.Put) added =
-    c.push_puts.ensures.items ∙ (ap (λ (l : List Mark). l ++ map (λ (p : Board). mark.Put) c.as_slice-2.result.now) c.reserve.ensures.items ∙ ap (λ (ps : List Board). c.self.inside.marks.items ++ map (λ (p : Board). mark.Put) ps) again) in
+    let marks : c.push_puts.new.marks ≡ c.self.inside.marks ++ map (λ (p : Board). mark.Put) added =
+    c.push_puts.ensures ∙ ap (λ (ps : List Board). c.self.inside.marks ++ map (λ (p : Board). mark.Put) ps) again in
     let all : root_positions c.self.inside.bench.state.forest ++ added ≡ with_roots (root_positions c.self.inside.bench.state.forest) c.args.positions.now =
     subst (λ (ps : List Board). root_positions c.self.inside.bench.state.forest ++ ps ≡ with_roots (root_positions c.self.inside.bench.state.forest) c.args.positions.now) (sym c.as_slice.ensures.keys)
     (subst (λ (f : Forest). root_positions f ++ c.in_ok-added.added.keys ≡ with_roots (root_positions f) c.args.positions.now) c.tree.ensures.forest c.in_ok-added.ensures.all) in
-    let mid = are_beginning c.self.inside.marks.items c.push_puts.new.marks.items c.self.inside.bench c.stage_roots.new.bench c.self.inside.journal c.stage_roots.new.journal c.args.positions.now added
+    let mid = are_beginning c.self.inside.marks c.push_puts.new.marks c.self.inside.bench c.stage_roots.new.bench c.self.inside.journal c.stage_roots.new.journal c.args.positions.now added
     c.self.invariant.within.filled marks c.in_ok-stage_roots.ensures.bench (ap (λ (l : Log g.row.D.Denot). l.disk) c.in_ok-stage_roots.ensures.journal.2) (sym c.self.invariant.within.failed ∙ unfailed) all in
     subst (λ (s : SessionState g.row.D.Denot). (is_failed s.line ≡ false) × (BeginsRoots s c.args.positions.now (entry.Broken (g.D.Disk.faults (state_of (parts_of c.commit_parts.new.marks c.commit_parts.new.due c.commit_parts.new.bench c.commit_parts.new.journal)).disk) ∷ []) (state_of (parts_of c.commit_parts.new.marks c.commit_parts.new.due c.commit_parts.new.bench c.commit_parts.new.journal)) × (((state_of (parts_of c.commit_parts.new.marks c.commit_parts.new.due c.commit_parts.new.bench c.commit_parts.new.journal)).core.state.forest ≡ s.core.state.forest) × Rose (g.D.Disk.faults s.disk) (g.D.Disk.faults (state_of (parts_of c.commit_parts.new.marks c.commit_parts.new.due c.commit_parts.new.bench c.commit_parts.new.journal)).disk)))) c.self.view_is
     (begin_refused g.D.Disk.faults _ _ (state_of (parts_of c.commit_parts.new.marks c.commit_parts.new.due c.commit_parts.new.bench c.commit_parts.new.journal)) c.args.positions.now added c.in-Err.field-0 mid c.in-Err.ensures.refused)

@@ -1,6 +1,5 @@
 use Rattle.std.proofs.Common.{◌≡◌, ℕ, List, sym, subst}
 use Rattle.std.specs.Prelude.{true, IfSome}
-use Rattle.std.specs.Vec.{vec_capacity}
 use Rattle.bench_disk.specs.declared.disk.Disk.{Ghosts}
 use Rattle.shared_words.specs.Counts.{Rose}
 use Rattle.bench_core.specs.States.{SessionSettings}
@@ -11,6 +10,7 @@ use Rattle.tree_manager.specs.Lines.{attachment_of, is_failed}
 use Rattle.tree_manager.specs.Histories.{IsCoreOf}
 use Rattle.tree_manager.specs.Receipts.{KeepsReceipts}
 use Rattle.tree_manager.specs.Sessions.{SessionState}
+use Rattle.tree_manager.specs.Keeping.{most_entries}
 use Rattle.tree_manager.proofs.HistoryLaws.{history_stands}
 use Rattle.tree_manager.proofs.CallLemmas.{receipts_of}
 use Rattle.tree_manager.proofs.session.Session.into_disk.Goals as goal
@@ -28,7 +28,7 @@ returns-clause-receipts g c honest =
     (rw (c.into_disk.ensures)
     (receipts_attached g.D.Disk _ _ _ (history_stands _ _ c.self.invariant.within.history).0
     (receipts_of g.D.Disk
-    c.self.inside.marks.items (vec_capacity c.self.inside.marks) c.self.inside.due c.self.inside.bench c.self.inside.journal c.self.invariant.within honest)))
+    c.self.inside.marks most_entries c.self.inside.due c.self.inside.bench c.self.inside.journal c.self.invariant.within honest)))
 
 pub returns-clause-broken : goal.returns-clause-broken
 returns-clause-broken g c =

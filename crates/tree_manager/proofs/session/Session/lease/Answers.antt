@@ -1,10 +1,10 @@
 use Rattle.std.proofs.Common.{rules, ◌≡◌, ◌≤◌, ◌+◌, ◌++◌, ◌∷◌, [], List, length, refl, sym, ap, ◌∙◌, subst, arith, length-append, true, false}
 use Rattle.std.specs.Prelude.{Ok}
-use Rattle.std.specs.Vec.{vec_capacity}
 use Rattle.bench_core.specs.States.{lease_answer}
 use Rattle.tree_manager.specs.declared.entries.Entry.TheVariants as entry
 use Rattle.tree_manager.specs.declared.marks.Mark.{Mark}
 use Rattle.tree_manager.specs.declared.marks.Mark.TheVariants as mark
+use Rattle.tree_manager.specs.Keeping.{most_entries}
 use Rattle.tree_manager.proofs.PickLemmas.{lease_worker}
 use Rattle.tree_manager.proofs.KeptLemmas.{line_other}
 use Rattle.tree_manager.proofs.CallLemmas.{appends_from, given_few, kept_leased}
@@ -17,25 +17,26 @@ use Rattle.tree_manager.proofs.session.Session.lease.Goals as goal
 
 pub lease-requires : goal.lease-requires
 lease-requires g c =
-    omega (arith, given_few c.self.inside.marks.items c.self.inside.bench c.self.invariant.within.filled c.self.invariant.within.history, c.self.inside.marks.ok.0, c.self.inside.marks.ok.1, c.self.inside.marks.small)
+    let unfailed : c.self.inside.journal.failed ≡ false = cc (c.if-is_failed.false, c.is_failed.ensures) in
+    omega (arith, given_few c.self.inside.marks c.self.inside.bench c.self.invariant.within.filled c.self.invariant.within.history, c.self.invariant.within.room unfailed)
 
 pub invariant_of-self-2 : goal.invariant_of-self-2
 invariant_of-self-2 g c =
     let unfailed : c.self.inside.journal.failed ≡ false = cc (c.if-is_failed.false, c.is_failed.ensures) in
-    let marks : c.push_reserved.new.self.items ≡ c.self.inside.marks.items ++ mark.Leased c.in_ok-lease.lease ∷ [] = c.push_reserved.ensures.items ∙ ap (λ (l : List Mark). l ++ mark.Leased c.in_ok-lease.lease ∷ []) c.reserve.ensures.items in
-    let room : length c.push_reserved.new.self.items + (c.self.inside.due + 2) ≤ vec_capacity c.push_reserved.new.self =
-    omega (arith, ap length marks, length-append c.self.inside.marks.items (mark.Leased c.in_ok-lease.lease ∷ []), c.push_reserved.ensures.capacity, c.in_ok-reserve.ensures.ok, c.reserve.ensures.len, c.self.inside.marks.ok.0) in
+    let marks : c.push.new.self ≡ c.self.inside.marks ++ mark.Leased c.in_ok-lease.lease ∷ [] = c.push.ensures in
+    let room : length c.push.new.self + (c.self.inside.due + 2) ≤ most_entries =
+    omega (arith, ap length marks, length-append c.self.inside.marks (mark.Leased c.in_ok-lease.lease ∷ []), c.in_ok-reserve.ensures.ok) in
     record {
-      within = kept_leased g.D.Disk c.self.inside.marks.items c.push_reserved.new.self.items (vec_capacity c.self.inside.marks) (vec_capacity c.push_reserved.new.self) c.self.inside.due c.self.inside.bench c.lease.new.self c.self.inside.journal c.args.worker c.in_ok-lease.lease c.self.invariant.within unfailed marks c.in_ok-lease.ensures.answer c.in_ok-lease.ensures.event room;
+      within = kept_leased g.D.Disk c.self.inside.marks c.push.new.self most_entries most_entries c.self.inside.due c.self.inside.bench c.lease.new.self c.self.inside.journal c.args.worker c.in_ok-lease.lease c.self.invariant.within unfailed marks c.in_ok-lease.ensures.answer c.in_ok-lease.ensures.event room;
       rootless = λ whole. rw c.in_ok-lease.ensures.event (c.self.invariant.rootless (sym c.self.invariant.within.failed ∙ unfailed));
     }
 
 pub returns-clause-appends : goal.returns-clause-appends
 returns-clause-appends g c =
     let lease = c.in_ok-lease.lease in
-    let marks : c.push_reserved.new.self.items ≡ c.self.inside.marks.items ++ mark.Leased lease ∷ [] = c.push_reserved.ensures.items ∙ ap (λ (l : List Mark). l ++ mark.Leased lease ∷ []) c.reserve.ensures.items in
+    let marks : c.push.new.self ≡ c.self.inside.marks ++ mark.Leased lease ∷ [] = c.push.ensures in
     appends_from _ _ _ _ c.self.view_is (record {
-      line = line_other c.self.inside.marks.items c.push_reserved.new.self.items c.self.inside.bench c.lease.new.self (mark.Leased lease) (entry.Leased lease) c.self.invariant.within.filled marks refl refl
+      line = line_other c.self.inside.marks c.push.new.self c.self.inside.bench c.lease.new.self (mark.Leased lease) (entry.Leased lease) c.self.invariant.within.filled marks refl refl
           (rw c.in_ok-lease.ensures.event refl);
       enters = (subst (λ w. lease_answer c.self.inside.bench.state w ≡ Ok lease) (sym (lease_worker c.self.inside.bench.state c.args.worker lease c.in_ok-lease.ensures.answer)) c.in_ok-lease.ensures.answer, c.in_ok-lease.ensures.event);
     })
@@ -52,7 +53,7 @@ returns-clause-grows g c = leases_grow _ _ c.args.worker (Ok c.in_ok-lease.lease
 
 pub returns-in_err-lease-clause-turn : goal.returns-in_err-lease-clause-turn
 returns-in_err-lease-clause-turn g c =
-    lease_turn c.args.self.now (record { line = woven c.reserve.new.self.items (c.lease.new.self.records ++ c.lease.new.self.staged); core = c.lease.new.self; disk = c.self.inside.journal.disk })
+    lease_turn c.args.self.now (record { line = woven c.self.inside.marks (c.lease.new.self.records ++ c.lease.new.self.staged); core = c.lease.new.self; disk = c.self.inside.journal.disk })
     (subst (λ (s : SessionState g.row.D.Denot). IsHistory s.line s.core) c.self.view_is c.self.invariant.within.history)
     (subst (λ (s : SessionState g.row.D.Denot). is_failed s.line ≡ true → EndsBroken s.line) c.self.view_is c.self.invariant.within.ended)
     c.args.worker c.from_residual-in_err-lease.result (search rules) (search rules) (search rules) (search rules)

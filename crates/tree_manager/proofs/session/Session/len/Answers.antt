@@ -5,5 +5,5 @@ use Rattle.tree_manager.proofs.session.Session.len.Goals as goal
 
 pub returns : goal.returns
 returns g c =
-    c.len.ensures ∙ (c.self.inside.marks.ok.0
-    ∙ (sym (line_length c.self.inside.marks.items c.self.inside.bench c.self.invariant.within.filled) ∙ ap (λ (s : SessionState g.row.D.Denot). length s.line) c.self.view_is))
+    c.len.ensures
+    ∙ (sym (line_length c.self.inside.marks c.self.inside.bench c.self.invariant.within.filled) ∙ ap (λ (s : SessionState g.row.D.Denot). length s.line) c.self.view_is)

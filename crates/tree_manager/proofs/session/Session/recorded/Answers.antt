@@ -15,10 +15,8 @@ returns g c unfailed =
       c.self.invariant.within.counted whole,
       c.self.invariant.within.as_many whole,
       c.self.invariant.within.filled,
-      puts_few c.self.inside.marks.items,
-      c.self.inside.marks.ok.0,
-      c.self.inside.marks.ok.1,
-      c.self.inside.marks.small,
+      puts_few c.self.inside.marks,
+      c.self.invariant.within.room whole,
       recorded_length _ _ c.self.invariant.within.history,
     )
     ∙ ap (λ (s : SessionState g.row.D.Denot). length (recorded s.line)) c.self.view_is

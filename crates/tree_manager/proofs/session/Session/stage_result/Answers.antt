@@ -1,9 +1,9 @@
 use Rattle.std.proofs.Common.{rules, ◌≡◌, ◌≤◌, ◌<◌, ◌++◌, [], length, sym, ap, ◌∙◌, subst, arith, true, false}
-use Rattle.std.specs.Vec.{vec_capacity}
 use Rattle.bench_records.specs.declared.records.BenchRecord.{BenchRecord}
 use Rattle.bench_records.specs.Texts.{IsText}
 use Rattle.bench_core.specs.Records.{begun}
 use Rattle.bench_core.specs.Cores.{Core, IsForgotten, record_of}
+use Rattle.tree_manager.specs.Keeping.{most_entries}
 use Rattle.tree_manager.proofs.ForgetLemmas.{forgotten_back}
 use Rattle.tree_manager.proofs.KeptLemmas.{line_put}
 use Rattle.tree_manager.proofs.RootlessLemmas.{result_rootless}
@@ -29,7 +29,7 @@ invariant_of-self-in-Err g c =
     let r : BenchRecord = record_of c.args.found.lease c.args.found.outcome in
     let back : c.forget_ready.new.self ≡ core = forgotten_back _ core c.forget_ready.new.self r c.self.invariant.within.history c.in_ok-text.ensures.may (subst (λ x. IsForgotten x c.forget_ready.new.self) c.in_ok-text.ensures.staged c.forget_ready.ensures) in
     record {
-      within = keeps_back g.D.Disk c.self.inside.marks.items (vec_capacity c.self.inside.marks) c.self.inside.due core c.forget_ready.new.self c.self.inside.journal c.stage.new.self back c.in-Err.ensures.err c.self.invariant.within;
+      within = keeps_back g.D.Disk c.self.inside.marks most_entries c.self.inside.due core c.forget_ready.new.self c.self.inside.journal c.stage.new.self back c.in-Err.ensures.err c.self.invariant.within;
       rootless = λ whole. rw back (c.self.invariant.rootless (sym c.self.invariant.within.failed ∙ cc (c.if-is_failed.false, c.is_failed.ensures)));
     }
 
@@ -38,7 +38,7 @@ returns-in-Err-clause-unchanged g c =
     let core : Core = c.self.inside.bench in
     let r : BenchRecord = record_of c.args.found.lease c.args.found.outcome in
     let back : c.forget_ready.new.self ≡ core = forgotten_back _ core c.forget_ready.new.self r c.self.invariant.within.history c.in_ok-text.ensures.may (subst (λ x. IsForgotten x c.forget_ready.new.self) c.in_ok-text.ensures.staged c.forget_ready.ensures) in
-    seen_back c.self.inside.marks.items core c.forget_ready.new.self c.self.inside.journal c.stage.new.self back c.in-Err.ensures.err ∙ c.self.view_is
+    seen_back c.self.inside.marks core c.forget_ready.new.self c.self.inside.journal c.stage.new.self back c.in-Err.ensures.err ∙ c.self.view_is
 
 pub invariant_of-self-2 : goal.invariant_of-self-2
 invariant_of-self-2 g c =
@@ -46,9 +46,9 @@ invariant_of-self-2 g c =
     let core : Core = c.self.inside.bench in
     let r : BenchRecord = record_of c.args.found.lease c.args.found.outcome in
     let text : c.deref.result.now ≡ c.in_ok-text.text.items = c.deref.ensures.value in
-    let more : vec_capacity c.self.inside.marks ≤ vec_capacity c.push_reserved.new.self = omega (arith, c.push_reserved.ensures.capacity) in
+    let more : most_entries ≤ most_entries = omega arith in
     record {
-      within = kept_result g.D.Disk c.self.inside.marks.items c.push_reserved.new.self.items (vec_capacity c.self.inside.marks) (vec_capacity c.push_reserved.new.self) c.self.inside.due core c.ready_result.new.self r c.deref.result.now c.self.inside.journal c.stage.new.self c.self.invariant.within unfailed c.push_reserved.ensures.items c.in_ok-text.ensures.may (outcome_result core c.args.found.lease c.args.found.outcome c.in_ok-text.ensures.may) (subst (λ t. IsText core.state.settings.pieces (core.records ++ core.staged) r t) (sym text) c.in_ok-text.ensures.text) c.in_ok-text.ensures.staged c.in_ok-text.ensures.grows c.in_default.ensures.ok more;
+      within = kept_result g.D.Disk c.self.inside.marks c.push.new.self most_entries most_entries c.self.inside.due core c.ready_result.new.self r c.deref.result.now c.self.inside.journal c.stage.new.self c.self.invariant.within unfailed c.push.ensures c.in_ok-text.ensures.may (outcome_result core c.args.found.lease c.args.found.outcome c.in_ok-text.ensures.may) (subst (λ t. IsText core.state.settings.pieces (core.records ++ core.staged) r t) (sym text) c.in_ok-text.ensures.text) c.in_ok-text.ensures.staged c.in_ok-text.ensures.grows c.in_default.ensures.ok more;
       rootless = λ whole. ap (λ (x : Core). begun x.staged) c.in_ok-text.ensures.staged
           ∙ result_rootless core.staged c.args.found.lease c.args.found.outcome (c.self.invariant.rootless (sym c.self.invariant.within.failed ∙ unfailed));
     }
@@ -58,7 +58,7 @@ returns-clause-appends g c =
     let core : Core = c.self.inside.bench in
     let r : BenchRecord = record_of c.args.found.lease c.args.found.outcome in
     appends_from _ _ _ _ c.self.view_is (record {
-      line = line_put c.self.inside.marks.items c.push_reserved.new.self.items core c.ready_result.new.self r c.self.invariant.within.filled c.push_reserved.ensures.items
+      line = line_put c.self.inside.marks c.push.new.self core c.ready_result.new.self r c.self.invariant.within.filled c.push.ensures
           (ap (λ (x : Core). x.records) c.in_ok-text.ensures.staged) (ap (λ (x : Core). x.staged) c.in_ok-text.ensures.staged);
       enters = (c.in_ok-text.ensures.may, c.in_ok-text.ensures.staged);
     })
@@ -79,7 +79,7 @@ returns-in-Err-clause-grows g c =
 
 pub returns-in_err-text-clause-turn : goal.returns-in_err-text-clause-turn
 returns-in_err-text-clause-turn g c =
-    stage_turn c.args.self.now (record { line = woven c.self.inside.marks.items (c.ready_result.new.self.records ++ c.ready_result.new.self.staged); core = c.ready_result.new.self; disk = c.self.inside.journal.disk })
+    stage_turn c.args.self.now (record { line = woven c.self.inside.marks (c.ready_result.new.self.records ++ c.ready_result.new.self.staged); core = c.ready_result.new.self; disk = c.self.inside.journal.disk })
     (subst (λ (s : SessionState g.row.D.Denot). IsHistory s.line s.core) c.self.view_is c.self.invariant.within.history)
     (subst (λ (s : SessionState g.row.D.Denot). is_failed s.line ≡ true → EndsBroken s.line) c.self.view_is c.self.invariant.within.ended)
     c.args.found.lease c.args.found.outcome c.from_residual.result (search rules) (search rules) (search rules) (search rules)

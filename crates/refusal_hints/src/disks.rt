@@ -1,6 +1,8 @@
-//! What a person is told of the journal's file: why the system refused a call, that there is no file, or that another run has it
-//! open.
-use bench_edges::Command;
+//! What a person is told of the journal's file: why the system refused a call, that there is no file,
+//! or that another run has it open.
+ghost use Rattle.std.specs.Prelude.{All, IfOk, IfSome};
+ghost use Rattle.terminal_text.specs.Shown.{IsShown};
+
 use std::alloc::{AllocError, Global};
 use std::io::ErrorKind;
 use terminal_text::{quote, say, shown};
@@ -47,12 +49,15 @@ fn say_path(text: &mut Vec<u8>, path: &str) -> Result<(), AllocError> {
     say(text, "`")
 }
 
-/// The text on a file that failed for this cause; none where nothing is known of it.
-pub(crate) fn failed_text(
+/// The text on a file that failed for this cause; none if nothing is known of it. It fails only for
+/// want of memory.
+pub fn failed_text(
     alloc: Global,
     path: &str,
     cause: Option<ErrorKind>,
-) -> Result<Option<Vec<u8>>, AllocError> {
+) -> Result<Option<Vec<u8>>, AllocError>
+    ensures safe { IfOk result (λ told. IfSome told (λ text. All IsShown text.items)) }
+{
     let Some(told) = cause.and_then(told_of) else {
         return Ok(None);
     };
@@ -68,8 +73,10 @@ pub(crate) fn failed_text(
     Ok(Some(shown(alloc, &text)?))
 }
 
-/// The text on a file that is not there.
-pub(crate) fn missing_text(alloc: Global, path: &str) -> Result<Vec<u8>, AllocError> {
+/// The text on a file that is not there. It fails only for want of memory.
+pub fn missing_text(alloc: Global, path: &str) -> Result<Vec<u8>, AllocError>
+    ensures safe { IfOk result (λ text. All IsShown text.items) }
+{
     let mut text = Vec::new(alloc);
     say(&mut text, "There is no file ")?;
     say_path(&mut text, path)?;
@@ -77,8 +84,10 @@ pub(crate) fn missing_text(alloc: Global, path: &str) -> Result<Vec<u8>, AllocEr
     shown(alloc, &text)
 }
 
-/// The text on a journal that another run has open.
-pub(crate) fn other_run_text(alloc: Global, path: &str) -> Result<Vec<u8>, AllocError> {
+/// The text on a journal that another run has open. It fails only for want of memory.
+pub fn other_run_text(alloc: Global, path: &str) -> Result<Vec<u8>, AllocError>
+    ensures safe { IfOk result (λ text. All IsShown text.items) }
+{
     let mut text = Vec::new(alloc);
     say(&mut text, "Another run has the journal ")?;
     say_path(&mut text, path)?;
@@ -88,14 +97,4 @@ pub(crate) fn other_run_text(alloc: Global, path: &str) -> Result<Vec<u8>, Alloc
             other one has ended.\n",
     )?;
     shown(alloc, &text)
-}
-
-/// The command writes to its journal.
-pub(crate) fn writes(command: Option<Command>) -> bool {
-    matches!(command, Some(Command::Solve(_) | Command::Generate { .. }))
-}
-
-/// The command looks at its journal, and writes nothing to it.
-pub(crate) fn looks(command: Option<Command>) -> bool {
-    matches!(command, Some(Command::Report | Command::Certify(_)))
 }

@@ -1,0 +1,10 @@
+pub mod AloneLemmas
+pub mod Those
+pub mod TrimLaws
+pub mod PlaceLemmas
+pub mod WalkLemmas
+pub mod Gathering
+pub mod BookLemmas
+pub mod AnswerLemmas
+pub mod Adding
+pub mod Worked

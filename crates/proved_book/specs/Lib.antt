@@ -1,0 +1,6 @@
+pub mod Trimming
+pub mod Walking
+pub mod Books
+pub mod Laws
+pub mod Examples
+pub mod OneParts
