@@ -318,7 +318,7 @@ module _ {D : Type 0} (faults : D → ℕ) (old new : SessionState D) (positions
   failed_goes_on is = let failed = subst (RefusesBegin faults old positions new) is refuses in same_goes_on old new failed.1
 
   pub too_many_go_on : refusal ≡ begin.TooManyRoots → GoesOnFrom old.line new.line
-  too_many_go_on is = let many = subst (RefusesBegin faults old positions new) is refuses in same_goes_on old new many.1
+  too_many_go_on is = let many = subst (RefusesBegin faults old positions new) is refuses in same_goes_on old new many.1.1
 
   pub memory_goes_on : (error : AllocError) → refusal ≡ begin.Memory error → GoesOnFrom old.line new.line
-  memory_goes_on error is = same_goes_on old new (subst (RefusesBegin faults old positions new) is refuses)
+  memory_goes_on error is = let want = subst (RefusesBegin faults old positions new) is refuses in same_goes_on old new want.1

@@ -203,6 +203,7 @@ has_begun old mid new positions added moment h idle appends none = ⊎_elim
       last = [];
       roots = record { added = added; all = h.all; line = ap (λ (s : SessionState _). s.line) (idle h.unfailed nothing) ∙ (h.line ∙ ap (λ l. old.line ++ l) (sym (append-nil (root_puts added)))) };
       acknowledged = inl refl;
+      exactly = ((λ is. subst (λ (c : Core). c.staged ≡ []) h.core nothing), (λ is. refl));
       applied = inl (ap (λ (s : SessionState _). s.core) (idle h.unfailed nothing) ∙ h.core);
       none_staged = none;
     })
@@ -210,6 +211,7 @@ has_begun old mid new positions added moment h idle appends none = ⊎_elim
       last = entry.Acked moment ∷ [];
       roots = record { added = added; all = h.all; line = (appends some).line ∙ (ap (λ l. l ++ entry.Acked moment ∷ []) h.line ∙ append_assoc old.line (root_puts added) (entry.Acked moment ∷ [])) };
       acknowledged = inr refl;
+      exactly = ((λ is. absurd (cc is)), (λ is. absurd (some (subst (λ (c : Core). c.staged ≡ []) (sym h.core) is))));
       applied = inr (subst (λ (c : Core). IsCommitted c new.core) h.core (appends some).enters);
       none_staged = none;
     })

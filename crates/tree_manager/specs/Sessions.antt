@@ -1,5 +1,5 @@
 -- A session as its callers see it, what each call does to it, and why it refuses.
-use Rattle.std.specs.Prelude.{◌≡◌, ◌⊎◌, ◌+◌, ◌<◌, ℕ, true, false, cond, min, ◌-◌, List, [], ◌∷◌, ◌++◌, map, length, count_by, Contains, Result}
+use Rattle.std.specs.Prelude.{◌≡◌, ◌⊎◌, ◌↔◌, ◌+◌, ◌<◌, ℕ, true, false, cond, min, ◌-◌, List, [], ◌∷◌, ◌++◌, map, length, count_by, Contains, Result}
 use Rattle.std.specs.List.{list_any, AllByRecursion as Each}
 use Rattle.bench_disk.specs.declared.disk.Disk.{Ghosts}
 use Rattle.draughts_board.specs.Board.{Board, same_board}
@@ -146,13 +146,14 @@ pub record BeginsRoots {D : Type 0} (old : SessionState D) (positions : List Boa
       ≡ with_roots (root_positions old.core.state.forest) positions
   pub line : new.line ≡ old.line ++ (map (λ p. Put (Begin p)) added ++ last)
 
--- .. and by an acknowledgement, where there was something to commit. The bench has staged the roots,
--- and applied what was staged, if that was anything.
+-- .. and by an acknowledgement, exactly where there was something to commit: roots that were added, or
+-- what was staged before. The bench has staged the roots, and applied what was staged.
 pub record HasBegun {D : Type 0} (old : SessionState D) (positions : List Board) (moment : ℕ)
     (new : SessionState D) : Type 0 where
   pub last : List Entry
   pub roots : BeginsRoots old positions last new
   pub acknowledged : (last ≡ []) ⊎ (last ≡ Acked moment ∷ [])
+  pub exactly : (last ≡ []) ↔ ((with_roots_staged old.core roots.added).staged ≡ [])
   pub applied : (new.core ≡ with_roots_staged old.core roots.added)
       ⊎ IsCommitted (with_roots_staged old.core roots.added) new.core
   pub none_staged : new.core.staged ≡ []
@@ -161,13 +162,16 @@ abbrev pub RefusesBegin : {D : Type 0} → (D → ℕ) → SessionState D → Li
     → BeginRefusal → Type 0
 RefusesBegin faults old positions new begin.Failed = (is_failed old.line ≡ true) × (new ≡ old)
 RefusesBegin faults old positions new begin.TooManyRoots =
-    (MOST_ROOTS < length (with_roots (root_positions old.core.state.forest) positions)) × (new ≡ old)
+    (is_failed old.line ≡ false)
+    × ((MOST_ROOTS < length (with_roots (root_positions old.core.state.forest) positions))
+    × (new ≡ old))
 RefusesBegin faults old positions new begin.Disk =
     (is_failed old.line ≡ false)
     × (BeginsRoots old positions (Broken (faults new.disk) ∷ []) new
     × ((new.core.state.forest ≡ old.core.state.forest)
     × Rose (faults old.disk) (faults new.disk)))
-RefusesBegin faults old positions new (begin.Memory error) = new ≡ old
+RefusesBegin faults old positions new (begin.Memory error) =
+    (is_failed old.line ≡ false) × (new ≡ old)
 
 -- ---- turns
 
