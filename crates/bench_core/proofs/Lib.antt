@@ -25,3 +25,4 @@ pub mod KnownAtSight
 pub mod WaitingLemmas
 pub mod NamingLemmas
 pub mod ReadLemmas
+pub mod GrownForests

@@ -6,6 +6,7 @@ use Rattle.draughts_board.specs.Game.{HasValue}
 use Rattle.strategy_certificate.specs.declared.oracle.Answer.{Answer}
 use Rattle.strategy_certificate.specs.Tables.{IsSoundTable}
 use Rattle.proof_tree.specs.Forest.{Forest, nodes, value_of}
+use Rattle.proof_tree.specs.Laws.{IsSettledWhereResolved}
 use Rattle.proof_tree.specs.Sound.{root_positions}
 use Rattle.lease_table.specs.declared.leases.Row.{Row}
 use Rattle.bench_records.specs.declared.records.BenchRecord.{BenchRecord}
@@ -43,3 +44,9 @@ abbrev pub RootsAreThoseBegun : Type 0
 RootsAreThoseBegun =
     (k : ℕ) (records : List BenchRecord) (roots : Forest) → IsForestOf k records roots
     → root_positions roots ≡ begun records
+
+-- In that forest a root has a value exactly where it is resolved for both goals.
+abbrev pub RecordsSettleWhatTheyResolve : Type 0
+RecordsSettleWhatTheyResolve =
+    (k : ℕ) (records : List BenchRecord) (roots : Forest) → IsForestOf k records roots
+    → All IsSettledWhereResolved (nodes roots)

@@ -16,7 +16,7 @@
 //!
 //! `laws`: every list of events leads from a sound state to a sound one, whose settled roots have
 //! true values and in which no leaf has two leases. One list of records has one forest, whose roots
-//! are those that it begins.
+//! are those that it begins, and have a value exactly where they are resolved for both goals.
 //!
 //! Tests: core_trial/src/main.rt, session_tests/src/sessions.rt
 #![tactic(auto)]

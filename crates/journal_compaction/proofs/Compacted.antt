@@ -19,10 +19,11 @@ use Rattle.bench_core.proofs.OneForest.{records_have_one_forest}
 use Rattle.journal_compaction.specs.Compactions.{StandsForBegin, StandsFor, IsCompactionFrom, end_in, IsCompaction}
 use Rattle.journal_compaction.specs.Laws.{CompactionsAreLawful, HaveSameRoots, CompactionsKeepNumbers}
 use Rattle.journal_compaction.specs.Names.{Names, IsRootAlike, AreRootsAlike, AreInStep}
-use Rattle.journal_compaction.proofs.Folds.{AreConsistent, settled_numbers, value_numbers, seen_numbers}
+use Rattle.proof_tree.proofs.Opposed.{AreConsistent, are_consistent, settled_numbers}
+use Rattle.journal_compaction.proofs.Folds.{value_numbers, seen_numbers}
 use Rattle.journal_compaction.proofs.Alike.{same_numbers, alike_numbers}
 use Rattle.journal_compaction.proofs.Found.{named_place, unnamed_place}
-use Rattle.journal_compaction.proofs.Growth.{IsGrown, nothing_grown, grown_with, grown_with_all, sound_of, one_with_all}
+use Rattle.bench_core.proofs.GrownForests.{IsGrown, nothing_grown, grown_with, grown_with_all, sound_of, one_with_all}
 use Rattle.journal_compaction.proofs.Steps.{same_positions, Compacts, step_solve, step_expand, step_solve_dropped, step_expand_dropped, step_begin, step_begin_seen, step_begin_solved}
 
 pub grows_append : (k : ℕ) (f : Forest) (made rest : List BenchRecord) (g h : Forest) → GrowsWithAll k f made g → GrowsWithAll k g rest h → GrowsWithAll k f (made ++ rest) h
@@ -123,10 +124,6 @@ pub compactions_are_lawful : CompactionsAreLawful
 compactions_are_lawful k old new c = let all = all_in_step k old new c in (all.another, all.grows_another)
 
 -- ---- the roots in the end
-
-are_consistent : (path : List Board) (f : Forest) → EachNode IsSoundNode path f → AreConsistent f
-are_consistent path no_node h = tt
-are_consistent path (node a below others) h = ((let s = h.0 in s.consistent), (are_consistent (a.position ∷ path) below h.1.0, are_consistent path others h.1.1))
 
 root_same : (k : ℕ) (names : Names) (count : ℕ) (e : Option Value) (a : Own) (below : Forest) (b : Own) (under : Forest) → value_of (record { own = a; children = below }) ≡ e
     → IsConsistent a.facts → AreConsistent below → KnowsSight k (record { own = a; children = below }) → IsRootAlike k names count e a below b under

@@ -21,7 +21,7 @@ use Rattle.bench_core.specs.Growing.{GrowsWith, GrowsWithAll}
 use Rattle.bench_core.proofs.Leaves.{leaf_childless}
 use Rattle.bench_core.proofs.SoundGrowth.{some_of}
 use Rattle.journal_compaction.proofs.Sizes.{zero_by, few_by}
-use Rattle.journal_compaction.proofs.Growth.{IsGrown, grown_with, sound_of}
+use Rattle.bench_core.proofs.GrownForests.{IsGrown, grown_with, sound_of}
 
 -- how many children the nodes with this number have
 kids : ℕ → Forest → ℕ

@@ -5,7 +5,6 @@ pub mod Alike
 pub mod Expanding
 pub mod Sizes
 pub mod Found
-pub mod Growth
 pub mod Steps
 pub mod Compacted
 pub mod Kids

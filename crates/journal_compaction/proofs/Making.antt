@@ -24,7 +24,7 @@ use Rattle.journal_compaction.specs.Places.{AreAtOnePlace}
 use Rattle.journal_compaction.proofs.Alike.{named_not_unnamed, one_name}
 use Rattle.journal_compaction.proofs.Compacted.{nothing_in_step, grows_append}
 use Rattle.journal_compaction.proofs.Found.{placed, Placed}
-use Rattle.journal_compaction.proofs.Growth.{IsGrown, nothing_grown, grown_with_all, sound_of, one_with_all}
+use Rattle.bench_core.proofs.GrownForests.{IsGrown, nothing_grown, grown_with_all, sound_of, one_with_all}
 use Rattle.journal_compaction.proofs.Kids.{children_last}
 use Rattle.journal_compaction.proofs.Steps.{Compacts, children_of, step_solve, step_expand, step_solve_dropped, step_expand_dropped, step_begin, step_begin_seen, step_begin_solved}
 

@@ -120,17 +120,17 @@ leaf-keepable goal facts repeats mover moves h =
 -- there is room for the sum of what a row's children keep, and for the row's own numbers, where all rows behind it fit
 module _ (rows : List NodeRow) (links : AreLinked rows) (small : AreSmall rows) (at : ℕ) (inside : at < length rows)
     (fits : (k : ℕ) → at < k → k < length rows → Fits rows k) (goal : Side) where
-  room_for : (xs : List Numbers) → (finite_sum (map (λ x. x.proof) xs) < 2 ^ 63) × (finite_sum (map (λ x. x.disproof) xs) < 2 ^ 63)
-      → (by_proof : Bool) → finite_sum (map (left_to_show by_proof) xs) < 2 ^ 63
+  room_for : (xs : List Numbers) → (finite_sum (map (λ x. x.proof) xs) < 2 ^ 32 - 1) × (finite_sum (map (λ x. x.disproof) xs) < 2 ^ 32 - 1)
+      → (by_proof : Bool) → finite_sum (map (left_to_show by_proof) xs) < 2 ^ 32 - 1
   room_for xs h true = h.0
   room_for xs h false = h.1
 
   children : Forest
   children = forest (slice_of (row_at rows at) (nodes_from 0 rows))
 
-  few : 1 + size children < 2 ^ 57
+  few : 1 + size children < 2 ^ 26
   unfolding children
-  few = subst (λ (x : Node). 1 + size x.children < 2 ^ 57) ((IsMeaning-nodes rows links).at at inside) (small at inside)
+  few = subst (λ (x : Node). 1 + size x.children < 2 ^ 26) ((IsMeaning-nodes rows links).at at inside) (small at inside)
 
   kept-children : map (kept_numbers goal) (slice_of (row_at rows at) rows) ≡ numbers goal children
   unfolding children
@@ -140,7 +140,7 @@ module _ (rows : List NodeRow) (links : AreLinked rows) (small : AreSmall rows) 
       slice-is rows links xs fit goal at inside
       (λ j after l. kept-is rows links xs fit goal (suc at) (λ k from l'. fits_for rows goal k (fits k from l')) j after l)
 
-  pub room : (by_proof : Bool) → finite_sum (map (λ (r : NodeRow). left_to_show by_proof (kept_numbers goal r)) (slice_of (row_at rows at) rows)) < 2 ^ 63
+  pub room : (by_proof : Bool) → finite_sum (map (λ (r : NodeRow). left_to_show by_proof (kept_numbers goal r)) (slice_of (row_at rows at) rows)) < 2 ^ 32 - 1
   room by_proof =
       let n = numbers_small goal children in
       let f = few in
@@ -148,12 +148,12 @@ module _ (rows : List NodeRow) (links : AreLinked rows) (small : AreSmall rows) 
       (rw kept-children (room_for (numbers goal children) (omega (arith, n.0, f), omega (arith, n.1, f)) by_proof))
 
   pub room_in : (row : NodeRow) → row ≡ get_or rows at row → (by_proof : Bool)
-      → finite_sum (map (λ (r : NodeRow). left_to_show by_proof (kept_numbers goal r)) (take (row.first + row.count - row.first) (drop row.first rows))) < 2 ^ 63
+      → finite_sum (map (λ (r : NodeRow). left_to_show by_proof (kept_numbers goal r)) (take (row.first + row.count - row.first) (drop row.first rows))) < 2 ^ 32 - 1
   room_in row e by_proof =
       let same : row ≡ row_at rows at = get_or_read rows at row inside e blank in
       let count : row.first + row.count - row.first ≡ row.count = omega arith in
       rw count
-      (subst (λ (r : NodeRow). finite_sum (map (λ (q : NodeRow). left_to_show by_proof (kept_numbers goal q)) (slice_of r rows)) < 2 ^ 63) (sym same) (room by_proof))
+      (subst (λ (r : NodeRow). finite_sum (map (λ (q : NodeRow). left_to_show by_proof (kept_numbers goal q)) (slice_of r rows)) < 2 ^ 32 - 1) (sym same) (room by_proof))
 
 shown : (fold : List Number → Number) (by_proof : Bool) (goal : Side) (xs : List NodeRow) (a : Number)
     → a ≡ fold (map (λ (r : NodeRow). left_to_show by_proof (kept_numbers goal r)) xs) → a ≡ fold (map (left_to_show by_proof) (map (kept_numbers goal) xs))

@@ -185,7 +185,7 @@ size-forest rows links =
     root_sum rows links (nodes_from 0 rows) fit 0 rows (λ i l. ap (row_at rows) (let z : i ≡ 0 + i = omega arith in z))
     ∙ tops rows links (nodes_from 0 rows) fit (length rows) 0 (omega arith)
 
-pub AreSmall-linked : (rows : List NodeRow) → AreLinked rows → length rows < 2 ^ 57 → AreSmall rows
+pub AreSmall-linked : (rows : List NodeRow) → AreLinked rows → length rows < 2 ^ 26 → AreSmall rows
 unfolding w weight
 AreSmall-linked rows links few k l =
     let m = w-most rows links (nodes_from 0 rows) (IsMeaning-nodes rows links) k l in omega (arith, m)

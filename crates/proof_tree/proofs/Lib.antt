@@ -29,3 +29,4 @@ pub mod Picked
 pub mod RootLemmas
 pub mod Settled
 pub mod Fronts
+pub mod Opposed

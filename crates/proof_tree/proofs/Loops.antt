@@ -34,10 +34,10 @@ finite_sum-take f [] (suc i) = omega arith
 finite_sum-take f (x ∷ xs) (suc i) = omega (arith, finite_sum-take f xs i)
 
 pub total_fits : (f : NodeRow → Number) (xs : List NodeRow) (i : ℕ) (x : NodeRow) → i < length xs → x ≡ get_or xs i x
-    → finite_sum (map f xs) < 2 ^ 63 → IsFinitely (2 ^ 64 - 1) (total (total_of (map f (take i xs))) (f x))
+    → finite_sum (map f xs) < 2 ^ 32 - 1 → IsFinitely (2 ^ 32 - 1) (total (total_of (map f (take i xs))) (f x))
 total_fits f xs i x l at h =
-    subst (IsFinitely (2 ^ 64 - 1)) (total_more f xs i x l at)
-    (total_within (2 ^ 64 - 1) (map f (take (i + 1) xs)) (omega (arith, finite_sum-take f xs (i + 1))))
+    subst (IsFinitely (2 ^ 32 - 1)) (total_more f xs i x l at)
+    (total_within (2 ^ 32 - 1) (map f (take (i + 1) xs)) (omega (arith, finite_sum-take f xs (i + 1))))
 
 pub least_whole : (f : NodeRow → Number) (xs : List NodeRow) (i : ℕ) → length xs ≤ i → least_of (map f (take i xs)) ≡ least_of (map f xs)
 least_whole f xs i h = ap (λ (ys : List NodeRow). least_of (map f ys)) (take_all i xs h)

@@ -41,7 +41,7 @@ nodes_from-rekept rows after links same =
 
 pub AreSmall-rekept : (rows after : List NodeRow) → AreLinked rows → AreRekept rows after → AreSmall rows → AreSmall after
 AreSmall-rekept rows after links same small k l =
-    subst (λ (xs : List Node). 1 + size (node_in xs k).children < 2 ^ 57) (sym (nodes_from-rekept rows after links same))
+    subst (λ (xs : List Node). 1 + size (node_in xs k).children < 2 ^ 26) (sym (nodes_from-rekept rows after links same))
     (small k (omega (arith, same.links.as_long)))
 
 slice_set : (r : NodeRow) (rows : List NodeRow) (k : ℕ) (x : NodeRow) → (k < r.first) ⊎ (r.first + r.count ≤ k) → slice_of r (set rows k x) ≡ slice_of r rows
@@ -158,7 +158,7 @@ module _ (start rows : List NodeRow) (links : AreLinked start) (at : Option ℕ)
   pub links_now : AreLinked rows
   links_now = AreLinked-same start rows so.same.links links
 
-  pub few_now : length start < 2 ^ 57 → length rows < 2 ^ 57
+  pub few_now : length start < 2 ^ 26 → length rows < 2 ^ 26
   few_now few = let e = so.same.links.as_long in omega (arith, few, e)
 
   inside_now : k < length rows

@@ -86,14 +86,14 @@ module _ (rows : List NodeRow) (n : ℕ) (children : List Child) (links : AreLin
   abbrev new_n : NodeRow
   new_n = record (row_at pushed n) { mark = Expanded; first = length rows; count = length children }
 
-  long : length pushed ≡ length rows + length children
-  long = length-append rows _ ∙ ap (λ (k : ℕ). length rows + k) (length-new_rows (path rows (Some n)) n (length rows) children)
+  pub pushed-long : length pushed ≡ length rows + length children
+  pushed-long = length-append rows _ ∙ ap (λ (k : ℕ). length rows + k) (length-new_rows (path rows (Some n)) n (length rows) children)
 
   pushed_old : (k : ℕ) → k < length rows → row_at pushed k ≡ row_at rows k
   pushed_old k l = get_or_append_left rows _ blank k l
 
   after_n : row_at after n ≡ new_n
-  after_n = get_or-set_same pushed n new_n blank (omega (arith, long))
+  after_n = get_or-set_same pushed n new_n blank (omega (arith, pushed-long))
 
   after_other : (k : ℕ) → k ≢ n → row_at after k ≡ row_at pushed k
   after_other k h = get_or-set_other pushed n k new_n blank h
@@ -120,7 +120,7 @@ module _ (rows : List NodeRow) (n : ℕ) (children : List Child) (links : AreLin
   pub AreExpanded-after : AreExpanded rows after n children
   AreExpanded-after =
       record {
-        as_long = length-set pushed n new_n ∙ long;
+        as_long = length-set pushed n new_n ∙ pushed-long;
         old_own = λ k l h. ap (own_of k) (after_old k l h);
         old_first = λ k l h. ap (λ (r : NodeRow). r.first) (after_old k l h);
         old_count = λ k l h. ap (λ (r : NodeRow). r.count) (after_old k l h);
@@ -165,7 +165,7 @@ module _ (rows : List NodeRow) (n : ℕ) (children : List Child) (links : AreLin
       (λ past.
       let i : ℕ = k - length rows in
       let back : length rows + i ≡ k = omega arith in
-      let few : i < length children = omega (arith, long) in
+      let few : i < length children = omega (arith, pushed-long) in
       subst (Fits after) back (record { black = fits_new Black i few; white = fits_new White i few }))
       (cases_lt k (length rows))
 

@@ -1,6 +1,6 @@
 -- What the rows of the table mean. Nobody has to believe these definitions: that rows and forest
 -- agree is proved.
-use Rattle.std.specs.Prelude.{if◌then◌else◌, ◌≡◌, ◌≢◌, ℕ, zero, suc, ◌+◌, ◌-◌, ◌^◌, ◌<◌, ◌≤◌, false, List, [], ◌∷◌, map, length, take, drop, set, get_or, slice_get, Option, Some, None, is_some, IfSome, IsSome, IsSomeAnd, min}
+use Rattle.std.specs.Prelude.{if◌then◌else◌, ◌≡◌, ◌≢◌, ℕ, zero, suc, ◌+◌, ◌-◌, ◌^◌, ◌<◌, ◌≤◌, false, List, [], ◌∷◌, map, length, take, drop, set, get_or, slice_get, Option, Some, None, is_some, IfSome, IsSome, IsSomeAnd, min, vec_len, vec_capacity}
 use Rattle.draughts_board.specs.Board.{Board}
 use Rattle.draughts_board.specs.declared.pieces.Side.{Side}
 use Rattle.draughts_board.specs.declared.pieces.Side.TheVariants.{Black, White}
@@ -9,6 +9,7 @@ use Rattle.proof_numbers.specs.declared.leaves.Child.{Child}
 use Rattle.proof_numbers.specs.Facts.{known, no_facts}
 use Rattle.proof_numbers.specs.Numbers.{refuted, leaf_numbers, mobility}
 use Rattle.proof_tree.specs.declared.rows.NodeRow.{NodeRow}
+use Rattle.proof_tree.specs.declared.stretches.Stretches.{Stretches}
 use Rattle.proof_tree.specs.declared.rows.Mark.TheVariants.{Unexpanded, Expanded, Repeats}
 use Rattle.proof_tree.specs.Changes.{stands_on, expand_own, new_nodes}
 use Rattle.proof_tree.specs.Forest.{Own, Forest, no_node, Node, nodes, forest, numbers_at, node_numbers, value_of, size}
@@ -93,10 +94,10 @@ line (suc m) rows (Some k) = (row_at rows k).position ∷ line m rows (row_at ro
 abbrev pub path : List NodeRow → Option ℕ → List Board
 path rows at = line (length rows) rows at
 
--- there are fewer than 2^57 nodes below and at each row
+-- there are fewer than 2^26 nodes below and at each row
 abbrev pub AreSmall : List NodeRow → Type 0
 AreSmall rows =
-    (k : ℕ) → k < length rows → 1 + size (node_in (nodes_from 0 rows) k).children < 2 ^ 57
+    (k : ℕ) → k < length rows → 1 + size (node_in (nodes_from 0 rows) k).children < 2 ^ 26
 
 -- row k keeps the mobility of its position
 abbrev pub IsCounted : List NodeRow → ℕ → Type 0
@@ -142,7 +143,7 @@ pub record IsTree (rows : List NodeRow) (entries : List (Board × ℕ))
   pub roots : values_of entries ≡ roots_from 0 rows
   pub keys : keys_of entries ≡ map (λ k. (row_at rows k).position) (values_of entries)
   pub sound : IsSoundForest (forest_of rows (values_of entries))
-  pub few : length rows + spare < 2 ^ 57
+  pub few : length rows + spare < 2 ^ 26
   pub few_roots : length entries ≤ MOST_ROOTS
   pub room : length rows + spare ≤ space
   pub root_room : min spare (MOST_ROOTS - length entries) ≤ root_space
@@ -165,12 +166,18 @@ pub record AreNoted (roots : List Node) (ends starts : List ℕ) : Type 0 where
   pub ahead : (k end : ℕ) → slice_get ends k ≡ Some end → AreSettled roots k end
   pub behind : (k start : ℕ) → slice_get starts k ≡ Some start → AreSettled roots start (suc k)
 
--- what every tree keeps, with the place of its first unsettled root, and what is noted of roots
+-- of how many more roots something can be noted without more memory
+abbrev pub note_room : Stretches → ℕ
+note_room s = min (vec_capacity s.ends - vec_len s.ends) (vec_capacity s.starts - vec_len s.starts)
+
+-- what every tree keeps, with the place of its first unsettled root, what is noted of roots, and
+-- room for what will be noted of more
 pub record IsTreeFrom (rows : List NodeRow) (entries : List (Board × ℕ))
-    (space root_space spare front : ℕ) (ends starts : List ℕ) : Type 0 where
+    (space root_space spare front : ℕ) (ends starts : List ℕ) (note_space : ℕ) : Type 0 where
   pub tree : IsTree rows entries space root_space spare
   pub settled : front ≡ settled_front (nodes (forest_of rows (values_of entries)))
   pub noted : AreNoted (nodes (forest_of rows (values_of entries))) ends starts
+  pub note_room : min spare (MOST_ROOTS - length entries) ≤ note_space
 
 -- row n is that of the node
 pub record IsRowOf (n : ℕ) (row : NodeRow) (x : Node) : Type 0 where

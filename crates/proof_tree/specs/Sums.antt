@@ -16,5 +16,5 @@ finite_sum (a ∷ numbers) = finite_part a + finite_sum numbers
 
 -- a row has room for these numbers
 pub record IsKeepable (numbers : Numbers) : Type 0 where
-  pub proof : IsFinitely (2 ^ 64 - 1) numbers.proof
-  pub disproof : IsFinitely (2 ^ 64 - 1) numbers.disproof
+  pub proof : IsFinitely (2 ^ 32 - 1) numbers.proof
+  pub disproof : IsFinitely (2 ^ 32 - 1) numbers.disproof

@@ -46,8 +46,8 @@ fn kept_by_leaf(child: &Child, repeats: bool, goal: Side) -> KeptNumbers
 
 /// The row of a new node below a parent.
 fn new_row(parent: usize, number: usize, child: &Child, repeats: bool) -> NodeRow
-    requires few { number < 2 ^ 60 }
-    requires parent { parent < 2 ^ 60 }
+    requires few { number < 2 ^ 26 }
+    requires parent { parent < 2 ^ 26 }
     ensures { (above : List Board) → repeats ≡ stands_on above child.now.position
         → result ≡ new_row above parent number child.now }
 {
@@ -61,7 +61,7 @@ fn new_row(parent: usize, number: usize, child: &Child, repeats: bool) -> NodeRo
         },
         moves: child.moves,
         parent: ParentLink::to(parent),
-        first: number + 1,
+        first: number as u32 + 1,
         count: 0,
         black: kept_by_leaf(child, repeats, Side::Black),
         white: kept_by_leaf(child, repeats, Side::White),
@@ -72,7 +72,7 @@ fn new_row(parent: usize, number: usize, child: &Child, repeats: bool) -> NodeRo
 fn push_children(rows: &mut Vec<NodeRow>, parent: usize, children: &[Child])
     requires inside { parent < length rows.old.items }
     requires linked { AreLinked rows.old.items }
-    requires few { length rows.old.items + length children.now < 2 ^ 57 }
+    requires few { length rows.old.items + length children.now < 2 ^ 26 }
     requires room { length rows.old.items + length children.now ≤ vec_capacity rows.old }
     ensures items { rows.new.items ≡ rows.old.items
         ++ new_rows (path rows.old.items (Some parent)) parent (length rows.old.items)
@@ -91,10 +91,10 @@ fn push_children(rows: &mut Vec<NodeRow>, parent: usize, children: &[Child])
 }
 
 /// Makes a row expanded, with `count` children from `first` on, and mends what is kept.
-fn open(rows: &mut [NodeRow], at: usize, first: usize, count: usize)
+fn open(rows: &mut [NodeRow], at: usize, first: u32, count: u32)
     requires inside { at < length rows.old }
     requires linked { AreLinked (opened rows.old at (row_at rows.old at) first count) }
-    requires few { length rows.old < 2 ^ 57 }
+    requires few { length rows.old < 2 ^ 26 }
     requires counted { AreCounted (opened rows.old at (row_at rows.old at) first count) }
     requires fits { (k : ℕ) → k < length rows.old → k ≢ at
         → Fits (opened rows.old at (row_at rows.old at) first count) k }
@@ -113,7 +113,7 @@ pub(crate) fn expand(rows: &mut Vec<NodeRow>, at: usize, children: &[Child])
     requires inside { at < length rows.old.items }
     requires linked { AreLinked rows.old.items }
     requires leaf { (row_at rows.old.items at).count ≡ 0 }
-    requires few { length rows.old.items + length children.now < 2 ^ 57 }
+    requires few { length rows.old.items + length children.now < 2 ^ 26 }
     requires room { length rows.old.items + length children.now ≤ vec_capacity rows.old }
     requires counted { AreCounted rows.old.items }
     requires fits { (k : ℕ) → k < length rows.old.items → Fits rows.old.items k }
@@ -123,12 +123,12 @@ pub(crate) fn expand(rows: &mut Vec<NodeRow>, at: usize, children: &[Child])
 {
     let first = rows.len();
     push_children(rows, at, children);
-    open(rows, at, first, children.len());
+    open(rows, at, first as u32, children.len() as u32);
 }
 
 /// Adds the row of a root, for which there is room.
 pub(crate) fn push_root(rows: &mut Vec<NodeRow>, root: &Child)
-    requires few { length rows.old.items < 2 ^ 57 }
+    requires few { length rows.old.items < 2 ^ 26 }
     requires room { length rows.old.items < vec_capacity rows.old }
     ensures items { rows.new.items
         ≡ rows.old.items ++ root_row (length rows.old.items) root.now ∷ [] }
@@ -141,7 +141,7 @@ pub(crate) fn push_root(rows: &mut Vec<NodeRow>, root: &Child)
         mark: Mark::Unexpanded,
         moves: root.moves,
         parent: ParentLink::none(),
-        first: rows.len() + 1,
+        first: rows.len() as u32 + 1,
         count: 0,
         black: kept_by_leaf(root, false, Side::Black),
         white: kept_by_leaf(root, false, Side::White),

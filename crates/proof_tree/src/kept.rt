@@ -1,4 +1,4 @@
-//! Numbers as rows keep them, in eight bytes each.
+//! Numbers as rows keep them, in four bytes each.
 ghost use Rattle.std.specs.Prelude.{◌≡◌, ◌-◌, ◌^◌};
 ghost use Rattle.proof_numbers.specs.declared.numbers.Number.TheVariants as number;
 ghost use Rattle.proof_numbers.specs.Numbers.{least, total, is_resolved, is_zero, IsFinitely};
@@ -9,12 +9,12 @@ use proof_numbers::{Number, Numbers};
 use std::marker::Model;
 
 /// The word that stands for infinity.
-const INFINITE: u64 = u64::MAX;
+const INFINITE: u32 = u32::MAX;
 
 /// A number as a row keeps it. A contract sees the number.
 #[derive(Clone, Copy)]
 pub(crate) struct KeptNumber {
-    word: u64,
+    word: u32,
 }
 
 impl Model for KeptNumber {
@@ -45,13 +45,13 @@ impl KeptNumber {
         KeptNumber { word: INFINITE }
     }
 
-    /// This number, which is below 2^64 - 1 where it is finite.
+    /// This number, which is below 2^32 - 1 where it is finite.
     fn of(number: Number) -> KeptNumber
-        requires { IsFinitely (2 ^ 64 - 1) number }
+        requires { IsFinitely (2 ^ 32 - 1) number }
         ensures { result ≡ number }
     {
         match number {
-            Number::Finite(n) => KeptNumber { word: n as u64 },
+            Number::Finite(n) => KeptNumber { word: n as u32 },
             Number::Infinite => KeptNumber { word: INFINITE },
         }
     }
@@ -90,9 +90,9 @@ impl KeptNumber {
         }
     }
 
-    /// The sum of the two. The caller knows that a finite sum is below 2^64 - 1.
+    /// The sum of the two. The caller knows that a finite sum is below 2^32 - 1.
     pub(crate) fn total(self, other: KeptNumber) -> KeptNumber
-        requires { IsFinitely (2 ^ 64 - 1) (total self other) }
+        requires { IsFinitely (2 ^ 32 - 1) (total self other) }
         ensures { result ≡ total self other }
     {
         KeptNumber {
@@ -119,7 +119,7 @@ impl Model for KeptNumbers {
 }
 
 impl KeptNumbers {
-    /// These numbers, each below 2^64 - 1 where it is finite.
+    /// These numbers, each below 2^32 - 1 where it is finite.
     pub(crate) fn of(numbers: Numbers) -> KeptNumbers
         requires { IsKeepable numbers }
         ensures { result ≡ numbers }

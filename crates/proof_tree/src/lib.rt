@@ -11,7 +11,7 @@
 //! that `pick` gives are those of the definitions, whatever is taken. In every forest children are
 //! the successors in order, a node repeats exactly where its position stands above it, and each
 //! number names one node. `laws`: while a root is unsettled and nothing is taken there is a leaf to
-//! work on.
+//! work on; a root has a value exactly where its numbers resolve it for both goals.
 //!
 //! Tests: proof_tests/src/trees.rt
 #![tactic(auto)]

@@ -1,5 +1,5 @@
 //! The numbers of nodes, by those of their children.
-ghost use Rattle.std.specs.Prelude.{◌≡◌, ◌≢◌, ℕ, Bool, ◌<◌, ◌≤◌, ◌+◌, ◌^◌, length, map, Some};
+ghost use Rattle.std.specs.Prelude.{◌≡◌, ◌≢◌, ℕ, Bool, ◌<◌, ◌≤◌, ◌+◌, ◌-◌, ◌^◌, length, map, Some};
 ghost use Rattle.proof_numbers.specs.Facts.{known};
 ghost use Rattle.proof_numbers.specs.Known.{joined, IsConsistent};
 ghost use Rattle.proof_tree.specs.Changes.{learn};
@@ -17,7 +17,7 @@ use proof_numbers::{Facts, leaf};
 fn folded(children: &[NodeRow], goal: Side, goal_moves: bool) -> KeptNumbers
     requires { (by_proof : Bool)
         → finite_sum (map (λ r. left_to_show by_proof (kept_numbers goal r)) children.now)
-        < 2 ^ 63 }
+        < 2 ^ 32 - 1 }
     ensures { result ≡ folded goal_moves (map (kept_numbers goal) children.now) }
 {
     let mut best = KeptNumber::infinite();
@@ -45,7 +45,7 @@ fn folded(children: &[NodeRow], goal: Side, goal_moves: bool) -> KeptNumbers
 fn numbers_of(rows: &[NodeRow], at: usize, goal: Side) -> KeptNumbers
     requires inside { at < length rows.now }
     requires linked { AreLinked rows.now }
-    requires few { length rows.now < 2 ^ 57 }
+    requires few { length rows.now < 2 ^ 26 }
     requires counted { IsCounted rows.now at }
     requires fits { (k : ℕ) → at < k → k < length rows.now → Fits rows.now k }
     ensures { result ≡ numbers_at goal (own_of at (row_at rows.now at))
@@ -57,7 +57,8 @@ fn numbers_of(rows: &[NodeRow], at: usize, goal: Side) -> KeptNumbers
         let numbers = leaf(row.facts, repeats, goal, row.position.to_move(), row.moves);
         return KeptNumbers::of(numbers);
     }
-    let children = &rows[row.first..row.first + row.count];
+    let first = row.first as usize;
+    let children = &rows[first..first + row.count as usize];
     folded(children, goal, goal == row.position.to_move())
 }
 
@@ -65,7 +66,7 @@ fn numbers_of(rows: &[NodeRow], at: usize, goal: Side) -> KeptNumbers
 pub(crate) fn mend(rows: &mut [NodeRow], from: usize)
     requires inside { from < length rows.old }
     requires linked { AreLinked rows.old }
-    requires few { length rows.old < 2 ^ 57 }
+    requires few { length rows.old < 2 ^ 26 }
     requires counted { AreCounted rows.old }
     requires fits { (k : ℕ) → k < length rows.old → k ≢ from → Fits rows.old k }
     ensures fits { (k : ℕ) → k < length rows.new → Fits rows.new k }
@@ -86,7 +87,7 @@ pub(crate) fn mend(rows: &mut [NodeRow], from: usize)
 pub(crate) fn learn(rows: &mut [NodeRow], at: usize, facts: &Facts)
     requires inside { at < length rows.old }
     requires linked { AreLinked rows.old }
-    requires few { length rows.old < 2 ^ 57 }
+    requires few { length rows.old < 2 ^ 26 }
     requires counted { AreCounted rows.old }
     requires fits { (k : ℕ) → k < length rows.old → Fits rows.old k }
     requires agree { IsConsistent (joined (known (row_at rows.old at).facts) (known facts.now)) }

@@ -69,8 +69,8 @@ fn next_child(
     ensures { IsFirst rows.now goal by_proof last (row_at rows.now at).first
         ((row_at rows.now at).first + (row_at rows.now at).count) result }
 {
-    let first = rows[at].first;
-    let end = first + rows[at].count;
+    let first = rows[at].first as usize;
+    let end = first + rows[at].count as usize;
     let mut best = None;
     for k in first..end {
         if is_candidate(rows, goal, by_proof, last, k) {

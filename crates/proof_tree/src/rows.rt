@@ -41,10 +41,10 @@ pub enum Mark {
     Repeats,
 }
 
-/// The number of a row's parent, or none, in eight bytes. A contract sees an option.
+/// The number of a row's parent, or none, in four bytes. A contract sees an option.
 #[derive(Clone, Copy)]
 pub(crate) struct ParentLink {
-    word: usize,
+    word: u32,
 }
 
 impl Model for ParentLink {
@@ -72,17 +72,20 @@ impl ParentLink {
 
     /// The row with this number.
     pub(crate) fn to(parent: usize) -> ParentLink
-        requires { parent < 2 ^ 60 }
+        requires { parent < 2 ^ 26 }
         ensures { result ≡ Some parent }
     {
-        ParentLink { word: parent + 1 }
+        ParentLink {
+            word: parent as u32 + 1,
+        }
     }
 
     /// The number of the parent's row.
     pub(crate) fn get(&self) -> Option<usize>
         ensures { result ≡ self.now }
     {
-        self.word.checked_sub(1)
+        let parent = self.word.checked_sub(1)?;
+        Some(parent as usize)
     }
 }
 
@@ -100,9 +103,9 @@ pub(crate) struct NodeRow {
     pub(crate) parent: ParentLink,
     /// The number of its first child; the others follow. Without children it is the number of the
     /// next row.
-    pub(crate) first: usize,
+    pub(crate) first: u32,
     /// How many children it has.
-    pub(crate) count: usize,
+    pub(crate) count: u32,
     /// Its numbers for the goal Black.
     pub(crate) black: KeptNumbers,
     /// Its numbers for the goal White.

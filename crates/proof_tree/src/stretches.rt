@@ -2,12 +2,12 @@
 //!
 //! Where the root that is first unsettled takes long, those behind it may have been settled long ago. A stretch is noted at
 //! both its ends, so a root that comes to be settled joins the stretches on its sides in one step.
-ghost use Rattle.std.specs.Prelude.{◌≡◌, ◌<◌, ◌≤◌, ◌⊎◌, [], ℕ, suc, List, length, slice_get, Some};
+ghost use Rattle.std.specs.Prelude.{◌≡◌, ◌<◌, ◌≤◌, ◌+◌, ◌⊎◌, [], ℕ, suc, List, length, slice_get, Some, OnOk, vec_len, vec_capacity};
 ghost use Rattle.proof_tree.specs.Forest.{Node};
-ghost use Rattle.proof_tree.specs.Rows.{AreNoted, AreSettled, IsSettledAt};
+ghost use Rattle.proof_tree.specs.Rows.{AreNoted, AreSettled, IsSettledAt, note_room};
 ghost use Rattle.proof_tree.specs.declared.tree.TheConstants.{MOST_ROOTS};
 
-use std::alloc::Global;
+use std::alloc::{AllocError, Global};
 
 /// What is noted of the roots, by their places from 0: at the first root of a stretch the place behind it, at its last the
 /// place of its first, and at each a place further on.
@@ -17,21 +17,26 @@ pub(crate) struct Stretches {
     starts: Vec<usize>,
 }
 
-/// Adds a number behind the others, where there is memory for it.
+/// Adds a number behind the others, for which there is room.
 fn add(list: &mut Vec<usize>, number: usize)
-    ensures { (k n : ℕ) → slice_get list.new.items k ≡ Some n
+    requires room { vec_len list.old < vec_capacity list.old }
+    ensures numbers { (k n : ℕ) → slice_get list.new.items k ≡ Some n
         → (slice_get list.old.items k ≡ Some n) ⊎ ((k ≡ length list.old.items) × (n ≡ number)) }
+    ensures len { vec_len list.new ≡ vec_len list.old + 1 }
+    ensures room { vec_capacity list.old ≤ vec_capacity list.new }
 {
     match list.push(number) {
         Ok(()) => {}
-        Err(_) => {}
+        Err(_) => unreachable!(),
     }
 }
 
 /// Puts a number at a place, where the list reaches so far.
 fn put(list: &mut Vec<usize>, place: usize, number: usize)
-    ensures { (k n : ℕ) → slice_get list.new.items k ≡ Some n
+    ensures numbers { (k n : ℕ) → slice_get list.new.items k ≡ Some n
         → (slice_get list.old.items k ≡ Some n) ⊎ ((k ≡ place) × (n ≡ number)) }
+    ensures len { vec_len list.new ≡ vec_len list.old }
+    ensures room { vec_capacity list.new ≡ vec_capacity list.old }
 {
     if place < list.len() {
         list[place] = number;
@@ -50,9 +55,22 @@ impl Stretches {
         }
     }
 
-    /// There is one root more, of which nothing is noted yet; nor will be, where there is no memory for it.
+    /// Makes room for what is noted of `roots` more roots.
+    pub(crate) fn reserve(&mut self, roots: usize) -> Result<(), AllocError>
+        ensures ends { self.new.ends.items ≡ self.old.ends.items }
+        ensures starts { self.new.starts.items ≡ self.old.starts.items }
+        ensures ok { OnOk result (roots ≤ note_room self.new) }
+        ensures kept { note_room self.old ≤ note_room self.new }
+    {
+        self.ends.reserve(roots)?;
+        self.starts.reserve(roots)
+    }
+
+    /// There is one root more, of which nothing is noted yet. There is room for it, so this takes no memory.
     pub(crate) fn add_root(&mut self)
-        ensures { (roots : List Node) → AreNoted roots self.old.ends.items self.old.starts.items
+        requires room { 0 < note_room self.old }
+        ensures room { note_room self.old ≤ note_room self.new + 1 }
+        ensures noted { (roots : List Node) → AreNoted roots self.old.ends.items self.old.starts.items
             → AreNoted roots self.new.ends.items self.new.starts.items }
     {
         let place = self.ends.len();
@@ -91,7 +109,8 @@ impl Stretches {
     /// Notes that the root at a place is settled, where that is not noted yet.
     pub(crate) fn note(&mut self, place: usize)
         requires few { place < MOST_ROOTS }
-        ensures { (roots : List Node) → IsSettledAt roots place
+        ensures room { note_room self.new ≡ note_room self.old }
+        ensures noted { (roots : List Node) → IsSettledAt roots place
             → AreNoted roots self.old.ends.items self.old.starts.items
             → AreNoted roots self.new.ends.items self.new.starts.items }
     {

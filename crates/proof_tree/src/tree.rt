@@ -3,7 +3,7 @@ ghost use Rattle.std.specs.Prelude.{◌≡◌, ◌≤◌, ◌<◌, ℕ, length};
 ghost use Rattle.std.specs.Map.{values_of};
 ghost use Rattle.proof_tree.specs.declared.tree.TheConstants.{MOST_ROOTS};
 ghost use Rattle.proof_tree.specs.Forest.{nodes};
-ghost use Rattle.proof_tree.specs.Rows.{roots_from, forest_of, settled_front, AreLinked, AreNoted, Fits};
+ghost use Rattle.proof_tree.specs.Rows.{roots_from, forest_of, settled_front, note_room, AreLinked, AreNoted, Fits};
 
 use crate::growing::{expand, push_root};
 use crate::numbering::learn;
@@ -20,8 +20,9 @@ use std::marker::Model;
 /// There are no more roots than this.
 pub const MOST_ROOTS: usize = 65_536;
 
-/// Nodes and spare together stay below this: more rows than a machine can address.
-const MOST_NODES: usize = 1 << 57;
+/// Nodes and spare together stay below this, which leaves room for 1,000,000 expansions of 64 children each. A proof number
+/// counts at most 64 for each node, so a row keeps it in four bytes.
+const MOST_NODES: usize = 1 << 26;
 
 /// A forest of positions with proof and disproof numbers, grown from its roots.
 ///
@@ -47,7 +48,7 @@ impl Model for Tree {
     ghost use Rattle.std.specs.Map.{values_of};
     ghost use Rattle.indexmap.specs.IndexMap.{spare as map_spare};
     ghost use Rattle.proof_tree.specs.Code.{state_code};
-    ghost use Rattle.proof_tree.specs.Rows.{forest_of, IsTreeFrom};
+    ghost use Rattle.proof_tree.specs.Rows.{forest_of, note_room, IsTreeFrom};
     ghost use Rattle.proof_tree.specs.Sound.{TreeState};
 
     ghost Value = { TreeState };
@@ -59,7 +60,7 @@ impl Model for Tree {
 
     ghost invariant = { λ t.
         IsTreeFrom t.rows.items t.roots.entries (vec_capacity t.rows) (map_spare t.roots) t.spare
-        t.front t.stretches.ends.items t.stretches.starts.items };
+        t.front t.stretches.ends.items t.stretches.starts.items (note_room t.stretches) };
 }
 
 impl Tree {
@@ -88,8 +89,8 @@ impl Tree {
         }
     }
 
-    /// Makes room for `nodes` more nodes. After want of memory, which a tree of 2^57 nodes meets
-    /// too, it is as it was.
+    /// Makes room for `nodes` more nodes, so that adding them takes no memory. After want of memory,
+    /// which a tree of 2^26 nodes meets too, it is as it was.
     pub fn reserve(&mut self, nodes: usize) -> Result<(), AllocError>
         ensures ok { OnOk result (self.new.forest ≡ self.old.forest) }
         ensures room { OnOk result (nodes ≤ self.new.spare) }
@@ -102,8 +103,9 @@ impl Tree {
         if nodes >= MOST_NODES - self.rows.len() {
             return Err(AllocError);
         }
-        self.roots
-            .reserve(nodes.min(MOST_ROOTS - self.roots.len()))?;
+        let roots = nodes.min(MOST_ROOTS - self.roots.len());
+        self.roots.reserve(roots)?;
+        self.stretches.reserve(roots)?;
         if nodes > self.rows.capacity() - self.rows.len() {
             self.rows.reserve_exact(nodes.max(self.rows.len() / 8))?;
         }
@@ -112,7 +114,7 @@ impl Tree {
     }
 
     /// Adds a root, which gets the next number, and gives its place among the roots, counted from
-    /// 1.
+    /// 1. It takes no memory.
     pub fn add_root(&mut self, root: Child) -> u32
         requires absent { ¬ Contains (root_positions self.old.forest) root.position }
         requires few { length (nodes self.old.forest) < MOST_ROOTS }
@@ -139,7 +141,7 @@ impl Tree {
     }
 
     /// Gives a node its children, one for each successor of its position in order, which get the
-    /// next numbers.
+    /// next numbers. It takes no memory.
     pub fn expand(&mut self, n: NodeId, children: &[Child])
         requires there { IsSomeAnd (node_at n self.old.forest) (λ x. x.own.mark ≡ Mark.Unexpanded) }
         requires successors { IfSome (node_at n self.old.forest) (λ x.
@@ -319,7 +321,7 @@ impl Tree {
         requires { IsSome (node_at n self.now.forest) }
         ensures { IfSome (node_at n self.now.forest) (λ x. result ≡ length (nodes x.children)) }
     {
-        self.row(n).count
+        self.row(n).count as usize
     }
 
     /// The child of a node at this place, counted from 0.
@@ -328,7 +330,7 @@ impl Tree {
         ensures { IfSome (node_at n self.now.forest) (λ x.
             IfSome (slice_get (nodes x.children) place) (λ child. result ≡ child.own.number)) }
     {
-        NodeId((self.row(n).first + place) as u64)
+        NodeId((self.row(n).first as usize + place) as u64)
     }
 
     /// The proof and the disproof number of a node, for the goal.
@@ -401,8 +403,9 @@ fn note_above(
     requires few { length roots.now.entries ≤ MOST_ROOTS }
     requires noted { AreNoted (nodes (forest_of rows.now (values_of roots.now.entries)))
         stretches.old.ends.items stretches.old.starts.items }
-    ensures { AreNoted (nodes (forest_of rows.now (values_of roots.now.entries)))
+    ensures noted { AreNoted (nodes (forest_of rows.now (values_of roots.now.entries)))
         stretches.new.ends.items stretches.new.starts.items }
+    ensures room { note_room stretches.new ≡ note_room stretches.old }
 {
     let position = rows[top_of(rows, at)].position;
     let Some(place) = roots.get_index_of(&position) else {
@@ -435,6 +438,7 @@ fn follow(
         ≡ settled_front (nodes (forest_of rows.now (values_of roots.now.entries))) }
     ensures noted { AreNoted (nodes (forest_of rows.now (values_of roots.now.entries)))
         stretches.new.ends.items stretches.new.starts.items }
+    ensures room { note_room stretches.new ≡ note_room stretches.old }
 {
     note_above(rows, roots, stretches, at);
     front_of(rows, roots, front)

@@ -1,10 +1,10 @@
-use Rattle.std.proofs.Common.{◌≡◌, ◌<◌, ◌∙◌, List, length, length-set, arith, sym, subst}
+use Rattle.std.proofs.Common.{◌≡◌, ◌<◌, ◌∙◌, List, length, length-set, arith, ap, sym, subst}
 use Rattle.std.proofs.lemmas.List.{with_items_is}
 use Rattle.std.specs.Vec.{with_items}
 use Rattle.proof_tree.specs.declared.rows.NodeRow.{NodeRow}
 use Rattle.proof_tree.specs.Rows.{row_at, opened, AreLinked, AreRekept, AreExpanded, AreCounted, Fits}
 use Rattle.proof_tree.proofs.Expanding.{AreExpanded-rekept}
-use Rattle.proof_tree.proofs.Opening.{pushed, after, AreExpanded-after, AreCounted-expanded, links_after, Fits-after}
+use Rattle.proof_tree.proofs.Opening.{pushed, pushed-long, after, AreExpanded-after, AreCounted-expanded, links_after, Fits-after}
 use Rattle.proof_tree.proofs.growing.expand.Goals as goal
 
 rows_are : (c : goal.After-deref_mut) → c.deref_mut.result.now ≡ pushed c.args.rows.now.items c.args.at c.args.children.now c.requires.linked c.requires.inside c.requires.leaf
@@ -22,6 +22,11 @@ pub open-requires-clause-linked : goal.open-requires-clause-linked
 open-requires-clause-linked c =
     subst AreLinked (sym (after_is c))
     (links_after c.args.rows.now.items c.args.at c.args.children.now c.requires.linked c.requires.inside c.requires.leaf)
+
+pub open-requires-clause-few : goal.open-requires-clause-few
+open-requires-clause-few c =
+    let long = ap length (rows_are c) ∙ pushed-long c.args.rows.now.items c.args.at c.args.children.now c.requires.linked c.requires.inside c.requires.leaf in
+    omega (arith, long, c.requires.few)
 
 pub open-requires-clause-counted : goal.open-requires-clause-counted
 open-requires-clause-counted c =

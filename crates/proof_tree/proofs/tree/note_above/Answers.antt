@@ -19,8 +19,8 @@ is_settled-requires-clause-inside c =
     let inside : place < length tops = omega (arith, within, many) in
     subst (λ (ts : List ℕ). get_or ts place 0 < length c.args.rows.now) (sym (c.as_slice.ensures ∙ c.values.ensures.rest)) (tops-are c.args.rows.now tops c.requires.roots place inside).0
 
-pub returns-then-is_settled : goal.returns-then-is_settled
-returns-then-is_settled c =
+pub returns-then-is_settled-clause-noted : goal.returns-then-is_settled-clause-noted
+returns-then-is_settled-clause-noted c =
     let rows = c.args.rows.now in
     let tops = values_of c.args.roots.now.entries in
     let place = c.in-Some.place in
@@ -33,4 +33,4 @@ returns-then-is_settled c =
     let settled : is_some (value_of (f root)) ≡ true =
     ap (λ (ts : List ℕ). is_some (value_of (f (get_or ts place 0)))) (sym (c.as_slice.ensures ∙ c.values.ensures.rest)) ∙ (sym c.is_settled.ensures ∙ c.if-is_settled.true) in
     let here : IsSettledAt (map f tops) place = subst (λ o. IsSomeAnd o (λ (x : Node). is_some (value_of x) ≡ true)) (sym found) settled in
-    c.note.ensures (nodes (forest_of rows tops)) (subst (λ (xs : List Node). IsSettledAt xs place) (sym (nodes-forest (map f tops))) here) c.requires.noted
+    c.note.ensures.noted (nodes (forest_of rows tops)) (subst (λ (xs : List Node). IsSettledAt xs place) (sym (nodes-forest (map f tops))) here) c.requires.noted

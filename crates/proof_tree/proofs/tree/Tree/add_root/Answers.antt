@@ -1,4 +1,5 @@
 use Rattle.std.proofs.Common.{◌≡◌, ◌≤◌, ◌<◌, ◌-◌, ◌++◌, ◌∷◌, [], ℕ, List, length, arith, refl, sym, ap, subst, ◌∙◌}
+use Rattle.std.proofs.lemmas.List.{length_push}
 use Rattle.std.specs.Prelude.{Contains}
 use Rattle.std.specs.Map.{values_of}
 use Rattle.std.specs.Vec.{vec_capacity}
@@ -19,6 +20,15 @@ add-requires-clause-absent c =
 pub add-requires-clause-room : goal.add-requires-clause-room
 add-requires-clause-room c =
     let r = c.self.invariant.tree.root_room in
+    let m = roots-many c.self.inside.rows.items c.self.inside.roots.entries _ _ c.self.inside.spare c.self.invariant.tree c.args.self.now c.self.view_is in
+    let s = spare_is c.self.inside.rows.items c.self.inside.roots.entries _ _ c.self.inside.spare c.self.invariant.tree c.args.self.now c.self.view_is 0 in
+    let few = c.requires.few in
+    let room = c.requires.room in
+    omega (arith, r, m, s, few, room)
+
+pub add_root-requires : goal.add_root-requires
+add_root-requires c =
+    let r = c.self.invariant.note_room in
     let m = roots-many c.self.inside.rows.items c.self.inside.roots.entries _ _ c.self.inside.spare c.self.invariant.tree c.args.self.now c.self.view_is in
     let s = spare_is c.self.inside.rows.items c.self.inside.roots.entries _ _ c.self.inside.spare c.self.invariant.tree c.args.self.now c.self.view_is 0 in
     let few = c.requires.few in
@@ -60,7 +70,7 @@ follow-self-inside-requires-clause-settled c =
 
 pub follow-self-inside-requires-clause-noted : goal.follow-self-inside-requires-clause-noted
 follow-self-inside-requires-clause-noted c =
-    subst (λ (xs : List NodeRow). AreNoted (nodes (forest_of xs (values_of c.add.new.roots.entries))) c.add_root.new.self.ends.items c.add_root.new.self.starts.items) (sym c.deref.ensures.value) (c.add_root.ensures (nodes (forest_of c.push_root.new.rows.items (values_of c.add.new.roots.entries))) ((next c).noted c.self.inside.stretches.ends.items c.self.inside.stretches.starts.items c.self.invariant.noted))
+    subst (λ (xs : List NodeRow). AreNoted (nodes (forest_of xs (values_of c.add.new.roots.entries))) c.add_root.new.self.ends.items c.add_root.new.self.starts.items) (sym c.deref.ensures.value) (c.add_root.ensures.noted (nodes (forest_of c.push_root.new.rows.items (values_of c.add.new.roots.entries))) ((next c).noted c.self.inside.stretches.ends.items c.self.inside.stretches.starts.items c.self.invariant.noted))
 
 number_now : (c : goal.After-len) → c.len-number.result ≡ length c.self.inside.rows.items
 number_now c = let l = c.len-number.ensures in let o = c.self.inside.rows.ok.0 in omega (arith, l, o)
@@ -75,6 +85,12 @@ invariant_of-self c =
       tree = next.tree;
       settled = c.follow-self-inside.ensures.front ∙ ap (λ (xs : List NodeRow). settled_front (nodes (forest_of xs (values_of c.add.new.roots.entries)))) c.deref.ensures.value;
       noted = subst (λ (xs : List NodeRow). AreNoted (nodes (forest_of xs (values_of c.add.new.roots.entries))) c.follow-self-inside.new.stretches.ends.items c.follow-self-inside.new.stretches.starts.items) c.deref.ensures.value c.follow-self-inside.ensures.noted;
+      note_room =
+          let r = c.self.invariant.note_room in
+          let s = spare_is c.self.inside.rows.items c.self.inside.roots.entries _ _ c.self.inside.spare c.self.invariant.tree c.args.self.now c.self.view_is 0 in
+          let long = length_push c.self.inside.roots.entries (c.args.root.position, c.len-number.result) in
+          let entries = ap (λ (es : List (Board × ℕ)). length es) c.add.ensures.entries in
+          omega (arith, r, s, long, entries, c.requires.room, c.add_root.ensures.room, c.follow-self-inside.ensures.room);
     }
 
 pub returns-clause-tree : goal.returns-clause-tree

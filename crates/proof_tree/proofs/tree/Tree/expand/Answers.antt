@@ -56,6 +56,7 @@ invariant_of-self c =
       tree = next.tree;
       settled = c.follow-self-inside.ensures.front ∙ ap (λ (xs : List NodeRow). settled_front (nodes (forest_of xs (values_of c.self.inside.roots.entries)))) c.deref.ensures.value;
       noted = subst (λ (xs : List NodeRow). AreNoted (nodes (forest_of xs (values_of c.self.inside.roots.entries))) c.follow-self-inside.new.stretches.ends.items c.follow-self-inside.new.stretches.starts.items) c.deref.ensures.value c.follow-self-inside.ensures.noted;
+      note_room = let r = c.self.invariant.note_room in omega (arith, r, c.follow-self-inside.ensures.room);
     }
 
 pub returns : goal.returns

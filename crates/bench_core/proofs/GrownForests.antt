@@ -6,8 +6,10 @@ use Rattle.std.proofs.lemmas.Bool.Decides.{nat_tests}
 use Rattle.draughts_board.specs.Board.{same_board}
 use Rattle.proof_tree.specs.Forest.{Forest, no_node}
 use Rattle.proof_tree.specs.Sound.{IsSoundForest, occurrences}
+use Rattle.proof_tree.proofs.Opposed.{settled_roots_are_resolved}
 use Rattle.bench_records.specs.declared.records.BenchRecord.{BenchRecord}
 use Rattle.bench_core.specs.Growing.{GrowsWith, GrowsWithAll}
+use Rattle.bench_core.specs.Laws.{RecordsSettleWhatTheyResolve}
 use Rattle.bench_core.specs.States.{CoreState, IsSoundBy}
 use Rattle.bench_core.proofs.OneForest.{records_have_one_forest}
 use Rattle.bench_core.proofs.SoundGrowth.{grown_push}
@@ -72,3 +74,6 @@ one_with_all k f [] g h grown one two = one ∙ sym two
 one_with_all k f (r ∷ records) g h grown one two =
     let same = one_with k f one.0 two.0 r grown one.1.0 two.1.0 in
     one_with_all k two.0 records g h (grown_with k f two.0 r grown two.1.0) (subst (λ (x : Forest). GrowsWithAll k x records g) same one.1.1) two.1.1
+
+pub records_settle_what_they_resolve : RecordsSettleWhatTheyResolve
+records_settle_what_they_resolve k records roots all = settled_roots_are_resolved roots (sound_of k roots (grown_with_all k no_node records roots (nothing_grown k) all))
