@@ -23,9 +23,8 @@ fn folded(children: &[NodeRow], goal: Side, goal_moves: bool) -> KeptNumbers
     let mut best = KeptNumber::infinite();
     let mut sum = KeptNumber::zero();
     for child in children {
-        let kept = child.kept(goal);
-        best = best.least(kept.left_to_show(goal_moves));
-        sum = sum.total(kept.left_to_show(!goal_moves));
+        best = best.least(child.left_to_show(goal, goal_moves));
+        sum = sum.total(child.left_to_show(goal, !goal_moves));
     }
     if goal_moves {
         KeptNumbers {

@@ -35,8 +35,8 @@ fn comes(rows: &[NodeRow], goal: Side, by_proof: bool, a: usize, b: usize) -> bo
     requires other { b < length rows.now }
     ensures { result ≡ comes rows.now goal by_proof a b }
 {
-    let x = rows[a].kept(goal).left_to_show(by_proof);
-    let y = rows[b].kept(goal).left_to_show(by_proof);
+    let x = rows[a].left_to_show(goal, by_proof);
+    let y = rows[b].left_to_show(goal, by_proof);
     is_before(x, a, y, b)
 }
 

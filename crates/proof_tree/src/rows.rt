@@ -1,7 +1,7 @@
 //! The nodes as rows of one table.
 ghost use Rattle.std.specs.Prelude.{◌≡◌, ◌<◌, ◌^◌};
 
-use crate::kept::KeptNumbers;
+use crate::kept::{KeptNumber, KeptNumbers};
 use draughts_board::{Position, Side};
 use proof_numbers::Facts;
 use std::marker::Model;
@@ -113,6 +113,7 @@ pub(crate) struct NodeRow {
 }
 
 impl NodeRow {
+    ghost use Rattle.proof_tree.specs.Picking.{left_to_show};
     ghost use Rattle.proof_tree.specs.Rows.{kept_numbers};
 
     /// The numbers that it keeps for the goal.
@@ -122,6 +123,16 @@ impl NodeRow {
         match goal {
             Side::Black => self.black,
             Side::White => self.white,
+        }
+    }
+
+    /// The proof number, or the disproof number, that it keeps for the goal.
+    pub(crate) fn left_to_show(&self, goal: Side, by_proof: bool) -> KeptNumber
+        ensures { result ≡ left_to_show by_proof (kept_numbers goal self.now) }
+    {
+        match goal {
+            Side::Black => self.black.left_to_show(by_proof),
+            Side::White => self.white.left_to_show(by_proof),
         }
     }
 }

@@ -7,18 +7,18 @@ use Rattle.proof_tree.proofs.numbering.folded.Goals as goal
 
 pub total-sum-requires : goal.total-sum-requires
 total-sum-requires c =
-    rw (c.loop-child.invariant.sum, c.left_to_show-in-loop-child.ensures, c.kept-kept.ensures)
+    rw (c.loop-child.invariant.sum, c.left_to_show-in-loop-child.ensures)
     (total_fits (λ r. left_to_show (not c.args.goal_moves) (kept_numbers c.args.goal r)) c.args.children.now c.loop-child.child-index c.child-item.result
     c.loop-child-test.true c.child-item.is (c.requires (not c.args.goal_moves)))
 
 pub loop-child-preserved : goal.loop-child-preserved
 loop-child-preserved c = record {
   best =
-      rw (c.least-best.ensures, c.left_to_show.ensures, c.kept-kept.ensures, c.loop-child.invariant.best)
+      rw (c.least-best.ensures, c.left_to_show.ensures, c.loop-child.invariant.best)
       (sym (least_more (λ r. left_to_show c.args.goal_moves (kept_numbers c.args.goal r)) c.args.children.now c.loop-child.child-index c.child-item.result
       c.loop-child-test.true c.child-item.is));
   sum =
-      rw (c.total-sum.ensures, c.left_to_show-in-loop-child.ensures, c.kept-kept.ensures, c.loop-child.invariant.sum)
+      rw (c.total-sum.ensures, c.left_to_show-in-loop-child.ensures, c.loop-child.invariant.sum)
       (sym (total_more (λ r. left_to_show (not c.args.goal_moves) (kept_numbers c.args.goal r)) c.args.children.now c.loop-child.child-index c.child-item.result
       c.loop-child-test.true c.child-item.is));
 }
