@@ -33,6 +33,7 @@ for crate in $(cat "$FAKE/crates"); do
     [ -e "../$crate/out/rlib/stamp" ] && continue
     echo "rt: chose --jobs 2 for $crate"
     sleep {SECONDS_A_CRATE}
+    while [ "$crate" = {CRATES[3]} ] && [ -e "$FAKE/held" ]; do sleep 0.1; done
     mkdir -p "../$crate/out/rlib"
     : >"../$crate/out/rlib/stamp"
 done
@@ -101,6 +102,9 @@ def due(names):
 
 
 def is_stopped_and_goes_on(fake):
+    # However slow this script is, the build stands still before its last crates until it is stopped.
+    held = fake.rt / "held"
+    held.touch()
     building = subprocess.Popen([fake.program], stdin=subprocess.DEVNULL, stderr=subprocess.PIPE, **fake.how)
     for line in building.stderr:
         if BEGUN.match(line.decode()):
@@ -108,6 +112,7 @@ def is_stopped_and_goes_on(fake):
     building.send_signal(signal.SIGTERM)
     fake.expect(building.wait() == 130, f"a build that is stopped ends with {building.returncode}")
     stamps = list(fake.top.glob("crates/*/out/rlib/stamp"))
+    held.unlink()
     time.sleep(2 * SECONDS_A_CRATE)
     fake.expect(stamps == list(fake.top.glob("crates/*/out/rlib/stamp")), "the toolchain goes on behind a build that was stopped")
     fake.expect(len(stamps) < len(CRATES), "a build was not stopped")

@@ -3,13 +3,16 @@
 
 Standard output has to be the same byte for byte, and the exit status too. The terminal has to show one line of progress that is
 rewritten, once a second at most, whose numbers do not fall, and that is cleared at the end. What is no terminal has to get
-one line a minute at most, and none in the first one: a run that stands still for a minute has one line when it goes on, and no second one. A terminal that has both streams shows that a journal is read and that certificates are joined, and then
-the report from the line's begin on. An argument names another program.
+one line a minute at most, and none in the first one: a run that stands still for a minute has one line when it goes on, and no
+second one before the next minute. A terminal that has both streams shows that a journal is read and that certificates are joined,
+and then the report from the line's begin on. How long the held run works is told by its processor time, so a busy machine changes
+nothing. An argument names another program.
 """
 import os
 import pathlib
 import pty
 import re
+import select
 import signal
 import subprocess
 import sys
@@ -49,25 +52,41 @@ def at_terminal(program, words, has_both=False, source=os.devnull):
     return output, shown, status, time.monotonic() - begun
 
 
+def worked(run):
+    """How many seconds of processor time a run has taken; none of one that has ended."""
+    if run.poll() is not None:
+        return 0.0
+    fields = pathlib.Path(f"/proc/{run.pid}/stat").read_text(encoding="utf-8").rpartition(")")[2].split()
+    return (int(fields[11]) + int(fields[12])) / os.sysconf("SC_CLK_TCK")
+
+
 def held(program):
-    """Begins a run without a terminal that has hours to go, and holds it a second later."""
+    """Begins a run without a terminal that has minutes of work, and holds it once it has worked for half a second."""
     words = [program, "-", "solve", "--depth", "6", "--budget", "1000000"]
     run = subprocess.Popen(words, stdin=subprocess.PIPE, stdout=subprocess.DEVNULL, stderr=subprocess.PIPE)
     run.stdin.write(b"*")
     run.stdin.close()
-    time.sleep(1)
+    while run.poll() is None and worked(run) < 0.5:
+        time.sleep(0.05)
     run.send_signal(signal.SIGSTOP)
     return run, time.monotonic()
 
 
-def said_by(run, since):
-    """What the held run has written a minute after it was held, and two seconds more."""
+def faults_of_held(run, since):
+    """What is wrong with what the held run writes when it goes on, a minute later: a line within two seconds of work, and no second one."""
     time.sleep(max(0, since + 60 - time.monotonic()))
+    before, begun, said = worked(run), time.monotonic(), b""
     run.send_signal(signal.SIGCONT)
-    time.sleep(2)
-    ended = run.poll() is not None
+    while run.poll() is None and worked(run) < before + (4 if said else 2):
+        if select.select([run.stderr], [], [], 0.1)[0]:
+            said += os.read(run.stderr.fileno(), 4096)
+    ended, minutes = run.poll(), (time.monotonic() - begun) // 60
     run.kill()
-    return run.stderr.read(), ended
+    said += run.stderr.read()
+    if ended is not None:
+        yield f"a run with minutes of work ends with {ended} behind a minute in which it was held, and says {said[:200]!r}"
+    if LOGGED.sub(b"", said) or not 1 <= len(LOGGED.findall(said)) <= 1 + minutes:
+        yield f"where standard error is no terminal it gets {said[:200]!r} behind a minute in which the run was held"
 
 
 def main():
@@ -103,9 +122,7 @@ def main():
         joined = at_terminal(program, [f"{folder}/journal", "solve", "--depth", "1"], has_both=True, source=first)[1]
     if read != READ or LINE.sub(b"", joined) != JOINED:
         faults.append(f"a terminal shows other reports: {read[:200]!r}, {joined[:400]!r}")
-    said, ended = said_by(waits, since)
-    if ended or not LOGGED.fullmatch(said):
-        faults.append(f"where standard error is no terminal it gets in a minute {said[:200]!r}" + (", and the run ends" if ended else ""))
+    faults += faults_of_held(waits, since)
     for fault in faults:
         print(f"progress: {fault}", file=sys.stderr)
     return 1 if faults else 0
