@@ -467,24 +467,31 @@ fn journals_and_limits(rt: HostRuntime) -> Result<(), Fail> {
     expect(&rt, rt.alloc(), &JOURNALS)
 }
 
-/// The three texts on the file of a journal: on one that has no room, on one that is missing, and on
-/// one that another run has open. A cause of which nothing is known has none.
-fn told_of_files(alloc: Global) -> Result<[Vec<u8>; 3], AllocError> {
-    let failed = failed_text(alloc, "games/journal", Some(ErrorKind::StorageFull))?;
-    let unknown = failed_text(alloc, "games/journal", Some(ErrorKind::TimedOut))?;
-    let told = match (failed, unknown) {
-        (Some(told), None) => told,
-        _ => Vec::new(alloc),
-    };
+/// The text on the file of a journal that failed for this cause; nothing if none is known of it.
+fn told_of_cause(alloc: Global, cause: ErrorKind) -> Result<Vec<u8>, AllocError> {
+    Ok(match failed_text(alloc, "games/journal", Some(cause))? {
+        Some(told) => told,
+        None => Vec::new(alloc),
+    })
+}
+
+/// The texts on the file of a journal: on one that has no room, on one whose owner has no share of the
+/// disk left, on one of whose cause nothing is known, on one that is missing, and on one that another run
+/// has open.
+fn told_of_files(alloc: Global) -> Result<[Vec<u8>; 5], AllocError> {
     Ok([
-        told,
+        told_of_cause(alloc, ErrorKind::StorageFull)?,
+        told_of_cause(alloc, ErrorKind::QuotaExceeded)?,
+        told_of_cause(alloc, ErrorKind::TimedOut)?,
         missing_text(alloc, "a`\x1B")?,
         other_run_text(alloc, "journal")?,
     ])
 }
 
-const FILES: [&str; 3] = [
+const FILES: [&str; 5] = [
     "The file `games/journal` could not be opened, read or written: there is no room on the disk. What was written to the journal before is kept.\n",
+    "The file `games/journal` could not be opened, read or written: your share of the disk is used up. What was written to the journal before is kept.\n",
+    "",
     "There is no file `a`\\x1B`: it is read as an empty journal.\n",
     "Another run has the journal `journal` open, and two that write to it damage it: stop this one, and begin it again when the other one has ended.\n",
 ];
