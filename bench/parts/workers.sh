@@ -1,6 +1,6 @@
 #!/usr/bin/env bash
 # Work records a second of one worker and of four, and how many times as many those are: 2,000 openings that are made from seed
-# 1, searched 8 plies deep, with the journal in memory, and 400 of them with a journal in the folder for temporary files.
+# 1, searched 4 plies deep, with the journal in memory, and 400 of them with a journal in the folder for temporary files.
 # The runs of one and of four take turns, and the fastest of three counts; the beginning of the roots is not timed. Then where the
 # time of one worker goes, and what one thread and four make with no bench and no turns: of the searches and their sheets alone,
 # and of steps in registers that take about as long as one worker, which is what this machine makes of four threads in so short a
@@ -39,5 +39,6 @@ seconds() {
 }
 awk -v one="$(seconds solve 1)" -v four="$(seconds solve 4)" -v beside="$(seconds solve_beside)" 'BEGIN {
     printf "solve of 26 openings: 1 worker %.2f s, 4 workers %.2f s, ratio %.2f; ", one, four, one / four
-    printf "four programs beside each other %.2f s each, so at most %.2f\n", beside, 4 * one / beside
+    printf "four programs beside each other %.2f s each, so at most %.2f, of which 4 workers make %.2f\n", beside, 4 * one / beside,
+        beside / four / 4
 }'

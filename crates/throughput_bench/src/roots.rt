@@ -13,7 +13,7 @@ use tree_manager::Session;
 pub(crate) const PIECES: u8 = 2;
 
 /// How many plies a search looks ahead.
-pub(crate) const DEPTH: u8 = 8;
+pub(crate) const DEPTH: u8 = 4;
 
 /// How many work records a session may have.
 const BUDGET: u32 = 2_000;
