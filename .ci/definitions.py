@@ -1,22 +1,28 @@
 #!/usr/bin/env python3
-"""Which definitions the clauses of `bench` rest on, over the `specs/` of all crates; and those of the traits of disks, sources and
-sinks, which say what such an object means.
+"""Which definitions the clauses of `bench` rest on, over the `specs/` of all crates, and which constants of the code; and those
+of the traits of disks, sources, sinks and endgame tables, which say what such an object means.
 
-Without an argument it fails where a file of the closure is not named in docs/DEFINITIONS.md, or where the table there,
-between the two marks, is not the one that is computed. With `--write` it writes that table, with `--list` it prints the
-files of the closure and what of them is used.
+Without an argument it fails where a file of the closure is not named in docs/DEFINITIONS.md, where a table there, between
+its two marks, is not the one that is computed, or where `WorkedLimits`, which is proved, does not say the number of a
+constant. With `--write` it writes the tables, with `--list` it prints the files of the closure and what of them is used.
+`definitions.py --self-test` asks that the texts of SAMPLES are read as they are meant.
 """
 import pathlib
 import re
 import sys
 
 BENCH = pathlib.Path("crates/opening_bench/src/bench.rt")
+LIMITS = pathlib.Path("crates/opening_bench/specs/Examples.antt")
 TRAITS = {"Disk": pathlib.Path("crates/bench_disk/src/disk.rt"), "Source": pathlib.Path("crates/bench_edges/src/source.rt"),
-          "Sink": pathlib.Path("crates/bench_edges/src/sink.rt")}
+          "Sink": pathlib.Path("crates/bench_edges/src/sink.rt"), "Oracle": pathlib.Path("crates/strategy_certificate/src/oracle.rt")}
 DOCUMENT = pathlib.Path("docs/DEFINITIONS.md")
-MARKS = ("<!-- begin: clauses, written by .ci/definitions.py -->", "<!-- end: clauses -->")
+CLAUSES = ("<!-- begin: clauses, written by .ci/definitions.py -->", "<!-- end: clauses -->")
+CONSTANTS = ("<!-- begin: constants, written by .ci/definitions.py -->", "<!-- end: constants -->")
 WORD = re.compile(r"[\w?']+(?:-[\w?']+)*")
 HEAD = re.compile(r"^(?:(?:abbrev|record|data|unfoldable|pub|inductive)\s+)*([\w?'-]+)\b")
+CONSTANT = re.compile(r"^(?:pub(?:\(crate\))? )?const ([A-Z]\w*): [ui](?:8|16|32|64|size) = ([^;]*);", re.M)
+# What stands on the right of a constant, and the number that is due: none where it is another constant's, or no number.
+SAMPLES = {"1_000_000": 1000000, "1 << 62": 4611686018427387904, "2 ^ 40": 1099511627776, "bench_core::MOST_WORK": None, "72 + 1": None}
 
 
 def spec_file(module):
@@ -43,12 +49,80 @@ def read_imports(text, line_head):
     return names, aliases
 
 
+def source_file(crate, module):
+    """The file of code of a module of a crate; of the crate itself without one."""
+    source = pathlib.Path("crates", crate, "src")
+    return source.joinpath(*module.split(".")).with_suffix(".rt") if module else source / "lib.rt"
+
+
+def read_constants(text):
+    """The constants that definitions import: name as it is used here, to (file, name there), and alias of a whole file, to the file."""
+    names, aliases = {}, {}
+    imports = r"^\s*(?:ghost |pub )?use Rattle\.(\w+)\.specs\.declared\.(?:([\w.]+)\.)?TheConstants(?:\.\{(.*)\}| as (\w+));?$"
+    for crate, module, list_, alias in re.findall(imports, text, re.M):
+        path = source_file(crate, module)
+        for part in filter(None, list_.split(",")):
+            there, _, here = part.strip().partition(" as ")
+            names[here or there] = (path, there)
+        if alias:
+            aliases[alias] = path
+    return names, aliases
+
+
+def read_code_constants(text, crate):
+    """The constants that code imports, by its own names: a clause may name these too."""
+    names = {}
+    for path, list_, one in re.findall(r"^use ([\w:]+)::(?:\{([^}]*)\}|(\w+));", text, re.M):
+        first, *rest = path.split("::")
+        for name in (list_ or one).split(","):
+            if re.fullmatch(r"[A-Z][A-Z0-9_]*", name.strip()):
+                home = crate if first == "crate" else first
+                names[name.strip()] = declaration(home, name.strip()) if not rest else (source_file(home, ".".join(rest)), name.strip())
+    return names
+
+
+def declaration(crate, name):
+    """Where a crate has a constant that another one names."""
+    files = [path for path in sorted(pathlib.Path("crates", crate, "src").glob("**/*.rt"))
+             if any(name == there for there, _ in CONSTANT.findall(path.read_text(encoding="utf-8")))]
+    if len(files) != 1:
+        raise SystemExit(f"look: {crate} has {len(files)} constants {name}")
+    return files[0], name
+
+
+def number_of(text):
+    """The number that the right side of a constant is; none where it is another constant's."""
+    words = text.replace("_", "").split()
+    if len(words) == 1 and words[0].isdigit():
+        return int(words[0])
+    if len(words) == 3 and words[0].isdigit() and words[1] in ("<<", "^") and words[2].isdigit():
+        return int(words[0]) << int(words[2]) if words[1] == "<<" else int(words[0]) ** int(words[2])
+    return None
+
+
+class Constant:
+    """A constant of the code: the right side that it has, its number, and the constant of another crate that it stands for."""
+
+    def __init__(self, path, name):
+        self.text = dict(CONSTANT.findall(path.read_text(encoding="utf-8"))).get(name)
+        if self.text is None:
+            raise SystemExit(f"look: {path} has no constant {name} that is a number")
+        self.number, self.other = number_of(self.text), None
+        if self.number is None:
+            stands_for = re.fullmatch(r"(\w+)::([A-Z]\w*)(?: as \w+)?", self.text)
+            if not stands_for:
+                raise SystemExit(f"look: {path}: {name} is no number that is read here: {self.text}")
+            self.other = declaration(*stands_for.groups())
+            self.number = Constant(*self.other).number
+
+
 class Spec:
     """A file of definitions: where each begins, and what stands in it."""
 
     def __init__(self, path):
         text = path.read_text(encoding="utf-8")
         self.names, self.aliases = read_imports(text, r"(?:pub )?use")
+        self.constants, self.files_of_constants = read_constants(text)
         self.lines, self.bodies = {}, {}
         name, depth = None, ""
         for number, line in enumerate(text.split("\n"), 1):
@@ -85,6 +159,15 @@ class Spec:
             if name and alias in self.aliases:
                 yield self.aliases[alias], name
 
+    def constants_in(self, text):
+        """The constants that a text of this file names."""
+        for match in re.finditer(r"[\w.]+", text):
+            alias, _, name = match.group().partition(".")
+            if alias in self.constants:
+                yield self.constants[alias]
+            elif name and alias in self.files_of_constants:
+                yield self.files_of_constants[alias], name
+
 
 def clauses_of(text):
     """The clauses of `pub fn bench`, in order: name and text."""
@@ -102,14 +185,19 @@ def clauses_of(text):
     return clauses
 
 
-def named_by_traits():
-    """The definitions that the clauses of the traits name."""
+def trait_texts():
+    """Of each trait its name, the text of its file, and the words of its clauses."""
     for name, path in TRAITS.items():
         text = path.read_text(encoding="utf-8")
-        names, _ = read_imports(text, "ghost use")
         body = text[text.index(f"pub trait {name}"):]
-        body = re.sub(r"//[^\n]*", "", body[: body.index("\n}\n")])
-        yield from (names[word] for word in set(re.findall(r"\w+", body)) if word in names)
+        yield name, text, set(re.findall(r"\w+", re.sub(r"//[^\n]*", "", body[: body.index("\n}\n")])))
+
+
+def named_by_traits():
+    """The definitions that the clauses of the traits name."""
+    for _, text, words in trait_texts():
+        names, _ = read_imports(text, "ghost use")
+        yield from (names[word] for word in words if word in names)
 
 
 def closure(roots, specs):
@@ -129,6 +217,42 @@ def closure(roots, specs):
     return seen
 
 
+def constants_reached(text, clauses, reached, specs):
+    """Each constant that a clause or a definition names, with the names of these; and those that such a constant stands for."""
+    users = {}
+    in_clauses = {**read_code_constants(text, BENCH.parts[1]), **read_constants(text)[0]}
+    for clause, body in clauses:
+        for word in set(re.findall(r"\w+", body)) & set(in_clauses):
+            users.setdefault(in_clauses[word], set()).add(f"clause {clause}")
+    for trait, code, words in trait_texts():
+        constants, _ = read_constants(code)
+        for word in words & set(constants):
+            users.setdefault(constants[word], set()).add(f"trait `{trait}`")
+    for path, name in reached:
+        for constant in specs[path].constants_in(specs[path].bodies[name]):
+            users.setdefault(constant, set()).add(f"`{name}`")
+    todo = list(users)
+    while todo:
+        path, name = todo.pop()
+        if other := Constant(path, name).other:
+            if other not in users:
+                todo.append(other)
+            users.setdefault(other, set()).add(f"`{path.parts[1]}::{name}`")
+    return users
+
+
+def proved_numbers():
+    """The numbers that `WorkedLimits` says, by constant."""
+    text = LIMITS.read_text(encoding="utf-8")
+    names, aliases = read_constants(text)
+    body = text[text.index("pub record WorkedLimits"):]
+    numbers = {}
+    for word, number in re.findall(r"^  pub \w+ : ([\w.]+) ≡ ([\d^ ]+)$", body, re.M):
+        alias, _, name = word.partition(".")
+        numbers[(aliases[alias], name) if name else names[alias]] = number_of(number)
+    return numbers
+
+
 def short(path):
     return f"{path.parts[1]}/{'/'.join(path.parts[3:])}"
 
@@ -142,33 +266,59 @@ def table(clauses, names, specs):
     return "\n".join(rows)
 
 
+def constant_table(users):
+    rows = ["| Constant | Number | Its file under `crates/*/src/` | Named by |", "|---|---|---|---|"]
+    for path, name in sorted(users, key=lambda constant: (short(constant[0]), constant[1])):
+        rows.append(f"| `{name}` | {Constant(path, name).number:,} | {short(path)} | {', '.join(sorted(users[path, name]))} |")
+    return "\n".join(rows)
+
+
+def renewed(document, marks, rows):
+    """The document with these rows between the marks, or behind its end where it has none."""
+    wanted = "\n".join((marks[0], rows, marks[1]))
+    begin, end = document.find(marks[0]), document.find(marks[1])
+    return document[:begin] + wanted + document[end + len(marks[1]):] if 0 <= begin < end else f"{document}\n{wanted}\n"
+
+
+def complaints(document, wanted, files, users):
+    """What is wrong in the document, and which number is not proved."""
+    for path in files:
+        if f"`{short(path)}`" not in document:
+            yield f"{DOCUMENT} does not name `{short(path)}`, on which `bench` rests"
+    if document != wanted:
+        yield f"a table in {DOCUMENT} is not that of the code: python3 .ci/definitions.py --write"
+    proved = proved_numbers()
+    for path, name in sorted(users, key=str):
+        if proved.get((path, name)) != Constant(path, name).number:
+            yield f"`WorkedLimits` does not say that `{name}` of {short(path)} is {Constant(path, name).number}"
+
+
 def main(arguments):
+    if "--self-test" in arguments:
+        wrong = [text for text, due in SAMPLES.items() if number_of(text) != due]
+        for text in wrong:
+            print(f"look: definitions.py reads {text!r} as {number_of(text)}", file=sys.stderr)
+        return 1 if wrong else 0
     text = BENCH.read_text(encoding="utf-8")
     names, _ = read_imports(text, "ghost use")
     clauses, specs = clauses_of(text), {}
     words = {word for _, clause in clauses for word in re.findall(r"\w+", clause)}
     reached = closure([names[word] for word in words if word in names] + list(named_by_traits()), specs)
     files = sorted({path for path, _ in reached}, key=short)
+    users = constants_reached(text, clauses, reached, specs)
     if "--list" in arguments:
         for path in files:
             print(short(path), ", ".join(sorted(name for p, name in reached if p == path)))
         return 0
     document = DOCUMENT.read_text(encoding="utf-8")
-    wanted = "\n".join((MARKS[0], table(clauses, names, specs), MARKS[1]))
-    begin, end = document.find(MARKS[0]), document.find(MARKS[1])
-    stands = document[begin: end + len(MARKS[1])] if 0 <= begin < end else ""
+    wanted = renewed(renewed(document, CLAUSES, table(clauses, names, specs)), CONSTANTS, constant_table(users))
     if "--write" in arguments:
-        DOCUMENT.write_text(document.replace(stands, wanted) if stands else document + "\n" + wanted + "\n", encoding="utf-8")
+        DOCUMENT.write_text(wanted, encoding="utf-8")
         return 0
-    status = 0
-    for path in files:
-        if f"`{short(path)}`" not in document:
-            print(f"look: {DOCUMENT} does not name `{short(path)}`, on which `bench` rests", file=sys.stderr)
-            status = 1
-    if stands != wanted:
-        print(f"look: the table of clauses in {DOCUMENT} is not that of the code: python3 .ci/definitions.py --write", file=sys.stderr)
-        status = 1
-    return status
+    found = list(complaints(document, wanted, files, users))
+    for complaint in found:
+        print(f"look: {complaint}", file=sys.stderr)
+    return 1 if found else 0
 
 
 if __name__ == "__main__":

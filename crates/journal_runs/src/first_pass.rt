@@ -28,7 +28,7 @@ use tree_manager::{Session, StageRefusal};
 use worker_gate::{Ended, Gate, LeafFound, search_together};
 
 /// How many roots are searched in the first pass at most: while a root waits, each pick looks at it.
-const MOST_FIRST: usize = 4_096;
+pub const MOST_FIRST: usize = 4_096;
 
 /// How many roots there are for each worker between two commits.
 const ROOTS_EACH: usize = 8;

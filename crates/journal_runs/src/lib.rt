@@ -34,6 +34,7 @@ mod runs;
 mod together;
 
 pub use alone::work_alone;
+pub use first_pass::MOST_FIRST;
 pub use refusals::RunRefusal;
 pub use runs::{Account, Plan, solve};
 pub use together::work_together;

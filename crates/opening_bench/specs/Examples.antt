@@ -1,6 +1,6 @@
 -- Worked examples of words on which the clauses of a run rest, one a field, each proved by computation
 -- or in a few steps.
-use Rattle.std.specs.Prelude.{◌≡◌, ◌≤◌, ℕ, true, false, List, [], ◌∷◌, ◌++◌, Ok, Err}
+use Rattle.std.specs.Prelude.{◌≡◌, ◌≤◌, ◌^◌, ℕ, true, false, List, [], ◌∷◌, ◌++◌, Ok, Err}
 use Rattle.bench_disk.specs.Disk.{IsTorn}
 use Rattle.draughts_board.specs.Examples.{king_at_four, man_at_four, man_to_block}
 use Rattle.draughts_board.specs.Resolution.{matches, meaning}
@@ -18,10 +18,13 @@ use Rattle.tree_manager.specs.LiveLeases.{lives_on, rows_left}
 use Rattle.tree_manager.specs.Sessions.{session_budget, with_roots}
 use Rattle.bench_core.specs.declared.settings.TheConstants.{MOST_LEASE, MOST_WORK}
 use Rattle.bench_edges.specs.declared.words.TheConstants as words
-use Rattle.capture_positions.specs.declared.openings.TheConstants.{MOST_OPENINGS}
+use Rattle.capture_positions.specs.declared.jumps.TheConstants.{JUMP_COUNT, OTHER_COUNT}
+use Rattle.capture_positions.specs.declared.openings.TheConstants.{INDEX_COUNT, MOST_OPENINGS, SEED_FACTOR, STEP_FACTOR}
 use Rattle.certificate_checker.specs.declared.outcomes.TheConstants.{MOST_DEPTH}
+use Rattle.journal_runs.specs.declared.first_pass.TheConstants.{MOST_FIRST}
 use Rattle.pdn_text.specs.declared.TheConstants.{MOST_GAMES}
 use Rattle.proof_tree.specs.declared.tree.TheConstants.{MOST_ROOTS}
+use Rattle.strategy_certificate.specs.declared.entries.TheConstants.{MOST_FOUND_RANK, MOST_RANK}
 use Rattle.opening_bench.specs.declared.commands.generate.TheConstants.{GENERATE_DEPTH, GENERATE_LEASE, GENERATE_PIECES}
 use Rattle.opening_bench.specs.declared.commands.solve.TheConstants.{GAMES_LIMIT}
 use Rattle.opening_bench.specs.declared.commands.table_check.TheConstants.{TABLE_LIMIT}
@@ -133,6 +136,16 @@ pub record WorkedLimits : Type 0 where
   pub depth : MOST_DEPTH ≡ 12
   pub lease : MOST_LEASE ≡ 1000000000
   pub openings : MOST_OPENINGS ≡ 2000
+  pub first_searches : MOST_FIRST ≡ 4096
+  -- ranks that a certificate may say, and those that a search gives
+  pub rank : MOST_RANK ≡ 2 ^ 62
+  pub found_rank : MOST_FOUND_RANK ≡ 2 ^ 40
+  -- the walk from a seed
+  pub jumps : JUMP_COUNT ≡ 72
+  pub others : OTHER_COUNT ≡ 29
+  pub indices : INDEX_COUNT ≡ 4176
+  pub seed_factor : SEED_FACTOR ≡ 7919
+  pub step_factor : STEP_FACTOR ≡ 101
   -- numbers that words may say, and those that no word says
   pub fewest_workers : words.LEAST_WORKERS ≡ 1
   pub most_workers : words.MOST_WORKERS ≡ 64
