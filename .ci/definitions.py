@@ -3,8 +3,8 @@
 of the traits of disks, sources, sinks and endgame tables, which say what such an object means.
 
 Without an argument it fails where a file of the closure is not named in docs/DEFINITIONS.md, where a table there, between
-its two marks, is not the one that is computed, or where `WorkedLimits`, which is proved, does not say the number of a
-constant. With `--write` it writes the tables, with `--list` it prints the files of the closure and what of them is used.
+its two marks, is not the one that is computed, where a definition by a command, a refusal or a status has one case for all
+others, or where `WorkedLimits`, which is proved, does not say the number of a constant. With `--write` it writes the tables, with `--list` it prints the files of the closure and what of them is used.
 `definitions.py --self-test` asks that the texts of SAMPLES are read as they are meant.
 """
 import pathlib
@@ -21,6 +21,8 @@ CONSTANTS = ("<!-- begin: constants, written by .ci/definitions.py -->", "<!-- e
 WORD = re.compile(r"[\w?']+(?:-[\w?']+)*")
 HEAD = re.compile(r"^(?:(?:abbrev|record|data|unfoldable|pub|inductive)\s+)*([\w?'-]+)\b")
 CONSTANT = re.compile(r"^(?:pub(?:\(crate\))? )?const ([A-Z]\w*): [ui](?:8|16|32|64|size) = ([^;]*);", re.M)
+# A definition by one of these has a case for each variant, so that a new one has to say its own.
+CASED = ("Command", "Refusal", "Status")
 # What stands on the right of a constant, and the number that is due: none where it is another constant's, or no number.
 SAMPLES = {"1_000_000": 1000000, "1 << 62": 4611686018427387904, "2 ^ 40": 1099511627776, "bench_core::MOST_WORK": None, "72 + 1": None}
 
@@ -253,6 +255,33 @@ def proved_numbers():
     return numbers
 
 
+def split_at_top(text, mark):
+    """The parts of a text between the marks that stand in no brackets."""
+    parts, depth = [""], 0
+    for token in re.findall(r"[(){}]|[^\s(){}]+|\s+", text):
+        depth += {"(": 1, "{": 1, ")": -1, "}": -1}.get(token, 0)
+        if depth == 0 and (token.isspace() if mark.isspace() else token == mark):
+            parts.append("")
+        else:
+            parts[-1] += token
+    return [part.strip() for part in parts if part.strip()]
+
+
+def has_catch_all(name, body):
+    """Whether a definition by a command, a refusal or a status has a case for some variants and one for all others."""
+    lines = body.split("\n")
+    first = next((number for number, line in enumerate(lines) if line.strip().startswith(f"{name} ")), len(lines))
+    signature = " ".join(lines[:first]).partition(" : ")[2]
+    cases = [split_at_top(line.strip().partition(" = ")[0], " ") for line in lines[first:] if line.strip().startswith(f"{name} ") and "=" in line]
+    for place, argument in enumerate(split_at_top(signature, "→"), 1):
+        if argument.strip("()").split(" : ")[-1] in CASED:
+            patterns = [case[place] for case in cases if place < len(case)]
+            catches = [bool(re.match(r"[a-z_]\w*$", pattern)) for pattern in patterns]
+            if any(catches) and not all(catches):
+                return True
+    return False
+
+
 def short(path):
     return f"{path.parts[1]}/{'/'.join(path.parts[3:])}"
 
@@ -280,13 +309,17 @@ def renewed(document, marks, rows):
     return document[:begin] + wanted + document[end + len(marks[1]):] if 0 <= begin < end else f"{document}\n{wanted}\n"
 
 
-def complaints(document, wanted, files, users):
-    """What is wrong in the document, and which number is not proved."""
+def complaints(document, wanted, reached, specs, users):
+    """What is wrong in the document, which definition leaves a case out, and which number is not proved."""
+    files = sorted({path for path, _ in reached}, key=short)
     for path in files:
         if f"`{short(path)}`" not in document:
             yield f"{DOCUMENT} does not name `{short(path)}`, on which `bench` rests"
     if document != wanted:
         yield f"a table in {DOCUMENT} is not that of the code: python3 .ci/definitions.py --write"
+    for path, name in sorted(reached, key=str):
+        if has_catch_all(name, specs[path].bodies[name]):
+            yield f"`{name}` of {short(path)} has one case for all other variants: each has its own"
     proved = proved_numbers()
     for path, name in sorted(users, key=str):
         if proved.get((path, name)) != Constant(path, name).number:
@@ -304,10 +337,9 @@ def main(arguments):
     clauses, specs = clauses_of(text), {}
     words = {word for _, clause in clauses for word in re.findall(r"\w+", clause)}
     reached = closure([names[word] for word in words if word in names] + list(named_by_traits()), specs)
-    files = sorted({path for path, _ in reached}, key=short)
     users = constants_reached(text, clauses, reached, specs)
     if "--list" in arguments:
-        for path in files:
+        for path in sorted({path for path, _ in reached}, key=short):
             print(short(path), ", ".join(sorted(name for p, name in reached if p == path)))
         return 0
     document = DOCUMENT.read_text(encoding="utf-8")
@@ -315,7 +347,7 @@ def main(arguments):
     if "--write" in arguments:
         DOCUMENT.write_text(wanted, encoding="utf-8")
         return 0
-    found = list(complaints(document, wanted, files, users))
+    found = list(complaints(document, wanted, reached, specs, users))
     for complaint in found:
         print(f"look: {complaint}", file=sys.stderr)
     return 1 if found else 0
