@@ -21,6 +21,7 @@ MAY_SAY = {
     "crates/bench_disk/src/short_file.rt": [FALSE],
     "crates/bench_disk/src/failing_disk.rt": ["const TELLS: bool = D::TELLS;"],
     "crates/bench_disk/src/handle_disk.rt": ["const TELLS: bool = F::TELLS;"],
+    "crates/memory_file/src/held.rt": [TRUE],
     "crates/program_edges/src/path_disk.rt": [FALSE],
     # A test of both kinds, which asks that only a disk that tells nothing gives the bytes of a place past its end.
     "crates/journal_tests/src/disks.rt": ["assert!(rt; at == 0 || !D::TELLS);"],

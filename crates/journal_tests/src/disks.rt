@@ -2,14 +2,17 @@
 //!
 //! Each function here is proved too, the dearer the more it calls and compares. So one function,
 //! over any disk, does a list of calls and compares what they answer.
+ghost use Rattle.std.specs.Prelude.{◌≡◌};
+
 use bench_disk::{
-    Disk, DiskFault, FailingCalls, FailingDisk, FaultDisk, FileDisk, FuseDisk, MemoryDisk, Plan,
-    ShortDisk,
+    Disk, DiskFault, FailingCalls, FailingDisk, FaultDisk, FileDisk, FileHandle, FuseDisk,
+    HandleDisk, MemoryDisk, Plan, ShortDisk,
 };
+use memory_file::MemoryFile;
 use std::alloc::{AllocError, Global};
-use std::fs;
 use std::process::Abort;
 use std::test::Fail;
+use std::{fs, io};
 
 /// A call of a disk. A read has the buffer of all reads.
 #[derive(Clone, Copy)]
@@ -284,6 +287,59 @@ fn disk_over_a_short_file_does_all_or_faults(rt: HostRuntime) -> Result<(), Fail
     lead(&rt, &mut disk, &[(Sync, DONE); 12], &mut [], (16, 0));
     compare_short(&rt, &disk, (12, 1), b"drauGHTSMEN");
     compare_image(&rt, rt.alloc(), disk.file().disk(), 0, b"drauGHTSMEN")?;
+    Ok(())
+}
+
+/// On eight bytes, three of which can be read or written at a call.
+const TOLD_CALLS: [(Step, Answer); 5] = [
+    (Length, Ok(8)),
+    (Read(0), Ok(8)),
+    (Read(3), Ok(5)),
+    (Write(0, b"DRAUGHTSMEN"), DONE),
+    (Length, Ok(11)),
+];
+
+/// Stops where the file holds other bytes, or where they outlast a crash and should not, or the other
+/// way round.
+fn compare_told(rt: &impl Abort, disk: &HandleDisk<MemoryFile>, wanted: &[u8], is_lasting: bool) {
+    let file = disk.file();
+    compare(rt, file.bytes(), wanted);
+    assert_eq!(rt; file.is_lasting(), is_lasting);
+}
+
+#[test]
+fn disk_over_a_file_that_tells(rt: HostRuntime) -> Result<(), Fail> {
+    let bytes = b"draughts".to_vec(rt.alloc())?;
+    let mut disk = HandleDisk::over(MemoryFile::of(rt.alloc(), bytes, 3)?);
+    let mut into = [9; 8];
+    lead(&rt, &mut disk, &TOLD_CALLS, &mut into, (5, 0));
+    compare(&rt, &into, b"ughtshts");
+    compare_told(&rt, &disk, b"DRAUGHTSMEN", false);
+    lead(&rt, &mut disk, &[(Sync, DONE)], &mut [], (6, 0));
+    compare_told(&rt, &disk, b"DRAUGHTSMEN", true);
+    lead(&rt, &mut disk, &[(Write(0, b"d"), DONE)], &mut [], (7, 0));
+    compare_told(&rt, &disk, b"dRAUGHTSMEN", false);
+    Ok(())
+}
+
+/// Whether the bytes outlast a crash behind one sync, behind that of the folder, and behind another
+/// sync.
+fn lasting(file: &mut MemoryFile) -> io::Result<[bool; 3]>
+    requires { file.old.moment ≡ 0 }
+{
+    file.sync()?;
+    let alone = file.is_lasting();
+    file.sync_folder()?;
+    let entered = file.is_lasting();
+    file.sync()?;
+    Ok([alone, entered, file.is_lasting()])
+}
+
+#[test]
+fn a_file_lasts_behind_its_folder(rt: HostRuntime) -> Result<(), Fail> {
+    let mut file = MemoryFile::of(rt.alloc(), b"new".to_vec(rt.alloc())?, 3)?;
+    let found = lasting(&mut file).ok();
+    assert_eq!(rt; found, Some([false, false, true]));
     Ok(())
 }
 
