@@ -15,3 +15,4 @@ pub mod TurnLemmas
 pub mod AloneLemmas
 pub mod WorkLemmas
 pub mod RunLemmas
+pub mod ExampleLemmas

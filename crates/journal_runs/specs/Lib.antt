@@ -3,3 +3,4 @@ pub mod Conversions
 pub mod Ends
 pub mod FirstPass
 pub mod Journals
+pub mod Examples

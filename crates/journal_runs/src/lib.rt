@@ -28,6 +28,7 @@
 #![tactic(auto)]
 
 mod alone;
+pub mod examples;
 mod first_pass;
 mod refusals;
 mod runs;
