@@ -19,4 +19,6 @@ mod moves;
 mod player;
 mod ranks;
 
-pub use player::Player;
+pub use moves::chosen_move;
+pub use player::{Player, own_part};
+pub use ranks::{first_rank, next_rank};

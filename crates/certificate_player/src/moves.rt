@@ -97,7 +97,7 @@ fn table_move<O: Oracle>(
 
 /// The move of the part's side at a position from which the part goes on: the entry's, or else one
 /// by the table.
-pub(crate) fn chosen_move<O: Oracle>(
+pub fn chosen_move<O: Oracle>(
     alloc: Global,
     part: &Part,
     oracle: &O,

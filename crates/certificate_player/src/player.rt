@@ -61,7 +61,7 @@ fn tells_hold(claim: Claim, side: Side) -> bool
 }
 
 /// The side's part of a certificate: of a draw Black's part is the first.
-fn own_part(certificate: &Certificate, side: Side) -> &Part
+pub fn own_part(certificate: &Certificate, side: Side) -> &Part
     requires due { map claim_of certificate.now.parts ≡ due_claims certificate.now.claim }
     requires own { TellsHold side certificate.now.claim }
     ensures part { own_part certificate.now side ≡ Some result.now }

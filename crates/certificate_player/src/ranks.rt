@@ -11,7 +11,7 @@ use strategy_certificate::{Oracle, Part, WinPart, table_rank};
 
 /// The rank of a position from which the part goes on: its entry's, or the table's where it has no
 /// entry. A hold part gives none.
-pub(crate) fn first_rank<O: Oracle>(part: &Part, oracle: &O, p: &Position) -> Option<u64>
+pub fn first_rank<O: Oracle>(part: &Part, oracle: &O, p: &Position) -> Option<u64>
     requires { HasRoot part.now (O.answer_at oracle.now) p.now }
     ensures first { IsFirstRank (O.answer_at oracle.now) p.now part.now result }
     ensures follows { Follows (O.answer_at oracle.now) p.now result part.now }
@@ -40,7 +40,7 @@ fn rank_below<O: Oracle>(part: &WinPart, oracle: &O, p: &Position, bound: u64) -
 }
 
 /// The rank of a position behind a move, where `before` was kept. A hold part gives none.
-pub(crate) fn next_rank<O: Oracle>(
+pub fn next_rank<O: Oracle>(
     part: &Part,
     oracle: &O,
     p: &Position,

@@ -1,0 +1,9 @@
+use Rattle.certificate_lines.specs.Lines.{worth}
+use Rattle.certificate_lines.specs.Steps.{GoesOut}
+use Rattle.certificate_lines.proofs.won.play_out.Given as goal
+
+abbrev pub invariant-loop-alloc : goal.invariant-loop-alloc
+invariant-loop-alloc g l = GoesOut (g.O.Oracle.answer_at l.oracle) l.part l.start l.rank l.moves.items l.end l.left
+
+abbrev pub decreases-loop-alloc : goal.decreases-loop-alloc
+decreases-loop-alloc g l = worth l.left
