@@ -4,6 +4,8 @@
 #![tactic(auto)]
 
 #[cfg(test)]
+mod census;
+#[cfg(test)]
 mod joining;
 #[cfg(test)]
 mod parts;

@@ -166,7 +166,7 @@ fn marks_a_repetition(rt: HostRuntime) -> Result<(), Fail> {
 }
 
 /// Adds facts to the leaf with this number, where they hold all that is known of it.
-fn learn(tree: &mut Tree, number: u64, facts: &Facts) -> bool {
+pub(crate) fn learn(tree: &mut Tree, number: u64, facts: &Facts) -> bool {
     match tree.leaf(number) {
         Some(n) => {
             if !facts.includes(&tree.facts(n)) {
