@@ -1,0 +1,4 @@
+pub mod WordLemmas
+pub mod RootLemmas
+pub mod ShownLemmas
+pub mod RunLemmas

@@ -1,0 +1,74 @@
+//! `journal_view`: shows what a journal knows of its roots, and the play behind a root's value.
+//!
+//! [`view`] does all of it, over any sink and any disk, and promises what it writes and what it leaves
+//! ([`run`] hands out why a run was refused, too); `main` only gives it the words, the standard streams
+//! and the journal's file, tells a person of a refusal, and answers `--help` and `--version` itself.
+//!
+//! Proved: the lines of roots are those of what the journal reads as, with numbers and values, and each
+//! value is true (`specs/Shown.antt`). A line of play goes by a certificate of the root's value that was
+//! checked: each of its moves is legal, from the root's position on, and where a side wins it ends in
+//! its win, within its rank. Each refusal comes for its cause, a journal that shows what is asked is not
+//! refused, and the journal is left as it was (`specs/Runs.antt`).
+#![tactic(auto)]
+
+mod ended;
+mod lines;
+mod reading;
+mod roots;
+#[cfg(test)]
+mod row_tests;
+mod running;
+mod shown;
+mod telling;
+mod usage;
+mod words;
+
+use bench_disk::{Access, FileDisk};
+use bench_edges::StdSink;
+pub use ended::Ended;
+pub use lines::DRAWN_PLIES;
+use program_edges::{PathDisk, Standards, args, print, told, words_of};
+pub use running::{run, view};
+use std::io;
+use std::process::ExitCode;
+use telling::tell_of;
+use usage::{USAGE, VERSION};
+pub use words::{Request, read_words};
+
+/// The word of a journal that is named by none.
+const NO_PATH: &str = "-";
+
+/// Runs on the journal of a disk, to standard output, tells of it on standard error, and gives the exit
+/// status.
+fn run_on(rt: &HostRuntime, words: &[&str], disk: PathDisk<FileDisk<&HostRuntime>>) -> u8 {
+    let mut sink = StdSink::new(io::writer(rt));
+    let (ended, _disk) = run(rt.alloc(), words, &mut sink, disk);
+    tell_of(rt, &ended);
+    ended.status.number()
+}
+
+/// Runs on the journal that the first word names, and gives the exit status. No word stands for a journal
+/// in memory, as `-` does.
+fn run_words(rt: &HostRuntime, words: &[&str]) -> Result<u8, u8> {
+    let standards = Standards::take(rt);
+    let path = words.first().copied().unwrap_or(NO_PATH);
+    let disk = standards.disk_of(rt, path, Access::Looks)?;
+    Ok(run_on(rt, words, disk))
+}
+
+/// Tells of the program, or runs as the words of the command line say, and gives the exit status.
+fn run_args(rt: &HostRuntime) -> Result<u8, u8> {
+    let args = args(rt)?;
+    let words = words_of(rt.alloc(), &args)?;
+    match told(&words, USAGE, VERSION) {
+        Some(text) => Ok(print(rt, text)),
+        None => run_words(rt, &words),
+    }
+}
+
+fn main(rt: HostRuntime) -> ExitCode {
+    match run_args(&rt) {
+        Ok(status) => ExitCode::from(status),
+        Err(status) => ExitCode::from(status),
+    }
+}

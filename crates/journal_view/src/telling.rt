@@ -1,0 +1,55 @@
+//! What a person at a terminal is told of a refusal on standard error.
+use crate::ended::Ended;
+use opening_report::Refusal;
+use program_edges::tell;
+use std::alloc::{AllocError, Global};
+use terminal_text::{say, say_number, shown};
+
+/// Appends what can be done about a refusal.
+fn say_refusal(text: &mut Vec<u8>, refusal: &Refusal) -> Result<(), AllocError> {
+    match *refusal {
+        Refusal::Words(_) => say(
+            text,
+            "The words are a journal's path and `roots`, or a path, `line` and the number of a root, 1 to 65536. See \
+                `journal_view --help`.\n",
+        ),
+        Refusal::NoRoot(root) => say_number(
+            text,
+            "The journal has no root ",
+            u64::from(root),
+            ". `roots` lists its roots with their numbers.\n",
+        ),
+        Refusal::UnsettledRoot(root) => say_number(
+            text,
+            "Root ",
+            u64::from(root),
+            " has no value yet. Go on with `opening_bench PATH solve`.\n",
+        ),
+        Refusal::Disk => say(
+            text,
+            "The file that the first word names could not be read. Is the path right, may you read it?\n",
+        ),
+        Refusal::Memory => say(text, "There is not enough memory.\n"),
+        _ => say(
+            text,
+            "The file that the first word names is no journal, or a damaged one.\n",
+        ),
+    }
+}
+
+/// The text for a person on a run that ended so: what can be done about a refusal. It is printable ASCII
+/// and line ends.
+fn text_for(alloc: Global, ended: &Ended) -> Result<Vec<u8>, AllocError> {
+    let mut text = Vec::new(alloc);
+    if let Some(refusal) = &ended.refusal {
+        say_refusal(&mut text, refusal)?;
+    }
+    shown(alloc, &text)
+}
+
+/// Tells it on standard error: nothing else, and nothing where memory is wanting or standard error fails.
+pub(crate) fn tell_of(rt: &HostRuntime, ended: &Ended) {
+    if let Ok(text) = text_for(rt.alloc(), ended) {
+        tell(rt, &text);
+    }
+}
