@@ -31,28 +31,32 @@ use program_edges::{PathDisk, Standards, args, print, told, words_of};
 pub use running::{run, view};
 use std::io;
 use std::process::ExitCode;
-use telling::tell_of;
+use telling::{tell_of, tell_of_disk};
 use usage::{USAGE, VERSION};
 pub use words::{Request, read_words};
 
 /// The word of a journal that is named by none.
 const NO_PATH: &str = "-";
 
+/// The path of the journal. No word stands for a journal in memory, as `-` does.
+fn path_of<'a>(words: &[&'a str]) -> &'a str {
+    words.first().copied().unwrap_or(NO_PATH)
+}
+
 /// Runs on the journal of a disk, to standard output, tells of it on standard error, and gives the exit
 /// status.
 fn run_on(rt: &HostRuntime, words: &[&str], disk: PathDisk<FileDisk<&HostRuntime>>) -> u8 {
     let mut sink = StdSink::new(io::writer(rt));
-    let (ended, _disk) = run(rt.alloc(), words, &mut sink, disk);
+    let (ended, disk) = run(rt.alloc(), words, &mut sink, disk);
+    tell_of_disk(rt, path_of(words), &disk);
     tell_of(rt, &ended);
     ended.status.number()
 }
 
-/// Runs on the journal that the first word names, and gives the exit status. No word stands for a journal
-/// in memory, as `-` does.
+/// Runs on the journal that the first word names, and gives the exit status.
 fn run_words(rt: &HostRuntime, words: &[&str]) -> Result<u8, u8> {
     let standards = Standards::take(rt);
-    let path = words.first().copied().unwrap_or(NO_PATH);
-    let disk = standards.disk_of(rt, path, Access::Looks)?;
+    let disk = standards.disk_of(rt, path_of(words), Access::Looks)?;
     Ok(run_on(rt, words, disk))
 }
 

@@ -1,7 +1,9 @@
 //! What a person at a terminal is told of a refusal on standard error.
 use crate::ended::Ended;
+use bench_disk::FileDisk;
 use opening_report::Refusal;
-use program_edges::tell;
+use program_edges::{PathDisk, tell};
+use refusal_hints::missing_text;
 use std::alloc::{AllocError, Global};
 use terminal_text::{say, say_number, shown};
 
@@ -50,6 +52,15 @@ fn text_for(alloc: Global, ended: &Ended) -> Result<Vec<u8>, AllocError> {
 /// Tells it on standard error: nothing else, and nothing where memory is wanting or standard error fails.
 pub(crate) fn tell_of(rt: &HostRuntime, ended: &Ended) {
     if let Ok(text) = text_for(rt.alloc(), ended) {
+        tell(rt, &text);
+    }
+}
+
+/// Tells of a journal's file that is not there, once the run has ended.
+pub(crate) fn tell_of_disk(rt: &HostRuntime, path: &str, disk: &PathDisk<FileDisk<&HostRuntime>>) {
+    if disk.is_missing()
+        && let Ok(text) = missing_text(rt.alloc(), path)
+    {
         tell(rt, &text);
     }
 }
