@@ -1,6 +1,5 @@
 -- What is read of a journal.
-use Rattle.std.proofs.Common.{◌≡◌, ℕ, List, [], map, sym, subst, ◌⊎◌, inl, inr, ⊎_elim}
-use Rattle.std.specs.Prelude.{Result, Ok, Err, IfOk, IfErr}
+use Rattle.std.proofs.Common.{◌≡◌, ℕ, List, [], map, sym, subst, inl, inr, ⊎_elim}
 use Rattle.std.specs.Bool.{OnFalse}
 use Rattle.shared_words.proofs.Exactness.{on_false}
 use Rattle.disk_journal.specs.declared.payload.Payload.{Payload}
@@ -8,13 +7,13 @@ use Rattle.disk_journal.specs.declared.refusal.JournalRefusal.{JournalRefusal}
 use Rattle.disk_journal.specs.declared.refusal.JournalRefusal.TheVariants.{DiskFault, NotAJournal, OtherTable, Damaged, Memory}
 use Rattle.disk_journal.specs.Format.{HasPayloads, HasPlaces}
 use Rattle.disk_journal.specs.Refusals.{ExplainsAny, says_nothing_of_file}
-use Rattle.bench_core.specs.Cores.{Core}
 use Rattle.bench_core.specs.Growing.{IsForestOf}
-use Rattle.endgame_table.specs.Entries.{Entries}
-use Rattle.tree_manager.specs.Receipts.{SpellsRecords}
+use Rattle.proof_tree.specs.Forest.{Forest}
+use Rattle.bench_records.specs.declared.records.BenchRecord.{BenchRecord}
+use Rattle.tree_manager.specs.Receipts.{ReadsRecords, SpellsRecords}
 use Rattle.tree_manager.specs.Replaying.{RefusesPayloads, payload_texts}
 use Rattle.tree_manager.proofs.ReplayLemmas.{replay_explained}
-use Rattle.journal_looks.specs.Looks.{ExplainsUnread, HasForest}
+use Rattle.journal_looks.specs.Looks.{ExplainsUnread}
 
 -- ---- why it is not read
 
@@ -30,23 +29,19 @@ unread_payload k file payloads (Damaged at) has places refused =
     ⊎_elim (λ own. inl (k, own)) (λ stops. inr (k, stops)) (replay_explained k file payloads (Damaged at) has places refused)
 unread_payload k file payloads (Memory error) has places refused = tt
 
--- ---- the bench that was read, or why there is none
+-- ---- the records that were read
 
-pub forest_read : (k : ℕ) (file : List ℕ) (payloads : List Payload) (answer : Result (Core × Entries) JournalRefusal) → HasPayloads k file (payload_texts payloads)
-    → IfOk answer (λ r. r.1.pieces ≡ k) → IfOk answer (λ r. IsForestOf k r.0.records r.0.state.forest) → IfOk answer (λ r. SpellsRecords k [] r.0.records (payload_texts payloads))
-    → IfOk answer (λ r. HasForest r.1.pieces file r.0.state.forest)
-forest_read k file payloads (Ok r) has table forest spelled =
-    subst (λ n. HasForest n file r.0.state.forest) (sym table) (record {
-      records = r.0.records;
-      read = record { payloads = payload_texts payloads; stands = has; spelled = spelled; lawful = (r.0.state.forest, forest) };
-      forest = forest;
+pub records_read : (k j : ℕ) (file : List ℕ) (payloads given : List Payload) (records : List BenchRecord) (roots : Forest) → given ≡ payloads → HasPayloads k file (payload_texts payloads) → j ≡ k
+    → IsForestOf k records roots → SpellsRecords k [] records (payload_texts given) → ReadsRecords j file records
+records_read k j file payloads given records roots is has same forest spelled =
+    subst (λ n. ReadsRecords n file records) (sym same) (record {
+      payloads = payload_texts payloads;
+      stands = has;
+      spelled = subst (λ (l : List Payload). SpellsRecords k [] records (payload_texts l)) is spelled;
+      lawful = (roots, forest);
     })
-forest_read k file payloads (Err refusal) has table forest spelled = tt
 
-pub refused_read : (k : ℕ) (file : List ℕ) (payloads : List Payload) (answer : Result (Core × Entries) JournalRefusal) → HasPayloads k file (payload_texts payloads)
-    → HasPlaces k file (map (λ p. p.at) payloads) → IfErr answer (RefusesPayloads k payloads) → IfErr answer (ExplainsUnread file)
-refused_read k file payloads (Ok r) has places refused = tt
-refused_read k file payloads (Err refusal) has places refused = unread_payload k file payloads refusal has places refused
-
-pub no_fault_read : (k : ℕ) (payloads : List Payload) (answer : Result (Core × Entries) JournalRefusal) → IfErr answer (RefusesPayloads k payloads) → answer ≡ Err DiskFault → ⊥
-no_fault_read k payloads answer refused is = subst (λ (a : Result (Core × Entries) JournalRefusal). IfErr a (RefusesPayloads k payloads)) is refused
+pub given_unread : (k : ℕ) (file : List ℕ) (payloads given : List Payload) (refusal : JournalRefusal) → given ≡ payloads → HasPayloads k file (payload_texts payloads)
+    → HasPlaces k file (map (λ p. p.at) payloads) → RefusesPayloads k given refusal → ExplainsUnread file refusal
+given_unread k file payloads given refusal is has places refused =
+    unread_payload k file payloads refusal has places (subst (λ (l : List Payload). RefusesPayloads k l refusal) is refused)

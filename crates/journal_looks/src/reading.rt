@@ -1,10 +1,10 @@
-//! The bench of what a journal reads as.
+//! The records of a journal, and the bench of what a journal reads as.
 ghost use Rattle.std.specs.Prelude.{◌≡◌, [], IfOk, IfErr, Err};
 ghost use Rattle.bench_disk.specs.Disk.{IsHonest};
 ghost use Rattle.disk_journal.specs.Reads.{OnlyReads};
 ghost use Rattle.strategy_certificate.specs.Tables.{IsTableSize};
 ghost use Rattle.bench_core.specs.Growing.{IsForestOf};
-ghost use Rattle.tree_manager.specs.Receipts.{SpellsRecords};
+ghost use Rattle.tree_manager.specs.Receipts.{ReadsRecords, SpellsRecords};
 ghost use Rattle.tree_manager.specs.Replaying.{RefusesPayloads, payload_texts};
 ghost use Rattle.journal_looks.specs.Looks.{ExplainsUnread, HasForest};
 
@@ -14,6 +14,15 @@ use disk_journal::{JournalRefusal, Payload, read_journal};
 use endgame_table::{Table, fill};
 use std::alloc::Global;
 use tree_manager::replay_payloads;
+
+/// A bench that has replayed the records of a journal, the payloads that spell them, and the table
+/// that they are for.
+#[derive(Drop)]
+pub struct JournalRecords {
+    pub bench: Bench,
+    pub payloads: Vec<Payload>,
+    pub table: Table,
+}
 
 /// A bench that has replayed the records of these payloads, and the table of `pieces` pieces, which
 /// they are for.
@@ -43,6 +52,29 @@ fn bench_of(
     Ok((bench, table))
 }
 
+/// The records as which a disk reads. It writes nothing to the disk. A fresh disk gives no record,
+/// and the table of 2 pieces.
+pub fn read_records<D: Disk>(alloc: Global, disk: &mut D) -> Result<JournalRecords, JournalRefusal>
+    ensures same { IfOk result (λ read. read.table.pieces ≡ read.bench.state.settings.pieces) }
+    ensures size { IfOk result (λ read. IsTableSize read.table.pieces) }
+    ensures spelled { IfOk result (λ read. SpellsRecords read.table.pieces [] read.bench.records
+        (payload_texts read.payloads.items)) }
+    ensures forest { IfOk result
+        (λ read. IsForestOf read.table.pieces read.bench.records read.bench.state.forest) }
+    ensures read { IsHonest D.TELLS → IfOk result
+        (λ read. ReadsRecords read.table.pieces (D.reads disk.old) read.bench.records) }
+    ensures refused { IsHonest D.TELLS → IfErr result (ExplainsUnread (D.reads disk.old)) }
+    ensures reads { OnlyReads D.Disk disk.old disk.new (result ≡ Err JournalRefusal.DiskFault) }
+{
+    let (pieces, payloads) = read_journal(alloc, disk)?;
+    let (bench, table) = bench_of(alloc, pieces, &payloads)?;
+    Ok(JournalRecords {
+        bench,
+        payloads,
+        table,
+    })
+}
+
 /// A bench that has replayed the records as which a disk reads, and the table that they are for. It
 /// writes nothing to the disk. A fresh disk gives no record, and the table of 2 pieces.
 pub(crate) fn read_bench<D: Disk>(
@@ -56,6 +88,6 @@ pub(crate) fn read_bench<D: Disk>(
     ensures refused { IsHonest D.TELLS → IfErr result (ExplainsUnread (D.reads disk.old)) }
     ensures reads { OnlyReads D.Disk disk.old disk.new (result ≡ Err JournalRefusal.DiskFault) }
 {
-    let (pieces, payloads) = read_journal(alloc, disk)?;
-    bench_of(alloc, pieces, &payloads)
+    let read = read_records(alloc, disk)?;
+    Ok((read.bench, read.table))
 }

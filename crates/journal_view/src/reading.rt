@@ -1,47 +1,16 @@
 //! The bench of what a journal reads as.
-ghost use Rattle.std.specs.Prelude.{◌≡◌, [], IfOk, IfErr, Err};
+ghost use Rattle.std.specs.Prelude.{◌≡◌, IfOk, IfErr, Err};
 ghost use Rattle.bench_disk.specs.Disk.{IsHonest};
 ghost use Rattle.disk_journal.specs.Reads.{OnlyReads};
 ghost use Rattle.strategy_certificate.specs.Tables.{IsTableSize};
-ghost use Rattle.bench_core.specs.Growing.{IsForestOf};
-ghost use Rattle.tree_manager.specs.Receipts.{SpellsRecords};
-ghost use Rattle.tree_manager.specs.Replaying.{RefusesPayloads, payload_texts};
 ghost use Rattle.journal_looks.specs.Looks.{ExplainsUnread, HasForest};
 
-use bench_core::{Bench, Settings};
+use bench_core::Bench;
 use bench_disk::Disk;
-use disk_journal::{JournalRefusal, Payload, read_journal};
-use endgame_table::{Table, fill};
+use disk_journal::JournalRefusal;
+use endgame_table::Table;
+use journal_looks::read_records;
 use std::alloc::Global;
-use tree_manager::replay_payloads;
-
-/// A bench that has replayed the records of these payloads, and the table of `pieces` pieces, which
-/// they are for.
-fn bench_of(
-    alloc: Global,
-    pieces: u8,
-    payloads: &[Payload],
-) -> Result<(Bench, Table), JournalRefusal>
-    requires { IsTableSize pieces }
-    ensures table { IfOk result (λ read. read.1.pieces ≡ pieces) }
-    ensures size { IfOk result (λ read. IsTableSize read.1.pieces) }
-    ensures same { IfOk result (λ read. read.1.pieces ≡ read.0.state.settings.pieces) }
-    ensures forest { IfOk result
-        (λ read. IsForestOf pieces read.0.records read.0.state.forest) }
-    ensures spelled { IfOk result
-        (λ read. SpellsRecords pieces [] read.0.records (payload_texts payloads.now)) }
-    ensures refused { IfErr result (RefusesPayloads pieces payloads.now) }
-{
-    let table = fill(alloc, pieces)?;
-    let settings = Settings {
-        pieces,
-        depth: 0,
-        budget: 0,
-        lease: 1,
-    };
-    let bench = replay_payloads(alloc, settings, payloads, &table)?;
-    Ok((bench, table))
-}
 
 /// A bench that has replayed the records as which a disk reads, and the table that they are for. It
 /// writes nothing to the disk. A fresh disk gives no record, and the table of 2 pieces.
@@ -56,6 +25,6 @@ pub(crate) fn read_bench<D: Disk>(
     ensures refused { IsHonest D.TELLS → IfErr result (ExplainsUnread (D.reads disk.old)) }
     ensures reads { OnlyReads D.Disk disk.old disk.new (result ≡ Err JournalRefusal.DiskFault) }
 {
-    let (pieces, payloads) = read_journal(alloc, disk)?;
-    bench_of(alloc, pieces, &payloads)
+    let read = read_records(alloc, disk)?;
+    Ok((read.bench, read.table))
 }

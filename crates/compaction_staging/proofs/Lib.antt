@@ -1,0 +1,3 @@
+pub mod ProgressLemmas
+pub mod LoopLemmas
+pub mod ShownLemmas
