@@ -208,7 +208,7 @@ def is_installed(fake):
     installing = subprocess.run([fake.top / "bin/install", "a prefix"], capture_output=True, check=False, **fake.how)
     fake.expect(installing.returncode == 0, f"installing ends with {installing.returncode} and says {installing.stderr.decode()}")
     prefix = fake.how["cwd"] / "a prefix"
-    for name in (NAME, "game_reader", "strategy_player", "journal_view"):
+    for name in (NAME, "game_reader", "strategy_player", "journal_view", "journal_shorten"):
         how = {"input": b"in\n", "stdout": subprocess.PIPE, "env": {"PATH": "/usr/bin:/bin"}, "check": False}
         wrote = subprocess.run([prefix / "bin" / name, "a b"], **how).stdout
         fake.expect(wrote == b"in\n%s a b\n" % name.encode(), f"where it is installed {name} writes {wrote}")
@@ -223,7 +223,7 @@ def is_installed(fake):
 def main():
     faults = []
     with tempfile.TemporaryDirectory(prefix="built-") as folder:
-        fake = Fake(pathlib.Path(folder), [*CRATES, "fen_text", "game_reader", "strategy_player", "journal_view"])
+        fake = Fake(pathlib.Path(folder), [*CRATES, "fen_text", "game_reader", "strategy_player", "journal_view", "journal_shorten"])
         for look in (is_stopped_and_goes_on, says_one_line_at_a_terminal, sees_changes, is_installed):
             look(fake)
         faults += fake.faults

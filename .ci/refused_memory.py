@@ -5,8 +5,10 @@ The program is the first argument. It is run with a small library before the C l
 `realloc`, told by its number, and passes the others. Three runs are tried so: `verify`, and `solve` of two roots by four workers, on a
 journal in memory and on a new file. Each ends with status 6, or as it ends with ample memory, or with status 4 or 8 if the disk or the
 sink found no memory. It writes what that status has. The file that `solve` leaves reads as no root or as both, each with its value or
-none, and a run with ample memory goes on from it to both values. How many allocations were refused is written at the end. If no C
-compiler is here, or the library cannot be put before the C library, a line says so.
+none, and a run with ample memory goes on from it to both values. The second argument, where there is one, is `journal_shorten`: it
+is run on a journal of two records in the same way, has to leave that as it was, and the new file without a record or whole. How many
+allocations were refused is written at the end. If no C compiler is here, or the library cannot be put before the C library, a line
+says so.
 """
 import os
 import pathlib
@@ -42,6 +44,11 @@ ROOTS = b'[FEN "W:W16,23:B12"] * [FEN "B:W21:B10,17"] *'
 SOLVE = ["solve", "--workers", "4", "--depth", "1"]
 CERTIFICATE = b"certificate 1\ntable 2\nposition W:W16,23:B12\nclaim white-wins\nwin white 2\nW:W16,23:B12 1 23-19\nB:W16,19:B12 0\nend\n"
 VERIFIED = b"verified W:W16,23:B12 white-wins\n"
+OLD = pathlib.Path(__file__).resolve().parent.parent / "crates" / "journal_shorten" / "data" / "first.journal"
+SHORTEN = ["shorten", "old", "new"]
+SHORTER = (0, b"roots 1 records 2 to 2\n")
+# A fresh file has at most this number of bytes.
+MOST_FRESH = 9
 
 
 def report(first, second):
@@ -113,6 +120,22 @@ def try_file(program):
     return tried
 
 
+def try_shortening(shortener):
+    """How many allocations a run of `journal_shorten` makes; what is left of both files without each is looked at."""
+    old, new = (pathlib.Path(shortener.folder, name) for name in SHORTEN[1:])
+    bytes_before, tried = OLD.read_bytes(), 0
+    old.write_bytes(bytes_before)
+    shortener.run(SHORTEN, b"")
+    whole = new.read_bytes()
+    for tried in each_refused(shortener, SHORTEN, b"", SHORTER, lambda: new.unlink(missing_ok=True)):
+        left = new.read_bytes() if new.exists() else b""
+        if old.read_bytes() != bytes_before:
+            complaints.append(f"{SHORTEN} without allocation {tried} changes the old journal")
+        if left != whole and len(left) > MOST_FRESH and left[8] == 1:
+            complaints.append(f"{SHORTEN} without allocation {tried} leaves another new journal")
+    return tried
+
+
 def library_in(folder):
     """The library, compiled by the kit's compiler or another one; none where there is none."""
     source, library = os.path.join(folder, "refusing.c"), os.path.join(folder, "refusing.so")
@@ -136,11 +159,14 @@ def main():
             sum(1 for _ in each_refused(program, ["-", *SOLVE], ROOTS, WHOLE)),
             try_file(program),
         ]
+        if len(sys.argv) > 2:
+            tried.append(try_shortening(Program(os.path.abspath(sys.argv[2]), library, folder)))
     if 0 in tried:
         print("look: no library can be put before the C library here, so no allocation was refused", file=sys.stderr)
         return 0
     print(*(f"look: {line}" for line in complaints), sep="\n", end="\n" if complaints else "", file=sys.stderr)
-    print("refused memory: {} allocations of `verify`, {} of `solve` in memory and {} on a file, each once".format(*tried), file=sys.stderr)
+    said = "{} allocations of `verify`, {} of `solve` in memory and {} on a file, {} of `journal_shorten`".format(*tried, *([0] * (4 - len(tried))))
+    print(f"refused memory: {said}, each once", file=sys.stderr)
     return 1 if complaints else 0
 
 

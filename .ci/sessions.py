@@ -12,7 +12,7 @@ import sys
 import tempfile
 
 SECONDS = 120
-PROGRAMS = ("opening_bench", "strategy_player", "journal_view")
+PROGRAMS = ("opening_bench", "strategy_player", "journal_view", "journal_shorten")
 
 
 def sessions(text):
