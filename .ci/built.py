@@ -50,7 +50,7 @@ class Fake:
         self.top, self.rt, self.faults = folder / "a copy", folder / "rt", []
         for crate in crates:
             for root, folders, files in os.walk(TOP / "crates" / crate):
-                folders[:] = [name for name in folders if name not in ("out", "must-fail", "data")]
+                folders[:] = [name for name in folders if name not in ("out", "must-fail", "more-edits", "data")]
                 (self.top / os.path.relpath(root, TOP)).mkdir(parents=True)
                 for name in files:
                     (self.top / os.path.relpath(root, TOP) / name).write_bytes(b"\n")

@@ -11,8 +11,8 @@ import pathlib
 import re
 import sys
 
-BENCH = pathlib.Path("crates/opening_bench/src/bench.rt")
-LIMITS = pathlib.Path("crates/opening_bench/specs/Examples.antt")
+BENCH = pathlib.Path("crates/bench_commands/src/top_call.rt")
+LIMITS = pathlib.Path("crates/bench_commands/specs/Examples.antt")
 TRAITS = {"Disk": pathlib.Path("crates/bench_disk/src/disk.rt"), "Source": pathlib.Path("crates/bench_edges/src/source.rt"),
           "Sink": pathlib.Path("crates/bench_edges/src/sink.rt"), "Oracle": pathlib.Path("crates/strategy_certificate/src/oracle.rt")}
 DOCUMENT = pathlib.Path("docs/DEFINITIONS.md")

@@ -44,6 +44,7 @@ def try_bytes(program):
     for command, most, within in (
         ("table-check", TABLE_BYTES, "refused input table bad-head"),
         ("verify", CERTIFICATE_BYTES, "refused input certificate truncated"),
+        ("learn", CERTIFICATE_BYTES, "refused input certificate truncated"),
     ):
         for count, due in ((most, within), (most + 1, "refused input too-long")):
             status, lines = run(program, ["-", command], blanks(count))

@@ -2,10 +2,11 @@
 """Fails where a run that is refused memory does something else than it may. Each allocation is refused once, one number at a time.
 
 The program is the first argument. It is run with a small library before the C library that refuses one call of `malloc`, `calloc` or
-`realloc`, told by its number, and passes the others. Three runs are tried so: `verify`, and `solve` of two roots by four workers, on a
-journal in memory and on a new file. Each ends with status 6, or as it ends with ample memory, or with status 4 or 8 if the disk or the
-sink found no memory. It writes what that status has. The file that `solve` leaves reads as no root or as both, each with its value or
-none, and a run with ample memory goes on from it to both values. The second argument, where there is one, is `journal_shorten`: it
+`realloc`, told by its number, and passes the others. Four runs are tried so: `verify`, `solve` of two roots by four workers, on a
+journal in memory and on a new file, and `learn` on a new file. Each ends with status 6, or as it ends with ample memory, or with
+status 4 or 8 if the disk or the sink found no memory. It writes what that status has. The file that `solve` leaves reads as no root
+or as both, each with its value or none, and a run with ample memory goes on from it to both values. That of `learn` reads as no root
+or as its one with its value. The second argument, where there is one, is `journal_shorten`: it
 is run on a journal of two records in the same way, has to leave that as it was, and the new file without a record or whole. How many
 allocations were refused is written at the end. If no C compiler is here, or the library cannot be put before the C library, a line
 says so.
@@ -44,6 +45,9 @@ ROOTS = b'[FEN "W:W16,23:B12"] * [FEN "B:W21:B10,17"] *'
 SOLVE = ["solve", "--workers", "4", "--depth", "1"]
 CERTIFICATE = b"certificate 1\ntable 2\nposition W:W16,23:B12\nclaim white-wins\nwin white 2\nW:W16,23:B12 1 23-19\nB:W16,19:B12 0\nend\n"
 VERIFIED = b"verified W:W16,23:B12 white-wins\n"
+LEARN = ["learnt", "learn"]
+LEARNT = (0, b"learnt 1 W:W16,23:B12 white-wins\n")
+LESSONS = [(0, b"roots 0 settled 0 unsolved 0\n"), (0, b"root 1 W:W16,23:B12 white-wins\nroots 1 settled 1 unsolved 0\n")]
 OLD = pathlib.Path(__file__).resolve().parent.parent / "crates" / "journal_shorten" / "data" / "first.journal"
 SHORTEN = ["shorten", "old", "new"]
 SHORTER = (0, b"roots 1 records 2 to 2\n")
@@ -120,6 +124,16 @@ def try_file(program):
     return tried
 
 
+def try_lesson(program):
+    """How many allocations a run makes that learns a certificate; what is left of the file without each is looked at."""
+    journal, tried = pathlib.Path(program.folder, LEARN[0]), 0
+    for tried in each_refused(program, LEARN, CERTIFICATE, LEARNT, lambda: journal.unlink(missing_ok=True)):
+        ended = program.run([journal.name, "report"], b"")
+        if ended not in LESSONS:
+            complaints.append(f"the file that {LEARN} leaves without allocation {tried} is reported as {ended}")
+    return tried
+
+
 def try_shortening(shortener):
     """How many allocations a run of `journal_shorten` makes; what is left of both files without each is looked at."""
     old, new = (pathlib.Path(shortener.folder, name) for name in SHORTEN[1:])
@@ -158,6 +172,7 @@ def main():
             sum(1 for _ in each_refused(program, ["-", "verify"], CERTIFICATE, (0, VERIFIED))),
             sum(1 for _ in each_refused(program, ["-", *SOLVE], ROOTS, WHOLE)),
             try_file(program),
+            try_lesson(program),
         ]
         if len(sys.argv) > 2:
             tried.append(try_shortening(Program(os.path.abspath(sys.argv[2]), library, folder)))
@@ -165,7 +180,7 @@ def main():
         print("look: no library can be put before the C library here, so no allocation was refused", file=sys.stderr)
         return 0
     print(*(f"look: {line}" for line in complaints), sep="\n", end="\n" if complaints else "", file=sys.stderr)
-    said = "{} allocations of `verify`, {} of `solve` in memory and {} on a file, {} of `journal_shorten`".format(*tried, *([0] * (4 - len(tried))))
+    said = "{} allocations of `verify`, {} of `solve` in memory and {} on a file, {} of `learn`, {} of `journal_shorten`".format(*tried, *([0] * (5 - len(tried))))
     print(f"refused memory: {said}, each once", file=sys.stderr)
     return 1 if complaints else 0
 

@@ -31,7 +31,7 @@ def main():
     top = pathlib.Path(__file__).resolve().parent.parent
     found = set()
     for folder in (top / "crates").iterdir():
-        if BESIDE.search(folder.name) and folder.name != "opening_bench":
+        if BESIDE.search(folder.name):
             continue
         for path in (folder / "src").glob("**/*.rt"):
             if not path.name.endswith("tests.rt"):

@@ -4,7 +4,7 @@ _opening_bench() {
     if [ "$COMP_CWORD" = 1 ]; then
         COMPREPLY=($(compgen -W "- --help --version" -- "$word") $(compgen -f -- "$word"))
     elif [ "$COMP_CWORD" = 2 ]; then
-        COMPREPLY=($(compgen -W "solve generate report certify verify table table-check" -- "$word"))
+        COMPREPLY=($(compgen -W "solve generate report certify verify learn table table-check" -- "$word"))
     elif [ "${COMP_WORDS[2]}" = solve ] && [ $((COMP_CWORD % 2)) = 1 ]; then
         COMPREPLY=($(compgen -W "--workers --depth --pieces --plies --budget --lease" -- "$word"))
     elif [ "$before" = --pieces ] || [ "${COMP_WORDS[2]}" = table ]; then

@@ -21,7 +21,7 @@ def memory(count):
     return os.wait4(run.pid, 0)[2].ru_maxrss * 1024
 
 
-for count in (589_824, 589_825, 1_000_000, 1_179_648, 1_179_649, 2_359_297):
+for count in (524_288, 524_289, 1_000_000, 1_048_576, 1_048_577, 2_097_153):
     print(f"a list of {count} positions: {memory(count) / count:.1f} bytes a position, with all else that the program holds", flush=True)
 PYTHON
 folder=$(mktemp -d)

@@ -106,17 +106,24 @@ impl<R: Files<File = File> + Drop> PathFile<R> {
         }
     }
 
-    /// Opens the file where it is not open.
-    fn open(&mut self) -> io::Result<()> {
-        if self.file.is_some() {
-            return Ok(());
+    /// Opens the file for what the disk is for; none where it is missing and is not made.
+    fn open_for_access(&self) -> io::Result<Option<File>> {
+        match self.access {
+            Access::Looks => self.open_to_look(),
+            Access::Writes => Ok(Some(self.open_to_write()?)),
         }
-        self.file = match self.access {
-            Access::Looks => self.open_to_look()?,
-            Access::Writes => Some(self.open_to_write()?),
-        };
-        self.is_missing = self.file.is_none();
-        Ok(())
+    }
+
+    /// Opens the file, which is not open. Where that is refused, the answer is what the system said.
+    fn open(&mut self) -> Result<(), io::ErrorKind> {
+        match self.open_for_access() {
+            Ok(file) => {
+                self.is_missing = file.is_none();
+                self.file = file;
+                Ok(())
+            }
+            Err(error) => Err(error.kind()),
+        }
     }
 
     /// The file, where it is open.
@@ -139,7 +146,9 @@ impl<R: Files<File = File> + Drop> PathFile<R> {
 
     /// How many bytes it has.
     fn measured(&mut self) -> io::Result<u64> {
-        self.open()?;
+        if self.file.is_none() {
+            self.open()?;
+        }
         if self.is_missing {
             return Ok(0);
         }
@@ -150,7 +159,9 @@ impl<R: Files<File = File> + Drop> PathFile<R> {
     fn read_from(&mut self, at: u64, into: &mut [u8]) -> io::Result<usize>
         ensures { IfOk result (λ n. n ≤ length into.old) }
     {
-        self.open()?;
+        if self.file.is_none() {
+            self.open()?;
+        }
         if self.is_missing || at > MOST_LENGTH {
             return Ok(0);
         }
@@ -161,19 +172,25 @@ impl<R: Files<File = File> + Drop> PathFile<R> {
     fn write_from(&mut self, at: u64, from: &[u8]) -> io::Result<usize>
         ensures { IfOk result (λ n. n ≤ length from.now) }
     {
-        self.open()?;
+        if self.file.is_none() {
+            self.open()?;
+        }
         self.opened()?.write_at(from, at)
     }
 
     /// Syncs its bytes.
     fn synced(&mut self) -> io::Result<()> {
-        self.open()?;
+        if self.file.is_none() {
+            self.open()?;
+        }
         self.opened()?.sync_all()
     }
 
     /// Syncs its folder.
     fn folder_synced(&mut self) -> io::Result<()> {
-        self.open()?;
+        if self.file.is_none() {
+            self.open()?;
+        }
         folder_of(&self.rt, self.path.as_str())?.sync_all()
     }
 }

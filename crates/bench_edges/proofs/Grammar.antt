@@ -7,7 +7,7 @@ use Rattle.std.proofs.lemmas.Slice.Eq.{bytes_eq-Decides}
 use Rattle.std.specs.List.{flat_map}
 use Rattle.std.specs.Str.{bytes_eq}
 use Rattle.bench_edges.specs.declared.words.Command.{Command}
-use Rattle.bench_edges.specs.declared.words.Command.TheVariants.{Solve, Report, Certify, Verify, MakeTable, TableCheck, Generate}
+use Rattle.bench_edges.specs.declared.words.Command.TheVariants.{Solve, Report, Certify, Verify, Learn, MakeTable, TableCheck, Generate}
 use Rattle.bench_edges.specs.declared.words.Options.{Options}
 use Rattle.bench_edges.specs.declared.words.WordsRefusal.{WordsRefusal}
 use Rattle.bench_edges.specs.declared.words.SolveOption.{SolveOption}
@@ -24,19 +24,21 @@ name_of (Solve options) = codes "solve"
 name_of Report = codes "report"
 name_of (Certify root) = codes "certify"
 name_of Verify = codes "verify"
+name_of Learn = codes "learn"
 name_of (MakeTable pieces) = codes "table"
 name_of TableCheck = codes "table-check"
 name_of (Generate seed count) = codes "generate"
 
 -- a word that is no command's name
-pub no_name : (word : List ℕ) → word ≢ codes "solve" → word ≢ codes "report" → word ≢ codes "certify" → word ≢ codes "verify" → word ≢ codes "table" → word ≢ codes "table-check" → word ≢ codes "generate" → (command : Command) → word ≢ name_of command
-no_name word solve report certify verify table table_check generate (Solve options) = solve
-no_name word solve report certify verify table table_check generate Report = report
-no_name word solve report certify verify table table_check generate (Certify root) = certify
-no_name word solve report certify verify table table_check generate Verify = verify
-no_name word solve report certify verify table table_check generate (MakeTable pieces) = table
-no_name word solve report certify verify table table_check generate TableCheck = table_check
-no_name word solve report certify verify table table_check generate (Generate seed count) = generate
+pub no_name : (word : List ℕ) → word ≢ codes "solve" → word ≢ codes "report" → word ≢ codes "certify" → word ≢ codes "verify" → word ≢ codes "learn" → word ≢ codes "table" → word ≢ codes "table-check" → word ≢ codes "generate" → (command : Command) → word ≢ name_of command
+no_name word solve report certify verify learn table table_check generate (Solve options) = solve
+no_name word solve report certify verify learn table table_check generate Report = report
+no_name word solve report certify verify learn table table_check generate (Certify root) = certify
+no_name word solve report certify verify learn table table_check generate Verify = verify
+no_name word solve report certify verify learn table table_check generate Learn = learn
+no_name word solve report certify verify learn table table_check generate (MakeTable pieces) = table
+no_name word solve report certify verify learn table table_check generate TableCheck = table_check
+no_name word solve report certify verify learn table table_check generate (Generate seed count) = generate
 
 names_differ : (one other : List ℕ) → bytes_eq one other ≡ false → one ≢ other
 names_differ one other apart same =
@@ -56,6 +58,7 @@ command_called words (Solve options) says = record { path = says.path; rest = fl
 command_called words Report says = record { path = says.path; rest = []; spelling = says.spelling; named = says.named }
 command_called words (Certify root) says = record { path = says.0.path; rest = decimal root ∷ []; spelling = says.0.spelling; named = says.0.named }
 command_called words Verify says = record { path = says.path; rest = []; spelling = says.spelling; named = says.named }
+command_called words Learn says = record { path = says.path; rest = []; spelling = says.spelling; named = says.named }
 command_called words (MakeTable pieces) says = record { path = says.0.path; rest = decimal pieces ∷ []; spelling = says.0.spelling; named = says.0.named }
 command_called words TableCheck says = record { path = says.path; rest = []; spelling = says.spelling; named = says.named }
 command_called words (Generate seed count) says = record { path = says.0.path; rest = decimal seed ∷ decimal count ∷ []; spelling = says.0.spelling; named = says.0.named }
@@ -71,6 +74,7 @@ only_solve words (Solve options) says same = (options, (refl, says))
 only_solve words Report says same = absurd (names_differ (codes "report") (codes "solve") refl same)
 only_solve words (Certify root) says same = absurd (names_differ (codes "certify") (codes "solve") refl same)
 only_solve words Verify says same = absurd (names_differ (codes "verify") (codes "solve") refl same)
+only_solve words Learn says same = absurd (names_differ (codes "learn") (codes "solve") refl same)
 only_solve words (MakeTable pieces) says same = absurd (names_differ (codes "table") (codes "solve") refl same)
 only_solve words TableCheck says same = absurd (names_differ (codes "table-check") (codes "solve") refl same)
 only_solve words (Generate seed count) says same = absurd (names_differ (codes "generate") (codes "solve") refl same)
@@ -80,6 +84,7 @@ only_table words (Solve options) says same = absurd (names_differ (codes "solve"
 only_table words Report says same = absurd (names_differ (codes "report") (codes "table") refl same)
 only_table words (Certify root) says same = absurd (names_differ (codes "certify") (codes "table") refl same)
 only_table words Verify says same = absurd (names_differ (codes "verify") (codes "table") refl same)
+only_table words Learn says same = absurd (names_differ (codes "learn") (codes "table") refl same)
 only_table words (MakeTable pieces) says same = (pieces, (refl, says))
 only_table words TableCheck says same = absurd (names_differ (codes "table-check") (codes "table") refl same)
 only_table words (Generate seed count) says same = absurd (names_differ (codes "generate") (codes "table") refl same)
@@ -89,6 +94,7 @@ only_certify words (Solve options) says same = absurd (names_differ (codes "solv
 only_certify words Report says same = absurd (names_differ (codes "report") (codes "certify") refl same)
 only_certify words (Certify root) says same = (root, (refl, says))
 only_certify words Verify says same = absurd (names_differ (codes "verify") (codes "certify") refl same)
+only_certify words Learn says same = absurd (names_differ (codes "learn") (codes "certify") refl same)
 only_certify words (MakeTable pieces) says same = absurd (names_differ (codes "table") (codes "certify") refl same)
 only_certify words TableCheck says same = absurd (names_differ (codes "table-check") (codes "certify") refl same)
 only_certify words (Generate seed count) says same = absurd (names_differ (codes "generate") (codes "certify") refl same)
@@ -98,6 +104,7 @@ only_generate words (Solve options) says same = absurd (names_differ (codes "sol
 only_generate words Report says same = absurd (names_differ (codes "report") (codes "generate") refl same)
 only_generate words (Certify root) says same = absurd (names_differ (codes "certify") (codes "generate") refl same)
 only_generate words Verify says same = absurd (names_differ (codes "verify") (codes "generate") refl same)
+only_generate words Learn says same = absurd (names_differ (codes "learn") (codes "generate") refl same)
 only_generate words (MakeTable pieces) says same = absurd (names_differ (codes "table") (codes "generate") refl same)
 only_generate words TableCheck says same = absurd (names_differ (codes "table-check") (codes "generate") refl same)
 only_generate words (Generate seed count) says same = (seed, count, (refl, says))
@@ -108,6 +115,7 @@ only_plain Report (Solve options) plain same = absurd (names_differ (codes "solv
 only_plain Report Report plain same = refl
 only_plain Report (Certify root) plain same = absurd (names_differ (codes "certify") (codes "report") refl same)
 only_plain Report Verify plain same = absurd (names_differ (codes "verify") (codes "report") refl same)
+only_plain Report Learn plain same = absurd (names_differ (codes "learn") (codes "report") refl same)
 only_plain Report (MakeTable pieces) plain same = absurd (names_differ (codes "table") (codes "report") refl same)
 only_plain Report TableCheck plain same = absurd (names_differ (codes "table-check") (codes "report") refl same)
 only_plain Report (Generate seed count) plain same = absurd (names_differ (codes "generate") (codes "report") refl same)
@@ -116,14 +124,24 @@ only_plain Verify (Solve options) plain same = absurd (names_differ (codes "solv
 only_plain Verify Report plain same = absurd (names_differ (codes "report") (codes "verify") refl same)
 only_plain Verify (Certify root) plain same = absurd (names_differ (codes "certify") (codes "verify") refl same)
 only_plain Verify Verify plain same = refl
+only_plain Verify Learn plain same = absurd (names_differ (codes "learn") (codes "verify") refl same)
 only_plain Verify (MakeTable pieces) plain same = absurd (names_differ (codes "table") (codes "verify") refl same)
 only_plain Verify TableCheck plain same = absurd (names_differ (codes "table-check") (codes "verify") refl same)
 only_plain Verify (Generate seed count) plain same = absurd (names_differ (codes "generate") (codes "verify") refl same)
+only_plain Learn (Solve options) plain same = absurd (names_differ (codes "solve") (codes "learn") refl same)
+only_plain Learn Report plain same = absurd (names_differ (codes "report") (codes "learn") refl same)
+only_plain Learn (Certify root) plain same = absurd (names_differ (codes "certify") (codes "learn") refl same)
+only_plain Learn Verify plain same = absurd (names_differ (codes "verify") (codes "learn") refl same)
+only_plain Learn Learn plain same = refl
+only_plain Learn (MakeTable pieces) plain same = absurd (names_differ (codes "table") (codes "learn") refl same)
+only_plain Learn TableCheck plain same = absurd (names_differ (codes "table-check") (codes "learn") refl same)
+only_plain Learn (Generate seed count) plain same = absurd (names_differ (codes "generate") (codes "learn") refl same)
 only_plain (MakeTable pieces) other plain same = absurd plain
 only_plain TableCheck (Solve options) plain same = absurd (names_differ (codes "solve") (codes "table-check") refl same)
 only_plain TableCheck Report plain same = absurd (names_differ (codes "report") (codes "table-check") refl same)
 only_plain TableCheck (Certify root) plain same = absurd (names_differ (codes "certify") (codes "table-check") refl same)
 only_plain TableCheck Verify plain same = absurd (names_differ (codes "verify") (codes "table-check") refl same)
+only_plain TableCheck Learn plain same = absurd (names_differ (codes "learn") (codes "table-check") refl same)
 only_plain TableCheck (MakeTable pieces) plain same = absurd (names_differ (codes "table") (codes "table-check") refl same)
 only_plain TableCheck TableCheck plain same = refl
 only_plain TableCheck (Generate seed count) plain same = absurd (names_differ (codes "generate") (codes "table-check") refl same)
@@ -135,6 +153,7 @@ plain_said words (Solve options) plain says = absurd plain
 plain_said words Report plain says = says
 plain_said words (Certify root) plain says = absurd plain
 plain_said words Verify plain says = says
+plain_said words Learn plain says = says
 plain_said words (MakeTable pieces) plain says = absurd plain
 plain_said words TableCheck plain says = says
 plain_said words (Generate seed count) plain says = absurd plain
@@ -190,6 +209,7 @@ one_command words (Certify root) second one two =
     let others = other.1.1.1.1 in
     ap (λ r. Certify r) (same_number (codes "certify") words root other.0 (omega arith) (omega arith) one.0 other.1.1.0) ∙ sym other.1.0
 one_command words Verify second one two = sym (only_plain Verify second tt (one_name words Verify second one two))
+one_command words Learn second one two = sym (only_plain Learn second tt (one_name words Learn second one two))
 one_command words (MakeTable pieces) second one two =
     let other = only_table words second two (one_name words (MakeTable pieces) second one two) in
     ap (λ p. MakeTable p) (same_number (codes "table") words pieces other.0 (few_pieces pieces one.1) (few_pieces other.0 other.1.1.1) one.0 other.1.1.0) ∙ sym other.1.0
@@ -295,6 +315,7 @@ says_limits words (Solve options) says = solve_limits words options says
 says_limits words Report says = tt
 says_limits words (Certify root) says = says.1
 says_limits words Verify says = tt
+says_limits words Learn says = tt
 says_limits words (MakeTable pieces) says = says.1
 says_limits words TableCheck says = tt
 says_limits words (Generate seed count) says = says.1

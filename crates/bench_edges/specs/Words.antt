@@ -4,6 +4,7 @@
 --   PATH report
 --   PATH certify N
 --   PATH verify
+--   PATH learn
 --   PATH table K
 --   PATH table-check
 --   PATH generate SEED COUNT
@@ -17,7 +18,7 @@ use Rattle.std.specs.List.{flat_map}
 use Rattle.std.specs.Str.{bytes_eq}
 use Rattle.strategy_certificate.specs.Tables.{IsTableSize}
 use Rattle.bench_edges.specs.declared.words.Command.{Command}
-use Rattle.bench_edges.specs.declared.words.Command.TheVariants.{Solve, Report, Certify, Verify, MakeTable, TableCheck, Generate}
+use Rattle.bench_edges.specs.declared.words.Command.TheVariants.{Solve, Report, Certify, Verify, Learn, MakeTable, TableCheck, Generate}
 use Rattle.bench_edges.specs.declared.words.Options.{Options}
 use Rattle.bench_edges.specs.declared.words.SolveOption.{SolveOption}
 use Rattle.bench_edges.specs.declared.words.SolveOption.TheVariants.{Workers, Depth, Pieces, Plies, Budget, Lease}
@@ -167,6 +168,7 @@ Says words (Solve options) = SaysSolve words options
 Says words Report = SaysPlain (codes "report") words
 Says words (Certify root) = SaysNumbered (codes "certify") words root × IsRootNumber root
 Says words Verify = SaysPlain (codes "verify") words
+Says words Learn = SaysPlain (codes "learn") words
 Says words (MakeTable pieces) = SaysNumbered (codes "table") words pieces × IsTableSize pieces
 Says words TableCheck = SaysPlain (codes "table-check") words
 Says words (Generate seed count) = SaysGenerate words seed count × AreGenerated seed count
@@ -179,6 +181,7 @@ IsWithinLimits (Solve options) =
 IsWithinLimits Report = Unit {0}
 IsWithinLimits (Certify root) = IsRootNumber root
 IsWithinLimits Verify = Unit {0}
+IsWithinLimits Learn = Unit {0}
 IsWithinLimits (MakeTable pieces) = IsTableSize pieces
 IsWithinLimits TableCheck = Unit {0}
 IsWithinLimits (Generate seed count) = AreGenerated seed count
@@ -189,6 +192,7 @@ IsPlain (Solve options) = ⊥
 IsPlain Report = Unit {0}
 IsPlain (Certify root) = ⊥
 IsPlain Verify = Unit {0}
+IsPlain Learn = Unit {0}
 IsPlain (MakeTable pieces) = ⊥
 IsPlain TableCheck = Unit {0}
 IsPlain (Generate seed count) = ⊥

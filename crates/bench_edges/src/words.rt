@@ -17,6 +17,8 @@ pub enum Command {
     Certify(u32),
     /// Check the text of a certificate, which the source holds.
     Verify,
+    /// Take the certificate that the source holds into the journal.
+    Learn,
     /// Write the endgame table of this number of pieces, 2 or 3.
     MakeTable(u8),
     /// Check the endgame table that the source holds.
@@ -141,11 +143,12 @@ pub const SOLVE_OPTIONS: [SolveOption; OPTION_COUNT] = [
 ];
 
 /// The names of the commands, in the order of the manual.
-pub const COMMAND_NAMES: [&str; 7] = [
+pub const COMMAND_NAMES: [&str; 8] = [
     "solve",
     "report",
     "certify",
     "verify",
+    "learn",
     "table",
     "table-check",
     "generate",
@@ -343,6 +346,7 @@ fn read_plain(words: &[&str], command: Command) -> Result<Command, WordsRefusal>
 /// - `report`.
 /// - `certify` and the number of a root, 1 to 65,536.
 /// - `verify`.
+/// - `learn`.
 /// - `table` and the number of pieces, 2 or 3.
 /// - `table-check`.
 /// - `generate`, a seed, 0 to 4,294,967,295, and a count, 1 to 2,000.
@@ -369,6 +373,7 @@ pub fn read_words(words: &[&str]) -> Result<Command, WordsRefusal>
         "report" => read_plain(words, Command::Report),
         "certify" => read_certify(words),
         "verify" => read_plain(words, Command::Verify),
+        "learn" => read_plain(words, Command::Learn),
         "table" => read_table(words),
         "table-check" => read_plain(words, Command::TableCheck),
         "generate" => read_generate(words),

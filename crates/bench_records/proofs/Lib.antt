@@ -10,6 +10,7 @@ pub mod Growing
 pub mod Weaving
 pub mod Spots
 pub mod Rows
+pub mod Rowed
 pub mod Texts
 pub mod Exact
 pub mod Written

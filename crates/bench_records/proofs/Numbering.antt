@@ -1,7 +1,6 @@
 -- The numbers of positions in a list.
 use Rattle.std.proofs.Common.{◌≡◌, ℕ, zero, suc, ◌+◌, ◌<◌, ◌≤◌, ◌^◌, Bool, true, false, List, [], ◌∷◌, ◌++◌, length, refl, sym, ◌∙◌, ap, subst, arith, Some, None, cond, not, inl, inr, ◌⊎◌, append_assoc, Option, take, drop}
 use Rattle.std.specs.Prelude.{Contains, slice_get, ◌||◌, position, nat_lt, IfSome, IfNone, is_some}
-use Rattle.indexmap.specs.IndexSet.{insert_key}
 use Rattle.std.proofs.lemmas.List.Folds.{list_any-append}
 use Rattle.std.specs.List.{list_any, position_or_len, IsDistinct, AllByRecursion}
 use Rattle.std.proofs.lemmas.Bool.{false≢true}
@@ -140,7 +139,7 @@ right_is test (x ∷ xs) ys none = by (test x) none (right_is test xs ys)
 pub found_first : (xs ys : List Board) (p : Board) (n : ℕ) → list_any (same_board p) xs ≡ true → n ≡ position_or_len (same_board p) xs → (list_any (same_board p) (xs ++ ys) ≡ true) × (n ≡ position_or_len (same_board p) (xs ++ ys))
 found_first xs ys p n some is = (list_any-append (same_board p) xs ys ∙ ap (λ b. b || list_any (same_board p) ys) some, is ∙ sym (left_is (same_board p) xs ys some))
 
-position_some : (test : Board → Bool) (xs : List Board) (n : ℕ) → Some n ≡ position test xs → position_or_len test xs ≡ n
+pub position_some : (test : Board → Bool) (xs : List Board) (n : ℕ) → Some n ≡ position test xs → position_or_len test xs ≡ n
 position_some test xs n e = by (nat_lt (position_or_len test xs) (length xs)) e
   where
     by : (b : Bool) → Some n ≡ cond b (Some (position_or_len test xs)) None → position_or_len test xs ≡ n
@@ -155,7 +154,7 @@ found_second xs ys p n none some at = (
 )
 
 -- a position goes last in the second list
-pub named_behind : (xs ys more : List Board) (p : Board) → IsNamed (xs ++ ys) → IsLawful p → list_any (same_board p) (xs ++ ys) ≡ false → length (xs ++ ys) + 1 < 2 ^ 32 → more ≡ insert_key same_board ys p
+pub named_behind : (xs ys more : List Board) (p : Board) → IsNamed (xs ++ ys) → IsLawful p → list_any (same_board p) (xs ++ ys) ≡ false → length (xs ++ ys) + 1 < 2 ^ 32 → more ≡ with_name ys p
     → (xs ++ more ≡ (xs ++ ys) ++ p ∷ []) × IsNamed (xs ++ more)
 named_behind xs ys more p is lawful none few keys =
     let absent : list_any (same_board p) ys ≡ false = absent_any ys p (λ there. any_absent (xs ++ ys) p none (Contains-append_right xs ys p there)) in

@@ -1,17 +1,20 @@
 //! Positions by their numbers.
+ghost use Rattle.std.specs.Prelude.{◌≡◌, ◌<◌, length, slice_get, Some};
 ghost use Rattle.draughts_board.specs.Board.{IsLawful};
+ghost use Rattle.position_rows.specs.Rows.{positions_of};
 
 use draughts_board::Position;
-use indexmap::IndexSet;
+use position_rows::PositionRows;
 use std::alloc::{AllocError, Global};
 use std::marker::Model;
 
 /// Positions that stand once, each with its number, from 0 on: fewer than 2^32.
 ///
-/// A contract sees the list of them. A position is looked up, not searched for.
+/// A contract sees the list of them. A position is looked up, not searched for, and nobody who
+/// chooses the positions can make that slow.
 #[derive(Drop)]
 pub struct Named {
-    positions: IndexSet<Position>,
+    positions: PositionRows<()>,
     /// The number noted last: a record often names a position twice running.
     last: u32,
 }
@@ -19,13 +22,14 @@ pub struct Named {
 impl Model for Named {
     ghost use Rattle.std.specs.Prelude.{List};
     ghost use Rattle.draughts_board.specs.Board.{Board};
+    ghost use Rattle.position_rows.specs.Rows.{positions_of};
     ghost use Rattle.bench_records.specs.Names.{IsNamed};
 
     ghost Value = { List Board };
 
-    ghost view = { λ n. n.positions.keys };
+    ghost view = { λ n. positions_of n.positions.entries };
 
-    ghost invariant = { λ n. IsNamed n.positions.keys };
+    ghost invariant = { λ n. IsNamed (positions_of n.positions.entries) };
 }
 
 /// Does nothing: each position keeps the rule on pieces.
@@ -33,6 +37,22 @@ pub(crate) fn note_rule(p: &Position)
     ensures { IsLawful p.now }
 {
     let _mover = p.to_move();
+}
+
+/// The row at this place, counted from 0.
+fn row_at(rows: &PositionRows<()>, i: usize) -> (Position, ())
+    requires { i < length rows.now.entries }
+    ensures { slice_get rows.now.entries i ≡ Some result }
+{
+    rows.as_slice()[i]
+}
+
+/// The position of the row at this place, counted from 0.
+pub(crate) fn position_in(rows: &PositionRows<()>, i: usize) -> Position
+    requires { i < length (positions_of rows.now.entries) }
+    ensures { slice_get (positions_of rows.now.entries) i ≡ Some result }
+{
+    row_at(rows, i).0
 }
 
 impl Named {
@@ -46,7 +66,7 @@ impl Named {
         ensures { result ≡ [] }
     {
         Named {
-            positions: IndexSet::new(alloc),
+            positions: PositionRows::new(alloc),
             last: 0,
         }
     }
@@ -64,10 +84,7 @@ impl Named {
         requires { k < length self.now }
         ensures { slice_get self.now k ≡ Some result }
     {
-        let Some(p) = self.positions.get_index(k as usize) else {
-            unreachable!()
-        };
-        *p
+        position_in(&self.positions, k as usize)
     }
 
     /// The number of a position; none exactly where it is not there.
@@ -76,7 +93,7 @@ impl Named {
             × (n ≡ position_or_len (same_board p.now) self.now)) }
         ensures none { IfNone result (list_any (same_board p.now) self.now ≡ false) }
     {
-        let n = self.positions.get_index_of(p)?;
+        let n = self.positions.place(p)?;
         Some(n as u32)
     }
 
@@ -84,11 +101,11 @@ impl Named {
     fn noted_last(&self, p: &Position) -> Option<u32>
         ensures { IfSome result (λ n. slice_get self.now n ≡ Some p.now) }
     {
-        let last = self.positions.get_index(self.last as usize)?;
-        if last != p {
+        let last = self.last;
+        if last >= self.len() || self.position(last) != *p {
             return None;
         }
-        Some(self.last)
+        Some(last)
     }
 
     /// The number of a position, and whether it is new; a new one goes last. It is hashed once, and not at all if it was
@@ -107,9 +124,10 @@ impl Named {
         if self.positions.len() >= u32::MAX as usize {
             return Err(AllocError);
         }
-        let noted = self.positions.insert_full(p)?;
-        self.last = noted.0 as u32;
-        Ok((noted.0 as u32, noted.1))
+        let noted = self.positions.note(p, ())?;
+        let number = noted.0 as u32;
+        self.last = number;
+        Ok((number, noted.1))
     }
 
     /// Keeps the first ones, as many as this number.

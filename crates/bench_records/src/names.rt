@@ -1,8 +1,8 @@
 //! Positions by their numbers while one record is read or written: those named before it, and those
 //! that it has named itself.
-use crate::named::{Named, note_rule};
+use crate::named::{Named, note_rule, position_in};
 use draughts_board::Position;
-use indexmap::IndexSet;
+use position_rows::PositionRows;
 use std::alloc::{AllocError, Global};
 use std::marker::Model;
 
@@ -14,20 +14,21 @@ pub(crate) struct Names<'a> {
     before: &'a Named,
     /// How many are lent.
     lent: u32,
-    own: IndexSet<Position>,
+    own: PositionRows<()>,
 }
 
 impl<'a> Model for Names<'a> {
     ghost use Rattle.std.specs.Prelude.{◌≡◌, List, ◌++◌, length};
     ghost use Rattle.draughts_board.specs.Board.{Board};
+    ghost use Rattle.position_rows.specs.Rows.{positions_of};
     ghost use Rattle.bench_records.specs.Names.{IsNamed};
 
     ghost Value = { List Board };
 
-    ghost view = { λ n. n.before.now ++ n.own.keys };
+    ghost view = { λ n. n.before.now ++ positions_of n.own.entries };
 
-    ghost invariant = { λ n.
-        IsNamed (n.before.now ++ n.own.keys) × (n.lent ≡ length n.before.now) };
+    ghost invariant = { λ n. IsNamed (n.before.now ++ positions_of n.own.entries)
+        × (n.lent ≡ length n.before.now) };
 }
 
 impl<'a> Names<'a> {
@@ -44,7 +45,7 @@ impl<'a> Names<'a> {
         Names {
             before,
             lent: before.len(),
-            own: IndexSet::new(alloc),
+            own: PositionRows::new(alloc),
         }
     }
 
@@ -53,7 +54,8 @@ impl<'a> Names<'a> {
         ensures value { result ≡ length self.now }
         ensures named { IsNamed self.now }
     {
-        self.lent + self.own.len() as u32
+        let own = self.own.len() as u32;
+        self.lent + own
     }
 
     /// The position with this number.
@@ -64,10 +66,7 @@ impl<'a> Names<'a> {
         if k < self.lent {
             return self.before.position(k);
         }
-        let Some(p) = self.own.get_index((k - self.lent) as usize) else {
-            unreachable!()
-        };
-        *p
+        position_in(&self.own, (k - self.lent) as usize)
     }
 
     /// The number of a position; none exactly where it is not there.
@@ -80,7 +79,7 @@ impl<'a> Names<'a> {
         if let Some(n) = self.before.find(p) {
             return Some(n);
         }
-        let n = self.own.get_index_of(p)?;
+        let n = self.own.place(p)?;
         Some(self.lent + n as u32)
     }
 
@@ -92,7 +91,7 @@ impl<'a> Names<'a> {
         ensures named { IsNamed self.new }
     {
         note_rule(&p);
-        self.own.insert(p)?;
+        self.own.note(p, ())?;
         Ok(())
     }
 }

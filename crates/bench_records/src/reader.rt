@@ -8,6 +8,7 @@ use crate::named::Named;
 use crate::names::Names;
 use crate::refusal::RecordRefusal;
 use draughts_board::{Move, Position, Side, Square};
+use shared_words::{split_u32, split_u64};
 use std::alloc::Global;
 use std::marker::Model;
 
@@ -17,12 +18,7 @@ fn split_short(bytes: &[u8]) -> Option<(u32, &[u8])>
         (cut.0 < 2 ^ 32) × (bytes.now ≡ short_text cut.0 ++ cut.1.now)) }
     ensures none { IfNone result (length bytes.now < 4) }
 {
-    if bytes.len() < 4 {
-        return None;
-    }
-    let (front, rest) = bytes.split_at(4);
-    let number = u32::from_be_bytes([front[0], front[1], front[2], front[3]]);
-    Some((number, rest))
+    split_u32(bytes)
 }
 
 /// The number of the first 8 bytes, the most significant first, and the bytes behind them.
@@ -31,14 +27,7 @@ fn split_long(bytes: &[u8]) -> Option<(u64, &[u8])>
         (cut.0 < 2 ^ 64) × (bytes.now ≡ long_text cut.0 ++ cut.1.now)) }
     ensures none { IfNone result (length bytes.now < 8) }
 {
-    if bytes.len() < 8 {
-        return None;
-    }
-    let (front, rest) = bytes.split_at(8);
-    let number = u64::from_be_bytes([
-        front[0], front[1], front[2], front[3], front[4], front[5], front[6], front[7],
-    ]);
-    Some((number, rest))
+    split_u64(bytes)
 }
 
 /// The side that this byte stands for.

@@ -1,5 +1,5 @@
-//! Tests of the public calls of the board, its rules, its two generators, indices, numbers and
-//! leases.
+//! Tests of the public calls of the board, its rules, its two generators, indices, numbers, leases
+//! and rows of positions.
 //!
 //! Each crate that is tested has a file here. Both generators resolve the same written moves.
 #![tactic(auto)]
@@ -14,5 +14,7 @@ mod leases;
 mod numbers;
 #[cfg(test)]
 mod positions;
+#[cfg(test)]
+mod rows;
 #[cfg(test)]
 mod rules;

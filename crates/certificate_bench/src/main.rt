@@ -5,21 +5,25 @@
 //! reads it back.
 //!
 //! Without words it prints how many entries the certificate has and how many bytes its text, what
-//! it claims of which position, and how many entries the merged parts and the record have. With the
-//! word `time` it prints how many entries a second are read, and how many are checked, and with the
-//! word `write` the certificate itself.
+//! it claims of which position, and how many entries the merged parts and the record have. It also
+//! reads entries whose positions are chosen against the hashes of tables. With the word `time` it
+//! prints how many entries a second are read, and how many are checked, with the word `chosen` how
+//! long chosen entries take beside ordinary ones, and with the word `write` the certificate itself.
 #![tactic(auto)]
 
 ghost use Rattle.bench_records.specs.Texts.{IsShown};
 
+mod choosing;
 mod making;
 mod measure;
 mod merging;
+mod reading_times;
 mod records;
 
 use crate::making::{entry_count, make_certificate};
 use crate::merging::merged;
-use crate::records::through_record;
+use crate::reading_times::{tell_chosen, time_chosen};
+use crate::records::{record_of, shown_by};
 use anyhow::{Result, bail, ensure};
 use certificate_checker::check;
 use certificate_text::{claim_word, print_certificate, read_certificate};
@@ -27,6 +31,7 @@ use endgame_table::{Table, fill};
 use fen_text::print_fen;
 use std::alloc::Global;
 use std::env;
+use std::rt::Clock;
 use strategy_certificate::{Certificate, Part, PartList};
 
 /// How many entries the certificate has.
@@ -74,7 +79,7 @@ fn tell_merged(rt: &(impl Print + Alloc<A = Global>), c: &Certificate, text: &[u
 fn tell_record(rt: &(impl Print + Alloc<A = Global>), c: Certificate, text: &[u8]) -> Result<()>
     requires { IsShown 2 c.position c }
 {
-    let back = through_record(rt.alloc(), c)?;
+    let back = shown_by(rt.alloc(), &record_of(rt.alloc(), c)?)?;
     let entries = entry_count(&back);
     println!(rt; "record: {entries} entries")?;
     ensure!(back.pieces == 2, "by another table");
@@ -93,21 +98,30 @@ fn write(rt: &impl Print, text: &[u8]) -> Result<()> {
     Ok(())
 }
 
-fn main(rt: HostRuntime) -> Result<()> {
+/// Does what this word asks of the certificate; none asks for a run without the clock.
+fn run(rt: &(impl Print + Clock + Alloc<A = Global>), word: Option<&str>) -> Result<()> {
     let three = fill(rt.alloc(), 3)?;
     let made = make_certificate(rt.alloc(), &three, ENTRIES)?;
     let text = print_certificate(rt.alloc(), &made)?;
     let two = fill(rt.alloc(), 2)?;
-    match env::args(&rt)?.nth(1) {
+    match word {
         None => {
-            tell(&rt, &text, &two)?;
-            tell_merged(&rt, &made, &text)?;
-            tell_record(&rt, made, &text)
+            tell(rt, &text, &two)?;
+            tell_merged(rt, &made, &text)?;
+            tell_record(rt, made, &text)?;
+            tell_chosen(rt)
         }
-        Some(word) => match word.as_str() {
-            "time" => measure::time(&rt, &text, &two),
-            "write" => write(&rt, &text),
-            _ => bail!("no word of this program"),
-        },
+        Some("time") => measure::time(rt, &text, &two),
+        Some("write") => write(rt, &text),
+        Some(_) => bail!("no word of this program"),
+    }
+}
+
+fn main(rt: HostRuntime) -> Result<()> {
+    let word = env::args(&rt)?.nth(1);
+    match &word {
+        Some(word) if word.as_str() == "chosen" => time_chosen(&rt),
+        Some(word) => run(&rt, Some(word.as_str())),
+        None => run(&rt, None),
     }
 }

@@ -87,7 +87,7 @@ fn chosen_move(
 }
 
 /// The entry of this rank, with this move.
-fn win_entry(rank: u32, chosen: Option<Move>) -> WinEntry
+pub fn win_entry(rank: u32, chosen: Option<Move>) -> WinEntry
     ensures { result.rank ≤ MOST_FOUND_RANK }
 {
     WinEntry {

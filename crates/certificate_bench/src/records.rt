@@ -6,8 +6,8 @@ use bench_records::{BenchRecord, CertificateList, Named, decode, encode};
 use std::alloc::Global;
 use strategy_certificate::Certificate;
 
-/// Writes a record that a node is solved by this certificate, and reads it back: what it shows.
-pub fn through_record(alloc: Global, c: Certificate) -> Result<Certificate>
+/// The bytes of a record that a node is solved by this certificate.
+pub fn record_of(alloc: Global, c: Certificate) -> Result<Vec<u8>>
     requires { IsShown 2 c.position c }
 {
     let record = BenchRecord::Solve {
@@ -15,9 +15,13 @@ pub fn through_record(alloc: Global, c: Certificate) -> Result<Certificate>
         position: c.position,
         shown: CertificateList::from_vec(vec![in alloc; c]?),
     };
+    Ok(encode(alloc, &record, &Named::new(alloc))?)
+}
+
+/// The certificate that a record of these bytes shows.
+pub fn shown_by(alloc: Global, bytes: &[u8]) -> Result<Certificate> {
     let none = Named::new(alloc);
-    let bytes = encode(alloc, &record, &none)?;
-    let BenchRecord::Solve { shown, .. } = decode(alloc, bytes.as_slice(), 2, &none)? else {
+    let BenchRecord::Solve { shown, .. } = decode(alloc, bytes, 2, &none)? else {
         bail!("a record of another kind");
     };
     shown

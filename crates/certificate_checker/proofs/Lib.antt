@@ -6,3 +6,4 @@ pub mod RefusalLemmas
 pub mod SightLemmas
 pub mod FactLemmas
 pub mod ToldLemmas
+pub mod AloneLemmas

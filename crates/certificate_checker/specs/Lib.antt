@@ -5,3 +5,4 @@ pub mod Laws
 pub mod Sight
 pub mod Answers
 pub mod Told
+pub mod OneParts

@@ -6,9 +6,11 @@
 //! other side's hold.
 //!
 //! Proved: `check` accepts exactly the certificates that are good by a sound oracle, and refuses
-//! exactly for what fails first, with part and entry from 1. It hands the certificate back. `told`
-//! and `told_by_all` give exactly the facts that a claim, or certificates of one position together,
-//! say or imply.
+//! exactly for what fails first, with part and entry from 1. It hands the certificate back. `prove` and
+//! `prove_part` check what is good, and fail only for want of memory. `told` and `told_by_all` give
+//! exactly the facts that a claim, or certificates of one position together, say or imply.
+//!
+//! Tests: bench_tests/src/certificate_tests.rt
 #![tactic(auto)]
 
 mod checking;
@@ -19,13 +21,13 @@ mod holds;
 pub mod laws;
 mod outcomes;
 mod parts;
+mod proving;
 mod refusals;
 mod shown;
-#[cfg(test)]
-mod tests;
 mod wins;
 
 pub use checking::{Proved, check};
 pub use claimed::{told, told_by_all};
 pub use outcomes::{ChildList, Exhausted, MOST_DEPTH, Outcome, ProofList};
+pub use proving::{prove, prove_part};
 pub use refusals::CheckRefusal;

@@ -19,7 +19,6 @@ use Rattle.strategy_certificate.specs.declared.claims.Claim.{Claim}
 use Rattle.strategy_certificate.specs.declared.claims.Claim.TheVariants as claims
 use Rattle.strategy_certificate.specs.declared.oracle.Answer.{Answer}
 use Rattle.strategy_certificate.specs.Certificates.{HasRoot, IsGood, claim_of}
-use Rattle.strategy_certificate.specs.Claims.{TellsHold}
 use Rattle.strategy_certificate.specs.Tables.{IsSoundTable}
 use Rattle.strategy_certificate.proofs.PartLemmas.{IsHeld-holds}
 use Rattle.certificate_checker.proofs.ListLemmas.{one_more}
@@ -184,10 +183,10 @@ keeps_none : (answer : Board → Option Answer) (part : Part) (p q : Board) → 
 keeps_none answer (Win list) p q stands = absurd stands.follows
 keeps_none answer (Hold list) p q stands = tt
 
-mover_black : (black white : Part) (p : Board) → p.to_move ≡ Black → mover_part black white p ≡ black
+pub mover_black : (black white : Part) (p : Board) → p.to_move ≡ Black → mover_part black white p ≡ black
 mover_black black white p is = ap (λ (t : Side). if same_side t Black then black else white) is
 
-mover_white : (black white : Part) (p : Board) → p.to_move ≡ White → mover_part black white p ≡ white
+pub mover_white : (black white : Part) (p : Board) → p.to_move ≡ White → mover_part black white p ≡ white
 mover_white black white p is = ap (λ (t : Side). if same_side t Black then black else white) is
 
 -- the mover's part, and that it stands

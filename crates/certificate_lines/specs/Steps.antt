@@ -1,5 +1,5 @@
 -- What the steps of a line keep, which the private functions answer for.
-use Rattle.std.specs.Prelude.{◌≡◌, ℕ, ◌+◌, ◌≤◌, List, All, IsSome, true, length, Option, None, Some}
+use Rattle.std.specs.Prelude.{◌≡◌, ℕ, ◌+◌, ◌++◌, ◌≤◌, List, ◌∷◌, All, IsSome, true, length, map, Option, None, Some}
 use Rattle.draughts_board.specs.Board.{Board}
 use Rattle.draughts_board.specs.Rules.{IsLegal, after}
 use Rattle.draughts_board.specs.Play.{is_nil, legal_paths}
@@ -11,6 +11,9 @@ use Rattle.strategy_certificate.specs.Tables.{IsSoundTable}
 use Rattle.certificate_player.specs.Choices.{IsNextRank}
 use Rattle.certificate_player.specs.Plays.{Follows, RankFalls}
 use Rattle.certificate_lines.specs.Lines.{GoesBy, GoesByBoth, KeepsNoMore, Leads, worth}
+use Rattle.certificate_lines.specs.Variations.{IsVariation, fork_of, forks_by}
+use Rattle.certificate_lines.specs.declared.variations.Fork.{Fork}
+use Rattle.certificate_lines.specs.declared.variations.Variation.{Variation}
 
 -- A line by the part may stand here: the table's answers are sound, the part's entries are good by them,
 -- and the part goes on from here with this rank.
@@ -54,3 +57,23 @@ pub record HoldsOn (answer : Board → Option Answer) (black white : Part) (star
   pub long : length moves ≡ plies
   pub black_stands : Stands answer black end None
   pub white_stands : Stands answer white end None
+
+-- By the part: a move at the one position, where this rank is kept, and the line behind it.
+pub record PlaysOn (answer : Board → Option Answer) (part : Part) (p : Board) (rank : Option ℕ)
+    (path : List ℕ) (moves : List (List ℕ)) (end : Board) (last : Option ℕ) : Type 0 where
+  pub behind : List (List ℕ)
+  pub all : moves ≡ path ∷ behind
+  pub kept : Option ℕ
+  pub next : IsNextRank answer (after p path) rank part kept
+  pub goes : GoesBy answer part (after p path) kept behind end last
+  pub leads : Leads p (path ∷ behind) end
+  pub stands : Stands answer part end last
+
+-- Behind the variations that were there stands one for each of these moves at a fork.
+pub record AddsVariations (answer : Board → Option Answer) (part : Part) (fork : Fork) (varied : ℕ)
+    (moves : List (List ℕ)) (old new : List Variation) : Type 0 where
+  pub added : List Variation
+  pub all : new ≡ old ++ added
+  pub each : All (IsVariation answer part fork.position fork.rank varied) added
+  pub behind : All (λ v. v.behind ≡ fork.behind) added
+  pub forks : map fork_of added ≡ forks_by fork.behind moves

@@ -7,7 +7,9 @@
 //! certificate's position on. The line of a win has the winner's moves by the certificate, and of the
 //! other side's legal replies one behind which the kept rank is the greatest. It ends where the other
 //! side has no legal move, after no more plies than its first rank, within which the side wins. In the
-//! line of a draw each side makes the move by which its part holds; the end is still a draw.
+//! line of a draw each side makes the move by which its part holds; the end is still a draw. Down to the
+//! ply that is asked each legal move of a side against a part has a variation, but the one of the line:
+//! its moves are legal, and the play behind it goes on by the part (`specs/Variations.antt`).
 //!
 //! Tests: player_tests/src/lines.rt
 #![tactic(auto)]
@@ -16,6 +18,8 @@ mod drawn;
 mod line;
 mod plies;
 mod replies;
+mod variations;
 mod won;
 
-pub use line::{Line, line_of};
+pub use line::{Lengths, Line, line_of};
+pub use variations::Variation;

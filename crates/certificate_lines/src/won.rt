@@ -6,9 +6,11 @@ ghost use Rattle.strategy_certificate.specs.declared.claims.Claim.TheVariants as
 ghost use Rattle.certificate_player.specs.Sides.{side_of};
 ghost use Rattle.certificate_lines.specs.Lines.{GoesBy, IsWonLine, Leads};
 ghost use Rattle.certificate_lines.specs.Steps.{Stands, WinsOut};
+ghost use Rattle.certificate_lines.specs.Variations.{HasVariations, Varies, is_reply};
 
 use crate::line::Line;
 use crate::plies::next_ply;
+use crate::variations::{Fork, push_replies};
 use certificate_checker::Proved;
 use certificate_player::{first_rank, own_part};
 use draughts_board::{Position, Side};
@@ -24,6 +26,7 @@ fn play_out<O: Oracle>(
     oracle: &O,
     start: Position,
     rank: u64,
+    varied: usize,
 ) -> Result<Line, AllocError>
     requires side { side_of part.now ≡ side }
     requires stands { Stands (O.answer_at oracle.now) part.now start (Some rank) }
@@ -31,12 +34,30 @@ fn play_out<O: Oracle>(
     ensures start { IfOk result (λ line. line.start ≡ start) }
     ensures out { IfOk result (λ line.
         WinsOut (O.answer_at oracle.now) part.now start rank line.moves.items line.end) }
+    ensures varies { IfOk result (λ line. HasVariations (O.answer_at oracle.now) (λ _. Some part.now)
+        (is_reply side) varied start line.moves.items line.variations.items) }
 {
     let mut moves = Vec::new(alloc);
+    let mut variations = Vec::new(alloc);
     let mut end = start;
     let mut left = Some(rank);
     while has_move(&end) {
         let ply = next_ply(alloc, part, side, oracle, &end, left)?;
+        let fork = Fork {
+            position: end,
+            rank: left,
+            behind: moves.len(),
+        };
+        push_replies(
+            &mut variations,
+            alloc,
+            part,
+            side,
+            oracle,
+            &fork,
+            &ply.path,
+            varied,
+        )?;
         moves.push(ply.path)?;
         end = apply(&end, &ply.path);
         left = ply.rank;
@@ -46,6 +67,7 @@ fn play_out<O: Oracle>(
         moves,
         end,
         rank: Some(rank),
+        variations,
     })
 }
 
@@ -54,6 +76,7 @@ pub(crate) fn won_line<O: Oracle>(
     alloc: Global,
     proved: &Proved,
     side: Side,
+    varied: usize,
     oracle: &O,
 ) -> Result<Line, AllocError>
     requires pieces { proved.now.pieces ≡ O.piece_limit oracle.now }
@@ -61,6 +84,8 @@ pub(crate) fn won_line<O: Oracle>(
     ensures start { IfOk result (λ line. line.start ≡ proved.now.position) }
     ensures line { IfOk result (λ line. IsSomeAnd line.rank
         (IsWonLine proved.now side line.moves.items line.end)) }
+    ensures varies { IfOk result (λ line.
+        Varies proved.now varied line.moves.items line.variations.items) }
 {
     // That tells that its answers are sound.
     let _pieces = oracle.pieces();
@@ -68,7 +93,7 @@ pub(crate) fn won_line<O: Oracle>(
     let part = own_part(certificate, side);
     let start = certificate.position;
     match first_rank(part, oracle, &start) {
-        Some(rank) => play_out(alloc, part, side, oracle, start, rank),
+        Some(rank) => play_out(alloc, part, side, oracle, start, rank, varied),
         None => unreachable!(),
     }
 }

@@ -5,7 +5,8 @@
 //!
 //! Proved: `print_certificate` gives the one text of a certificate. `read_certificate` reads
 //! exactly the printed texts, each as the certificate that it is printed of, and refuses every
-//! other with its one refusal, by line. `laws`: no printed text begins another.
+//! other with its one refusal, by line. `push_move` appends a move as these texts have it. `laws`: no
+//! printed text begins another.
 //!
 //! Tests: text_tests/src/certificates.rt
 #![tactic(auto)]
@@ -17,6 +18,6 @@ mod printing;
 mod reading;
 mod refusal;
 
-pub use printing::{claim_word, print_certificate};
+pub use printing::{claim_word, print_certificate, push_move};
 pub use reading::read_certificate;
 pub use refusal::TextRefusal;

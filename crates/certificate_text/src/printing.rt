@@ -2,7 +2,7 @@
 ghost use Rattle.std.specs.Prelude.{◌≡◌, ◌++◌, ◌∷◌, ◌<◌, ◌≤◌, ◌^◌, [], IfOk, OnOk, decimal, length, codes};
 ghost use Rattle.draughts_board.specs.Board.{IsLawful};
 ghost use Rattle.fen_text.specs.Printed.{fen_of};
-ghost use Rattle.certificate_text.specs.Lines.{line_text, text_of_lines, choice_text, separator, further_squares, side_word, claim_word};
+ghost use Rattle.certificate_text.specs.Lines.{line_text, text_of_lines, choice_text, separator, further_squares, move_text, side_word, claim_word};
 ghost use Rattle.certificate_text.specs.Text.{text_of_certificate, part_lines, win_line, hold_line, head_lines, IsPrinted, IsPrintedPart};
 ghost use Rattle.strategy_certificate.specs.Tables.{IsTableSize};
 ghost use Rattle.strategy_certificate.specs.declared.certificates.Part.TheVariants as parts;
@@ -76,6 +76,15 @@ fn push_further(text: &mut Vec<u8>, separator: u8, squares: &[Square]) -> Result
     Ok(())
 }
 
+/// Appends a move by all its squares, from 1 to 32, with `x` between them if it captures, else `-`.
+pub fn push_move(text: &mut Vec<u8>, m: &Move) -> Result<(), AllocError>
+    ensures { OnOk result (text.new.items ≡ text.old.items ++ move_text m.now) }
+{
+    let path = m.path();
+    push_number(text, u64::from(path[0].number()))?;
+    push_further(text, separator(path), &path[1..])
+}
+
 /// Appends a blank and the move, if one is chosen.
 fn push_choice(text: &mut Vec<u8>, chosen: &Option<Move>) -> Result<(), AllocError>
     ensures { OnOk result (text.new.items ≡ text.old.items ++ choice_text chosen.now) }
@@ -83,10 +92,8 @@ fn push_choice(text: &mut Vec<u8>, chosen: &Option<Move>) -> Result<(), AllocErr
     let Some(chosen) = chosen else {
         return Ok(());
     };
-    let path = chosen.path();
     text.push(b' ')?;
-    push_number(text, u64::from(path[0].number()))?;
-    push_further(text, separator(path), &path[1..])
+    push_move(text, chosen)
 }
 
 /// Appends the line of an entry of a win part.

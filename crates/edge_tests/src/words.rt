@@ -137,6 +137,8 @@ const COMMANDS: &[(&[&str], Command)] = &[
     (&["-", "certify", "65536"], Command::Certify(65_536)),
     (&["-", "verify"], Command::Verify),
     (&["verify", "verify"], Command::Verify),
+    (&["-", "learn"], Command::Learn),
+    (&["learn", "learn"], Command::Learn),
     (&["-", "table", "2"], Command::MakeTable(2)),
     (&["table", "table", "3"], Command::MakeTable(3)),
     (&["-", "table-check"], Command::TableCheck),
@@ -238,6 +240,19 @@ const CERTIFY: &[Refused] = &[
     (2, &["-", "certify", "one"]),
     (2, &["-", "certify", "4294967297"]),
     (3, &["-", "certify", "1", "1"]),
+];
+
+/// Words near `learn`.
+const LEARN: &[Refused] = &[
+    (1, &["-", "Learn"]),
+    (1, &["-", "learn "]),
+    (1, &["-", "lear"]),
+    (1, &["-", "learns", "x"]),
+    (1, &["-", "--learn"]),
+    (2, &["-", "learn", "x"]),
+    (2, &["-", "learn", "--pieces", "2"]),
+    (0, &["", "learn"]),
+    (1, &["learn"]),
 ];
 
 /// Words near `verify`.
@@ -359,6 +374,7 @@ fn words_near_report_and_certify_are_refused(rt: HostRuntime) {
 #[test]
 fn words_near_verify_are_refused(rt: HostRuntime) {
     expect_refused(&rt, VERIFY);
+    expect_refused(&rt, LEARN);
 }
 
 #[test]

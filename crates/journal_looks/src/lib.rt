@@ -10,7 +10,7 @@
 //! that is no lawful record, a root that is not there and one without a value are each refused
 //! exactly where they stand, unless the disk failed or memory ran out. The disk reads as before,
 //! and a crash may leave of it what it might have left before. `read_records` gives the records
-//! themselves, with the bytes that spell them.
+//! themselves, with the bytes that spell them, and `read_bench` what they make.
 //!
 //! Tests: session_tests/src/looks.rt
 #![tactic(auto)]
@@ -20,5 +20,5 @@ mod reading;
 mod refusals;
 
 pub use looks::{certify, report};
-pub use reading::{JournalRecords, read_records};
+pub use reading::{JournalRecords, read_bench, read_records};
 pub use refusals::LookRefusal;

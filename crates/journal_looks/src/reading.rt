@@ -77,10 +77,7 @@ pub fn read_records<D: Disk>(alloc: Global, disk: &mut D) -> Result<JournalRecor
 
 /// A bench that has replayed the records as which a disk reads, and the table that they are for. It
 /// writes nothing to the disk. A fresh disk gives no record, and the table of 2 pieces.
-pub(crate) fn read_bench<D: Disk>(
-    alloc: Global,
-    disk: &mut D,
-) -> Result<(Bench, Table), JournalRefusal>
+pub fn read_bench<D: Disk>(alloc: Global, disk: &mut D) -> Result<(Bench, Table), JournalRefusal>
     ensures same { IfOk result (λ read. read.1.pieces ≡ read.0.state.settings.pieces) }
     ensures size { IfOk result (λ read. IsTableSize read.1.pieces) }
     ensures forest { IsHonest D.TELLS → IfOk result (λ read.

@@ -5,6 +5,7 @@ use Rattle.draughts_board.specs.declared.pieces.Value.{Value}
 use Rattle.draughts_board.specs.Board.{Board}
 use Rattle.fen_text.specs.Printed.{fen_of}
 use Rattle.opening_report.specs.Report.{value_word}
+use Rattle.opened_games.specs.Opened.{Opened, games_text}
 use Rattle.proof_numbers.specs.declared.numbers.Number.{Number}
 use Rattle.proof_numbers.specs.declared.numbers.Number.TheVariants.{Finite, Infinite}
 use Rattle.proof_numbers.specs.declared.numbers.Numbers.{Numbers}
@@ -41,10 +42,12 @@ row_line n row =
     codes "root " ++ (decimal n ++ 32 ∷ (fen_of row.position ++ 32 ∷ (value_word row.value
     ++ (counts_text row ++ 10 ∷ []))))
 
--- the rows' lines, the first of which has this number
-abbrev pub row_lines : ℕ → List RootRow → List ℕ
-row_lines n [] = []
-row_lines n (row ∷ rows) = row_line n row ++ row_lines (n + 1) rows
+-- the rows' lines, the first of which has this number, and behind each the lines of the games that lead
+-- there
+abbrev pub row_lines : Opened → ℕ → List RootRow → List ℕ
+row_lines opened n [] = []
+row_lines opened n (row ∷ rows) =
+    row_line n row ++ (games_text opened row.position ++ row_lines opened (n + 1) rows)
 
 -- what the tree knows of a root
 abbrev pub row_of : Node → RootRow

@@ -6,6 +6,7 @@ ghost use Rattle.journal_pages.specs.Roots.{census_text, counts_text, goals_text
 use draughts_board::{Position, Value};
 use fen_text::print_fen;
 use itoa::Buffer;
+use opened_games::OpenedGames;
 use proof_numbers::{Number, Numbers};
 use shared_words::push_number;
 use std::alloc::{AllocError, Global};
@@ -25,7 +26,7 @@ pub struct RootRow {
 }
 
 /// The word for a value, and for none.
-fn word(value: Option<Value>) -> &'static str
+pub(crate) fn word(value: Option<Value>) -> &'static str
     ensures { result.now ≡ value_word value }
 {
     match value {
@@ -102,13 +103,18 @@ fn push_row(text: &mut Vec<u8>, number: usize, row: &RootRow) -> Result<(), Allo
     Ok(())
 }
 
-/// The lines of roots, which are numbered from 1.
-pub fn rows_text(alloc: Global, rows: &[RootRow]) -> Result<Vec<u8>, AllocError>
-    ensures { IfOk result (λ text. text.items ≡ row_lines 1 rows.now) }
+/// The lines of roots, which are numbered from 1, and behind each those of the games that lead there.
+pub fn rows_text(
+    alloc: Global,
+    rows: &[RootRow],
+    games: &OpenedGames,
+) -> Result<Vec<u8>, AllocError>
+    ensures { IfOk result (λ text. text.items ≡ row_lines games.now 1 rows.now) }
 {
     let mut text = Vec::new(alloc);
     for (i, row) in rows.iter().enumerate() {
         push_row(&mut text, i + 1, row)?;
+        games.push_games_at(&mut text, &row.position)?;
     }
     Ok(text)
 }

@@ -60,7 +60,7 @@ fn share_work<R: Threads + Wait + Sync, D: Disk + Send, O: Oracle + Sync, G: Gat
         Err((session, AllocError)) => return (session, Ended::Memory),
     };
     run_workers(rt, alloc, &shared, &mut pass, workers, oracle, gate);
-    let mut session = shared.finish(rt, pass);
+    let (mut session, _) = shared.finish(rt, pass);
     let ended = go_on_alone(alloc, &mut session, oracle, gate);
     (session, ended)
 }

@@ -5,6 +5,7 @@ use Rattle.shared_words.specs.Answers.{Unless}
 use Rattle.shared_words.specs.Counts.{Rose}
 use Rattle.bench_disk.specs.declared.disk.Disk.{Ghosts}
 use Rattle.bench_disk.specs.Disk.{IsHonest, NothingPending, Stays}
+use Rattle.bench_disk.specs.Runs.{OnlyLooks}
 use Rattle.bench_edges.specs.declared.sink.Sink.{Ghosts as SinkGhosts}
 use Rattle.bench_edges.specs.declared.status.Status.{Status}
 use Rattle.bench_edges.specs.declared.status.Status.TheVariants as status
@@ -49,6 +50,12 @@ is_excused other = false
 
 -- ---- of the disks at entry, and of those that are handed back
 
+-- The disk is left as it was, at every moment of the run: it reads as before, a crash may leave of it what it might have left before,
+-- and a crash since the run began might have left nothing else.
+pub record StaysThroughout {D : Type 0} (g : Ghosts D) (old new : D) : Type 0 where
+  pub stays : Stays g.reads g.images old new
+  pub looks : OnlyLooks g.reads g.images g.images_since g.moment old new
+
 module _ {A B : Type 0} (a : Ghosts A) (b : Ghosts B) where
   -- The second journal stands for the first, whole and with nothing pending, and these are their numbers.
   pub record HasShortened (words : List (List ℕ)) (old : A) (written : B) (sizes : Sizes) : Type 0 where
@@ -85,15 +92,15 @@ module _ {A B : Type 0} (a : Ghosts A) (b : Ghosts B) where
   -- `written` those behind it.
   pub record DoesTask (words : List (List ℕ)) (old kept : A) (new written : B) (outcome : Outcome) : Type 0 where
     pub comes : ComesTo words old kept new written outcome
-    -- the first journal is left as it was, and the second one by `which`
-    pub keeps : IsHonest a.TELLS → Stays a.reads a.images old kept
-    pub looks : Says words Which → IsHonest b.TELLS → Stays b.reads b.images new written
+    -- the first journal is left as it was at every moment, and the second one by `which`
+    pub keeps : IsHonest a.TELLS → StaysThroughout a old kept
+    pub looks : Says words Which → IsHonest b.TELLS → StaysThroughout b new written
     -- A crash since the run began leaves of a fresh disk no record, or one list, the same in each image, which stands for the
     -- first journal.
     pub leaves : Says words Shorten → IsHonest a.TELLS → IsHonest b.TELLS → NothingPending (b.reads new) (b.images new)
         → IsFresh (b.reads new) → LeavesNoneOrShorter (a.reads old) (b.images_since written (b.moment new))
-    -- a disk with more bytes than a fresh one is left as it was
-    pub unwritten : Says words Shorten → IsHonest b.TELLS → 9 < length (b.reads new) → Stays b.reads b.images new written
+    -- a disk with more bytes than a fresh one is left as it was at every moment
+    pub unwritten : Says words Shorten → IsHonest b.TELLS → 9 < length (b.reads new) → StaysThroughout b new written
     -- What a file has against the task is the refusal, unless a disk failed or memory ran out.
     pub refuses : (task : Task) → Says words task → IsHonest a.TELLS → IsHonest b.TELLS → (cause : CompactRefusal)
         → IsFault task (a.reads old) (b.reads new) cause → Unless blames_nobody outcome (outcome ≡ Err (Journal cause))

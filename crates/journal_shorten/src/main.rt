@@ -6,17 +6,15 @@
 //! and the files of the two journals, tells a person of the run, and answers `--help` and `--version`
 //! itself.
 //!
-//! Proved: the first journal is left as it was. Whenever `shorten` is stopped, the second one reads as no
-//! record, or as one whole list that stands for the first; with status 0 it is that list, with nothing
-//! pending, and the line written has its numbers. `which` writes `new` exactly where the second
-//! journal has a payload, and leaves both as they were. Each refusal comes for its cause
+//! Proved: the first journal is left as it was at every moment. Whenever `shorten` is stopped, the second
+//! one reads as no record, or as one whole list that stands for the first; with status 0 it is that list,
+//! with nothing pending, and the line written has its numbers. `which` writes `new` exactly where the
+//! second journal has a payload, and leaves both as they were. Each refusal comes for its cause
 //! (`specs/Runs.antt`).
 #![tactic(auto)]
 
 mod ended;
 mod refusals;
-#[cfg(test)]
-mod row_tests;
 mod running;
 mod telling;
 mod terminal_line;

@@ -21,6 +21,7 @@ use program_edges::refuse;
 use std::alloc::Global;
 
 /// Makes the second journal stand for the first.
+#[tactic(auto, using(crate::proofs::TaskLemmas::stays_looked))]
 fn shortened<A: Disk, B: Disk>(
     alloc: Global,
     from: A,
@@ -37,6 +38,7 @@ fn shortened<A: Disk, B: Disk>(
 }
 
 /// Tells which of two journals counts.
+#[tactic(auto, using(crate::proofs::TaskLemmas::stays_looked, crate::proofs::TaskLemmas::stays_unasked))]
 fn chosen<A: Disk, B: Disk>(
     alloc: Global,
     from: A,

@@ -1,3 +1,4 @@
 pub mod OutcomeLemmas
 pub mod CauseLemmas
 pub mod CallLemmas
+pub mod ChoiceLemmas

@@ -2,3 +2,4 @@ pub mod Outcomes
 pub mod Refusals
 pub mod Choices
 pub mod Written
+pub mod Laws

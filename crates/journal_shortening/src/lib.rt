@@ -9,7 +9,8 @@
 //! so has the same roots, each with the same proof numbers for both goals and the same value; a crash
 //! at any moment leaves of it no record or all of them; the old journal stays as it is; a disk of
 //! more than 9 bytes is never written; each refusal comes exactly for its cause. `choose` answers
-//! `New` exactly where the new journal has a payload, and writes nothing.
+//! `New` exactly where the new journal has a payload, and writes nothing. So whatever a crash left, the
+//! journal that it chooses has the roots of the old one (`laws`).
 //!
 //! Tests: compaction_tests/src/compactions.rt
 #![tactic(auto)]
@@ -17,6 +18,7 @@
 mod choosing;
 mod compacting;
 mod fresh;
+pub mod laws;
 mod refusals;
 mod sizes;
 mod writing;

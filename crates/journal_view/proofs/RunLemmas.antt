@@ -1,27 +1,30 @@
 -- A run, by where it ends: at its words, or behind the journal.
 use Rattle.std.proofs.Common.{◌≡◌, ◌≢◌, ◌⊎◌, inl, inr, ℕ, Bool, true, false, List, Option, Some, None, refl, sym, ◌∙◌, ap, subst}
-use Rattle.std.specs.Prelude.{IfErr, IfOk, OnOk, Result, Ok, Err}
+use Rattle.std.specs.Prelude.{IfErr, IfOk, IsSomeAnd, OnOk, Result, Ok, Err}
 use Rattle.std.specs.Bool.{OnFalse}
 use Rattle.shared_words.specs.Counts.{Rose}
 use Rattle.bench_disk.specs.declared.disk.Disk.{Ghosts}
 use Rattle.bench_disk.specs.Disk.{IsHonest, Stays}
 use Rattle.bench_edges.specs.declared.sink.Sink.{Ghosts as SinkGhosts}
+use Rattle.bench_edges.specs.declared.source.Source.{Ghosts as SourceGhosts}
 use Rattle.bench_edges.specs.declared.status.Status.{Status}
 use Rattle.bench_edges.specs.declared.status.Status.TheVariants.{Done, Unsolved, Words, Input, Disk, Journal, Memory, Read, Write}
 use Rattle.disk_journal.specs.declared.refusal.JournalRefusal.TheVariants as journal
 use Rattle.journal_looks.specs.Conversions.{of_look}
 use Rattle.journal_looks.specs.declared.refusals.LookRefusal.{LookRefusal}
 use Rattle.journal_looks.specs.declared.refusals.LookRefusal.TheVariants as look
+use Rattle.opened_games.specs.Opened.{Opened}
 use Rattle.opening_report.specs.Refusals.{refusal_text}
 use Rattle.opening_report.specs.declared.refusals.Refusal.{Refusal}
 use Rattle.opening_report.specs.declared.refusals.Refusal.TheVariants as refusal
 use Rattle.opening_report.specs.declared.written.Written.{Written}
 use Rattle.program_edges.specs.Answers.{TakesLine, TakesOutput}
 use Rattle.program_edges.specs.Statuses.{status_of}
-use Rattle.journal_view.specs.Runs.{Accepts, AnswersCauses, HandsOut, IsLookFault, IsRefusedFor, IsRefusedRun, Refuses, Reports, RunsView, WritesView, is_excused}
+use Rattle.journal_view.specs.Games.{HasGames, HasNoGames, IsRefusedSource, played}
+use Rattle.journal_view.specs.Runs.{Accepts, AnswersCauses, HandsOut, HandsRefusal, IsLookFault, IsRefusedFor, IsRefusedGames, IsRefusedRun, Refuses, Reports, RunsView, RunsWith, WritesView, is_excused}
 use Rattle.journal_view.specs.Shown.{HasCause, IsGoodFor, Shows, says_nothing}
-use Rattle.journal_view.specs.Words.{IsRefusedAt, Says}
-use Rattle.journal_view.specs.declared.words.Request.{Request}
+use Rattle.view_words.specs.Words.{IsRefusedAt, Says}
+use Rattle.view_words.specs.declared.requests.Request.{Request}
 
 -- ---- statuses
 
@@ -94,7 +97,7 @@ named fault x before after faults_before faults_after line same =
 
 -- ---- whole runs
 
-module _ {K D : Type 0} (k : SinkGhosts K) (g : Ghosts D) (words : List (List ℕ)) where
+module _ {K D : Type 0} (k : SinkGhosts K) (g : Ghosts D) (opened : Opened) (words : List (List ℕ)) where
   stays_itself : (disk : D) → Stays g.reads g.images disk disk
   stays_itself disk = record { same = refl; none_added = λ image h. h; none_lost = λ image h. h }
 
@@ -111,9 +114,9 @@ module _ {K D : Type 0} (k : SinkGhosts K) (g : Ghosts D) (words : List (List �
 
   pub runs_no_words : (at : ℕ) (before after : K) (old : D) (status : Status) → IsRefusedAt words at → status ≡ Words
       → TakesLine (refusal_text (refusal.Words at)) (k.taken before) (k.taken after) (k.faults before) (k.faults after)
-      → RunsView k g words before after old old status
+      → RunsWith k g opened words before after old old status
   runs_no_words at before after old status none is line =
-      subst (RunsView k g words before after old old) (sym is) (record {
+      subst (RunsWith k g opened words before after old old) (sym is) (record {
         views = λ reports. absurd reports;
         refused = λ _. why_no_words at before after old Words none refl line;
         ends = inr tt;
@@ -139,9 +142,9 @@ module _ {K D : Type 0} (k : SinkGhosts K) (g : Ghosts D) (words : List (List �
   module _ (request : Request) (says : Says words request) (once : (other : Request) → Says words other → request ≡ other) (before after : K) (old new : D) (status : Status)
       (leaves : IsHonest g.TELLS → Stays g.reads g.images old new) where
     -- it is shown
-    pub runs_shown : (w : Written) → Shows g request old w.text.items w.is_settled → AnswersCauses g {T = Written} request old (Ok w)
+    pub runs_shown : (w : Written) → Shows g opened request old w.text.items w.is_settled → AnswersCauses g {T = Written} request old (Ok w)
         → TakesOutput status w.text.items w.is_settled (k.taken before) (k.taken after) → (status ≡ Write → Rose (k.faults before) (k.faults after))
-        → RunsView k g words before after old new status
+        → RunsWith k g opened words before after old new status
     runs_shown w shows causes taken write =
         let reports = reported status w.text.items w.is_settled (k.taken before) (k.taken after) taken in
         let ends = report_ends status reports in
@@ -166,7 +169,7 @@ module _ {K D : Type 0} (k : SinkGhosts K) (g : Ghosts D) (words : List (List �
 
     pub runs_refused : (r : Refusal) → IsLookFault g request old new r → AnswersCauses g {T = Written} request old (Err r) → Accepts g {T = Written} request old (Err r)
         → status ≡ status_of r → TakesLine (refusal_text r) (k.taken before) (k.taken after) (k.faults before) (k.faults after)
-        → RunsView k g words before after old new status
+        → RunsWith k g opened words before after old new status
     runs_refused r why causes accepts is line =
         let of = of_fault why.fault in
         let same : status ≡ status_of (of_look why.fault) = is ∙ ap status_of why.is in
@@ -193,12 +196,12 @@ module _ {K D : Type 0} (k : SinkGhosts K) (g : Ghosts D) (words : List (List �
 
     -- it is shown, or refused
     pub answered : (answer : Result Written Refusal) (handed : Option Refusal)
-        → IfOk answer (λ w. Shows g request old w.text.items w.is_settled) → IfErr answer (IsLookFault g request old new)
+        → IfOk answer (λ w. Shows g opened request old w.text.items w.is_settled) → IfErr answer (IsLookFault g request old new)
         → AnswersCauses g request old answer → Accepts g request old answer
         → IfOk answer (λ w. TakesOutput status w.text.items w.is_settled (k.taken before) (k.taken after)) → OnOk answer (status ≡ Write → Rose (k.faults before) (k.faults after))
         → IfErr answer (λ r. status ≡ status_of r) → IfErr answer (λ r. TakesLine (refusal_text r) (k.taken before) (k.taken after) (k.faults before) (k.faults after))
         → OnOk answer (handed ≡ None) → IfErr answer (λ r. handed ≡ Some r)
-        → RunsView k g words before after old new status × HandsOut k g words before after old new status handed
+        → RunsWith k g opened words before after old new status × HandsOut k g words before after old new status handed
     unfolding why_refused
     answered (Ok w) handed shows refused causes accepts taken write is line none some =
         let reports = reported status w.text.items w.is_settled (k.taken before) (k.taken after) taken in (
@@ -210,3 +213,45 @@ module _ {K D : Type 0} (k : SinkGhosts K) (g : Ghosts D) (words : List (List �
           runs_refused r refused causes accepts is line,
           record { refused = λ _. (why_refused r refused is line, some); reported = λ reports. absurd (not_both status reports refuses) },
         )
+
+-- ---- and its games
+
+nothing_played : (o : Option ℕ) (P : ℕ → Type 0) → o ≡ None → IsSomeAnd o P → ⊥
+nothing_played o P is there = absurd (subst (λ (x : Option ℕ). IsSomeAnd x P) is there)
+
+module _ {S K D : Type 0} (s : SourceGhosts S) (k : SinkGhosts K) (g : Ghosts D) (words : List (List ℕ)) (source rest : S) (before after : K) (old new : D) (status : Status) where
+  -- the words ask for nothing
+  pub view_no_words : (opened : Opened) (at : ℕ) → IsRefusedAt words at → rest ≡ source → RunsWith k g opened words before after old new status
+      → RunsView s k g words source rest before after old new status
+  view_no_words opened at none same runs = record {
+    runs = inr (opened, (λ request says. absurd (none.no_request request says), runs));
+    unasked = λ _. same;
+  }
+
+  -- they ask for this
+  module _ (request : Request) (says : Says words request) where
+    why_games : (r : Refusal) → HasNoGames request (s.left source) (s.left rest) (s.faults source) (s.faults rest) r → new ≡ old → status ≡ status_of r
+        → TakesLine (refusal_text r) (k.taken before) (k.taken after) (k.faults before) (k.faults after) → IsRefusedGames s k g words source rest before after old new status r
+    why_games r why unused is line = record { request = request; says = says; why = why; unused = unused; status_is = sym is; line = line }
+
+    -- its games are refused
+    pub view_no_games : (r : Refusal) (handed : Option Refusal) → HasNoGames request (s.left source) (s.left rest) (s.faults source) (s.faults rest) r → new ≡ old → status ≡ status_of r
+        → TakesLine (refusal_text r) (k.taken before) (k.taken after) (k.faults before) (k.faults after) → handed ≡ Some r
+        → RunsView s k g words source rest before after old new status × HandsRefusal s k g words source rest before after old new status handed
+    view_no_games r handed why unused is line same =
+        let refused = why_games r why unused is line in (
+          record {
+            runs = inl (r, refused);
+            unasked = λ none.
+                absurd (nothing_played (played request) (λ plies. IsRefusedSource plies (s.left source) (s.left rest) (s.faults source) (s.faults rest) r) (none request says) why);
+          },
+          inl (r, (refused, same)),
+        )
+
+    -- it has its games
+    pub view_with : (opened : Opened) → ((other : Request) → Says words other → request ≡ other) → HasGames request (s.left source) opened → (played request ≡ None → rest ≡ source)
+        → RunsWith k g opened words before after old new status → RunsView s k g words source rest before after old new status
+    view_with opened once games same runs = record {
+      runs = inr (opened, (λ other said. subst (λ (q : Request). HasGames q (s.left source) opened) (once other said) games, runs));
+      unasked = λ none. same (none request says);
+    }

@@ -1,6 +1,6 @@
 -- From a look at the journal to what a run shows.
 use Rattle.std.proofs.Common.{◌≡◌, ◌-◌, ◌<◌, ℕ, List, Option, Some, refl, sym, ◌∙◌, ap, subst, slice_get}
-use Rattle.std.specs.Prelude.{Bool, true, false, IfErr, IfOk, Result, Ok, Err}
+use Rattle.std.specs.Prelude.{Bool, true, false, IfErr, IfOk, Result, Ok, Err, unwrap_or}
 use Rattle.std.specs.Bool.{OnFalse}
 use Rattle.shared_words.specs.Answers.{Unless}
 use Rattle.shared_words.specs.Counts.{Rose}
@@ -16,14 +16,22 @@ use Rattle.journal_looks.specs.Looks as looks
 use Rattle.journal_looks.specs.declared.refusals.LookRefusal.{LookRefusal}
 use Rattle.journal_looks.specs.declared.refusals.LookRefusal.TheVariants.{Journal, NoRoot, UnsettledRoot}
 use Rattle.journal_looks.proofs.FileLemmas.{forest_once}
+use Rattle.opened_games.specs.Opened.{Opened}
 use Rattle.opening_report.specs.declared.refusals.Refusal.{Refusal}
 use Rattle.opening_report.specs.declared.written.Written.{Written}
 use Rattle.proof_tree.specs.Forest.{Forest, Node, nodes, value_of}
 use Rattle.strategy_certificate.specs.declared.certificates.Certificate.{Certificate}
 use Rattle.journal_view.specs.Runs.{Accepts, AnswersCauses, IsLookFault}
-use Rattle.journal_view.specs.Shown.{Explains, HasCause, IsGoodFor, IsTrueView, Shows, ShowsLine, ShowsRoots, WantsMemory, WritesLine, says_nothing}
-use Rattle.journal_view.specs.declared.words.Request.{Request}
-use Rattle.journal_view.specs.declared.words.Request.TheVariants as request
+use Rattle.journal_view.specs.Shown.{Explains, HasCause, IsGoodFor, IsTrueList, IsTrueView, Shows, ShowsLine, ShowsRecords, ShowsRoots, WantsMemory, WritesLine, says_nothing}
+use Rattle.journal_view.specs.Pages.{IsTruePage, ShowsPageOf}
+use Rattle.journal_view.specs.Trees.{IsTrueTree, ShowsTreeOf}
+use Rattle.view_words.specs.declared.requests.PageRequest.{PageRequest}
+use Rattle.view_words.specs.declared.requests.Request.{Request}
+use Rattle.view_words.specs.declared.requests.Request.TheVariants as request
+use Rattle.view_words.specs.declared.requests.LineRequest.{LineRequest}
+use Rattle.view_words.specs.declared.requests.RecordsRequest.{RecordsRequest}
+use Rattle.view_words.specs.declared.requests.RootsRequest.{RootsRequest}
+use Rattle.view_words.specs.declared.requests.TreeRequest.{TreeRequest}
 
 -- ---- looks
 
@@ -83,9 +91,9 @@ claims_value file n c certified settled =
     certified.claims.joined.claims ∙ ap claim_for value
 
 -- the line by a certificate of the root
-pub line_shown : {D : Type 0} (g : Ghosts D) (root : ℕ) (old : D) (c : Certificate) (text : List ℕ) → (IsHonest g.TELLS → Certifies (g.reads old) root c) → WritesLine root c text
-    → ShowsLine g root old text
-line_shown g root old c text certified writes = record {
+pub line_shown : {D : Type 0} (g : Ghosts D) (root varied : ℕ) (old : D) (c : Certificate) (text : List ℕ) → (IsHonest g.TELLS → Certifies (g.reads old) root c) → WritesLine root varied c text
+    → ShowsLine g root varied old text
+line_shown g root varied old c text certified writes = record {
   certificate = c;
   certifies = certified;
   writes = writes;
@@ -95,10 +103,10 @@ line_shown g root old c text certified writes = record {
 
 -- ---- a line that is written, or memory that ran out
 
-pub line_shows : {D : Type 0} (g : Ghosts D) (root : ℕ) (old : D) (c : Certificate) (answer : Result Written LookRefusal) → (IsHonest g.TELLS → Certifies (g.reads old) root c)
-    → IfOk answer (λ w. WritesLine root c w.text.items) → IfOk answer (λ w. ShowsLine g root old w.text.items)
-line_shows g root old c (Ok w) certified writes = line_shown g root old c w.text.items certified writes
-line_shows g root old c (Err fault) certified writes = tt
+pub line_shows : {D : Type 0} (g : Ghosts D) (root varied : ℕ) (old : D) (c : Certificate) (answer : Result Written LookRefusal) → (IsHonest g.TELLS → Certifies (g.reads old) root c)
+    → IfOk answer (λ w. WritesLine root varied c w.text.items) → IfOk answer (λ w. ShowsLine g root varied old w.text.items)
+line_shows g root varied old c (Ok w) certified writes = line_shown g root varied old c w.text.items certified writes
+line_shows g root varied old c (Err fault) certified writes = tt
 
 memory_silent : (fault : LookRefusal) → WantsMemory fault → looks.says_nothing fault ≡ true
 memory_silent fault memory = ap looks.says_nothing memory.1
@@ -136,13 +144,29 @@ memory_no_fault answer memory is = by (subst (λ (a : Result Written LookRefusal
 
 -- ---- by what is asked
 
-module _ {D : Type 0} (g : Ghosts D) (old : D) where
-  pub roots_shown : (answer : Result Written LookRefusal) → (IsHonest g.TELLS → IfOk answer (λ w. ShowsRoots (g.reads old) w.text.items w.is_settled)) → IfOk answer (λ w. IsTrueView w.text.items)
-      → IfOk answer (λ w. Shows g request.Roots old w.text.items w.is_settled)
-  roots_shown (Ok w) shows true_values = (shows, true_values)
-  roots_shown (Err fault) shows true_values = tt
+module _ {D : Type 0} (g : Ghosts D) (opened : Opened) (old : D) where
+  pub roots_asked : (asked : RootsRequest) (answer : Result Written LookRefusal)
+      → (IsHonest g.TELLS → IfOk answer (λ w. ShowsRoots opened (g.reads old) asked.json w.text.items w.is_settled)) → IfOk answer (λ w. IsTrueView opened asked.json w.text.items)
+      → IfOk answer (λ w. Shows g opened (request.Roots asked) old w.text.items w.is_settled)
+  roots_asked asked (Ok w) shows true_values = (shows, true_values)
+  roots_asked asked (Err fault) shows true_values = tt
 
-  pub line_asked : (n : ℕ) (answer : Result Written LookRefusal) → IfOk answer (λ w. ShowsLine g n old w.text.items) → IfOk answer (λ w. w.is_settled ≡ true)
-      → IfOk answer (λ w. Shows g (request.Line n) old w.text.items w.is_settled)
-  line_asked n (Ok w) shows settled = (shows, settled)
-  line_asked n (Err fault) shows settled = tt
+  pub line_asked : (asked : LineRequest) (answer : Result Written LookRefusal) → IfOk answer (λ w. ShowsLine g asked.root (unwrap_or asked.plies 0) old w.text.items) → IfOk answer (λ w. w.is_settled ≡ true)
+      → IfOk answer (λ w. Shows g opened (request.Line asked) old w.text.items w.is_settled)
+  line_asked asked (Ok w) shows settled = (shows, settled)
+  line_asked asked (Err fault) shows settled = tt
+
+  pub tree_asked : (asked : TreeRequest) (answer : Result Written LookRefusal) → (IsHonest g.TELLS → IfOk answer (λ w. ShowsTreeOf (g.reads old) asked w.text.items)) → IfOk answer (λ w. IsTrueTree asked w.text.items) → IfOk answer (λ w. w.is_settled ≡ true)
+      → IfOk answer (λ w. Shows g opened (request.Tree asked) old w.text.items w.is_settled)
+  tree_asked asked (Ok w) shows true_tree settled = (shows, (true_tree, settled))
+  tree_asked asked (Err fault) shows true_tree settled = tt
+
+  pub records_asked : (asked : RecordsRequest) (answer : Result Written LookRefusal) → (IsHonest g.TELLS → IfOk answer (λ w. ShowsRecords (g.reads old) asked.json w.text.items))
+      → IfOk answer (λ w. IsTrueList asked.json w.text.items) → IfOk answer (λ w. w.is_settled ≡ true) → IfOk answer (λ w. Shows g opened (request.Records asked) old w.text.items w.is_settled)
+  records_asked asked (Ok w) shows true_list settled = (shows, (true_list, settled))
+  records_asked asked (Err fault) shows true_list settled = tt
+
+  pub page_asked : (asked : PageRequest) (answer : Result Written LookRefusal) → (IsHonest g.TELLS → IfOk answer (λ w. ShowsPageOf (g.reads old) asked w.text.items w.is_settled)) → IfOk answer (λ w. IsTruePage asked w.text.items w.is_settled)
+      → IfOk answer (λ w. Shows g opened (request.Page asked) old w.text.items w.is_settled)
+  page_asked asked (Ok w) shows true_values = (shows, true_values)
+  page_asked asked (Err fault) shows true_values = tt

@@ -1,3 +1,5 @@
-pub mod Words
+pub mod Trees
+pub mod Pages
+pub mod Games
 pub mod Shown
 pub mod Runs

@@ -6,20 +6,23 @@ use Rattle.shared_words.specs.Counts.{Rose}
 use Rattle.bench_disk.specs.declared.disk.Disk.{Ghosts}
 use Rattle.bench_disk.specs.Disk.{IsHonest, Stays}
 use Rattle.bench_edges.specs.declared.sink.Sink.{Ghosts as SinkGhosts}
+use Rattle.bench_edges.specs.declared.source.Source.{Ghosts as SourceGhosts}
 use Rattle.bench_edges.specs.declared.status.Status.{Status}
 use Rattle.bench_edges.specs.declared.status.Status.TheVariants.{Done, Unsolved, Words, Input, Disk, Journal, Memory, Read, Write}
 use Rattle.disk_journal.specs.declared.refusal.JournalRefusal.TheVariants as journal
 use Rattle.journal_looks.specs.Conversions.{of_look}
 use Rattle.journal_looks.specs.declared.refusals.LookRefusal.{LookRefusal}
 use Rattle.journal_looks.specs.declared.refusals.LookRefusal.TheVariants as look
+use Rattle.opened_games.specs.Opened.{Opened}
 use Rattle.opening_report.specs.Refusals.{refusal_text}
 use Rattle.opening_report.specs.declared.refusals.Refusal.{Refusal}
 use Rattle.opening_report.specs.declared.refusals.Refusal.TheVariants as refusal
 use Rattle.program_edges.specs.Answers.{TakesLine, TakesOutput}
 use Rattle.program_edges.specs.Statuses.{status_of}
+use Rattle.journal_view.specs.Games.{HasGames, HasNoGames, played}
 use Rattle.journal_view.specs.Shown.{Explains, HasCause, IsGoodFor, Shows, says_nothing}
-use Rattle.journal_view.specs.Words.{IsRefusedAt, Says}
-use Rattle.journal_view.specs.declared.words.Request.{Request}
+use Rattle.view_words.specs.Words.{IsRefusedAt, Says}
+use Rattle.view_words.specs.declared.requests.Request.{Request}
 
 -- ---- statuses
 
@@ -86,17 +89,17 @@ module _ {D : Type 0} (g : Ghosts D) where
       IsRefusedWords words old new r
       ⊎ ((request : Request) × (Says words request × IsLookFault request old new r))
 
--- ---- a run
+-- ---- a run with these games, where games are asked
 
 module _ {K D : Type 0} (k : SinkGhosts K) (g : Ghosts D) where
   -- the run writes what the words ask for
-  pub record WritesView (words : List (List ℕ)) (before after : K) (old : D) (status : Status)
-      : Type 0 where
+  pub record WritesView (opened : Opened) (words : List (List ℕ)) (before after : K) (old : D)
+      (status : Status) : Type 0 where
     pub request : Request
     pub says : Says words request
     pub text : List ℕ
     pub settled : Bool
-    pub shows : Shows g request old text settled
+    pub shows : Shows g opened request old text settled
     pub taken : TakesOutput status text settled (k.taken before) (k.taken after)
 
   -- The run is refused: there is a cause, the status is that of its refusal, and the sink took the line
@@ -111,10 +114,10 @@ module _ {K D : Type 0} (k : SinkGhosts K) (g : Ghosts D) where
 
   -- A run by the words, with this status. `before` and `after` are its sink before and behind it, `old`
   -- and `new` its disk.
-  pub record RunsView (words : List (List ℕ)) (before after : K) (old new : D) (status : Status)
-      : Type 0 where
+  pub record RunsWith (opened : Opened) (words : List (List ℕ)) (before after : K) (old new : D)
+      (status : Status) : Type 0 where
     -- it writes what is asked, or is refused for a cause
-    pub views : Reports status → WritesView words before after old status
+    pub views : Reports status → WritesView opened words before after old status
     pub refused : Refuses status → IsRefusedRun words before after old new status
     pub ends : Reports status ⊎ Refuses status
     -- the journal is left as it was
@@ -141,3 +144,39 @@ module _ {K D : Type 0} (k : SinkGhosts K) (g : Ghosts D) where
     pub refused : Refuses status → (why : IsRefusedRun words before after old new status)
         × (handed ≡ Some why.refusal)
     pub reported : Reports status → handed ≡ None
+
+-- ---- a run
+
+module _ {S K D : Type 0} (s : SourceGhosts S) (k : SinkGhosts K) (g : Ghosts D) where
+  -- Games are asked, and those of the source are refused: the status is that of their refusal, the sink
+  -- took the line that says so, and the disk was not used.
+  pub record IsRefusedGames (words : List (List ℕ)) (source rest : S) (before after : K) (old new : D)
+      (status : Status) (r : Refusal) : Type 0 where
+    pub request : Request
+    pub says : Says words request
+    pub why : HasNoGames request (s.left source) (s.left rest) (s.faults source) (s.faults rest) r
+    pub unused : new ≡ old
+    pub status_is : status_of r ≡ status
+    pub line : TakesLine (refusal_text r) (k.taken before) (k.taken after) (k.faults before)
+        (k.faults after)
+
+  -- the games are those of the source, if the words ask for games
+  abbrev pub AreAsked : List (List ℕ) → S → Opened → Type 0
+  AreAsked words source opened =
+      (request : Request) → Says words request → HasGames request (s.left source) opened
+
+  -- The run by the words: its games are refused, or it runs with them. `source` and `rest` are its source
+  -- before and behind it, which is not used where no games are asked.
+  pub record RunsView (words : List (List ℕ)) (source rest : S) (before after : K) (old new : D)
+      (status : Status) : Type 0 where
+    pub runs : ((r : Refusal) × IsRefusedGames words source rest before after old new status r)
+        ⊎ ((opened : Opened) × (AreAsked words source opened
+        × RunsWith k g opened words before after old new status))
+    pub unasked : ((request : Request) → Says words request → played request ≡ None) → rest ≡ source
+
+  -- What the run hands out beside its status: why it was refused, if it was.
+  abbrev pub HandsRefusal : List (List ℕ) → S → S → K → K → D → D → Status → Option Refusal → Type 0
+  HandsRefusal words source rest before after old new status handed =
+      ((r : Refusal) × (IsRefusedGames words source rest before after old new status r
+      × (handed ≡ Some r)))
+      ⊎ HandsOut k g words before after old new status handed

@@ -4,4 +4,3 @@ pub mod MemoLemmas
 pub mod WinLemmas
 pub mod AnswerLemmas
 pub mod SightLemmas
-pub mod AloneLemmas

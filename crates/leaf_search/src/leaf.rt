@@ -1,6 +1,5 @@
 //! The search of a leaf.
 ghost use Rattle.std.specs.Prelude.{◌≡◌, ◌≤◌, [], All, IfOk, MatchOption, true, false, ℕ};
-ghost use Rattle.certificate_checker.specs.Refusals.{check_wants_memory};
 ghost use Rattle.draughts_board.specs.Board.{Board, other};
 ghost use Rattle.draughts_board.specs.Draughts.{draughts};
 ghost use Rattle.draughts_board.specs.Game.{is_at_sight, ShowsWin, ShowsHold};
@@ -14,23 +13,13 @@ use crate::fortress::prove_fortress;
 use crate::holds::find_hold;
 use crate::memo::Memo;
 use crate::wins::find_win;
-use certificate_checker::{CheckRefusal, Exhausted, MOST_DEPTH, Outcome, ProofList, Proved, check};
+use certificate_checker::{Exhausted, MOST_DEPTH, Outcome, ProofList, Proved, prove_part};
 use draughts_board::{Position, Side};
 use std::alloc::{AllocError, Global};
-use strategy_certificate::{Certificate, HoldPart, Oracle, Part, PartList, WinPart};
+use strategy_certificate::{HoldPart, Oracle, Part, WinPart};
 use swift_sight::children_at_sight;
 
-/// The want of memory that a refusal is.
-fn want_of_memory(refusal: &CheckRefusal) -> AllocError
-    requires { check_wants_memory refusal.now ≡ true }
-{
-    match refusal {
-        CheckRefusal::Memory(error) => *error,
-        _ => unreachable!(),
-    }
-}
-
-/// The certificate with this one part, checked. The checker accepts it, but for want of memory.
+/// The certificate with this one part, checked. It fails only for want of memory.
 fn prove<O: Oracle>(
     alloc: Global,
     p: &Position,
@@ -40,19 +29,7 @@ fn prove<O: Oracle>(
     requires { IsShownBy (O.answer_at oracle.now) p.now part }
     ensures { IfOk result (Proves (O.piece_limit oracle.now) p.now (claim_of part)) }
 {
-    let claim = part.claim();
-    let mut parts = Vec::new(alloc);
-    parts.push(part)?;
-    let certificate = Certificate {
-        position: *p,
-        claim,
-        pieces: oracle.pieces(),
-        parts: PartList::from_vec(parts),
-    };
-    match check(alloc, certificate, oracle) {
-        Ok(proved) => Ok(proved),
-        Err(refused) => Err(want_of_memory(&refused.1)),
-    }
+    prove_part(alloc, p, part, oracle)
 }
 
 /// A certificate that the side wins, where looking `depth` plies ahead shows it.

@@ -6,58 +6,26 @@
 //! it the words, standard input, standard output and the journal's file, tells a person of how the
 //! run ended, and answers `--help` and `--version` itself.
 //!
-//! Proved: the clauses of [`bench::bench`], in `docs/PROVED.md`. [`run`] promises them as one record,
-//! and hands out why a run was refused; [`bench_quiet`] has them by the command, for those that
-//! search nothing.
+//! Proved: the clauses of [`bench_commands::bench`], in `docs/PROVED.md`, which [`run`] promises as one
+//! record.
 #![tactic(auto)]
 
-pub mod bench;
-mod by_command;
-#[cfg(test)]
-mod certificate_tests;
 mod clearing_sink;
-mod commands;
 mod deeper;
-mod ended;
-pub mod examples;
-#[cfg(test)]
-mod failing_tests;
-#[cfg(test)]
-mod handing_back_tests;
-#[cfg(test)]
-mod journal_tests;
-#[cfg(test)]
-mod limit_tests;
 mod odd_journals;
 mod progress;
 mod progress_lines;
-#[cfg(test)]
-mod progress_tests;
-mod quiet;
-mod running;
-#[cfg(test)]
-mod runs_of_tests;
-mod searching;
 mod shares;
-#[cfg(test)]
-mod solve_tests;
-#[cfg(test)]
-mod table_tests;
 mod telling;
 mod unsolved;
-#[cfg(test)]
-mod unsolved_tests;
 mod usage;
 
+use bench_commands::run;
 use bench_disk::{Access, FileDisk};
 use bench_edges::{Command, StdSink, StdSource, read_words};
-use by_command::{looks, writes};
 use clearing_sink::ClearingSink;
-pub use ended::Ended;
 use program_edges::{KeepingSink, KeepingSource, PathDisk, Standards, args, print, told, words_of};
 use progress::ProgressGate;
-pub use quiet::bench_quiet;
-pub use running::run;
 use std::io::{self, IsTerminal};
 use std::process::ExitCode;
 use std::sync::Wait;
@@ -103,6 +71,19 @@ fn run_on<R: Threads + Wait + Sync>(
     };
     tell_of(rt, words, &ended, &heard);
     ended.status.number()
+}
+
+/// The command writes to its journal.
+fn writes(command: Option<Command>) -> bool {
+    matches!(
+        command,
+        Some(Command::Solve(_) | Command::Learn | Command::Generate { .. })
+    )
+}
+
+/// The command looks at its journal, and writes nothing to it.
+fn looks(command: Option<Command>) -> bool {
+    matches!(command, Some(Command::Report | Command::Certify(_)))
 }
 
 /// The command that the words say; none where they say none.

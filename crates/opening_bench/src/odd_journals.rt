@@ -10,7 +10,7 @@ const MOST_TOLD: usize = 60;
 /// The command uses a journal.
 fn uses_journal(command: Option<Command>) -> bool {
     match command {
-        Some(Command::Solve(_) | Command::Generate { .. }) => true,
+        Some(Command::Solve(_) | Command::Learn | Command::Generate { .. }) => true,
         Some(Command::Report | Command::Certify(_)) => true,
         Some(Command::Verify | Command::MakeTable(_) | Command::TableCheck) => false,
         None => false,

@@ -1,8 +1,8 @@
 //! What a person at a terminal is told on standard error, behind what the run itself wrote.
 use crate::NO_PATH;
 use crate::deeper::deeper_text;
-use crate::ended::Ended;
 use crate::odd_journals::journal_text;
+use bench_commands::Ended;
 use bench_disk::FileDisk;
 use bench_edges::{Command, MOST_PLIES, Options, Status};
 use opening_report::Refusal;

@@ -9,13 +9,14 @@ Usage:
   opening_bench PATH report
   opening_bench PATH certify N > CERTIFICATE
   opening_bench PATH verify < CERTIFICATE
+  opening_bench PATH learn < CERTIFICATE
   opening_bench PATH table K > TABLE
   opening_bench PATH table-check < TABLE
   opening_bench --help
   opening_bench --version
 
-PATH       the journal's file, which `solve` and `generate` make where it is missing; `-` is a journal in
-           memory, which ends with the run. `verify`, `table` and `table-check` do not use it
+PATH       the journal's file, which `solve`, `generate` and `learn` make where it is missing; `-` is a
+           journal in memory, which ends with the run. `verify`, `table` and `table-check` do not use it
 N          the number of a root, 1 to 65536, as `report` writes it
 K          how many pieces an endgame table has at most, 2 or 3
 SEED       where the openings of `generate` begin, 0 to 4294967295
@@ -49,16 +50,22 @@ ahead and a budget of COUNT, reads nothing, and writes the line that counts alon
 `report` writes these lines again for what the journal holds, and writes nothing to it. `certify`
 writes the certificate of the value of root N. `verify` reads the text of a certificate, of at most
 268435456 bytes, fills the endgame table that it names, and writes `verified FEN CLAIM` where the
-certificate is good, or else why it is not. `table` writes the bytes of the endgame table of K
-pieces. `table-check` reads such bytes, at most 4194304, and writes `sound table K entries E` where
-each entry is right, or else which is not.
+certificate is good, or else why it is not. `learn` reads and checks a certificate as `verify` does,
+and records it in the journal, at the root of its position, which begins where there is none. The
+journal is for the table that the certificate names. A root that has a value, or knows all that is
+claimed, stays as it is; one below which the search has gone on is refused. It writes
+`learnt NUMBER FEN CLAIM`. `table` writes the bytes of the endgame table of K pieces. `table-check`
+reads such bytes, at most 4194304, and writes `sound table K entries E` where each entry is right, or
+else which is not.
 
 Exit status:
-  0  each root has a value; the certificate is written, or is good; the table is written, or is sound
+  0  each root has a value; the certificate is written, or is good, or is learnt; the table is
+     written, or is sound
   1  some root is unsolved
   2  the words are not of the form above
   3  the games cannot be read, or have no openings; there would be more than 65536 roots; there is no
-     root N, or it is unsolved; the certificate is not good; the bytes are no sound table
+     root N, or it is unsolved; the certificate is not good, or the search has gone on below its root;
+     the bytes are no sound table
   4  the journal's file failed: what was written to the journal before is kept
   5  the journal's file is none, of a table of other pieces, or damaged; nothing was written to it
   6  no memory

@@ -1,8 +1,7 @@
 -- The roots of a bench, one by one, and the certificates of their values.
 use Rattle.std.proofs.Common.{◌≡◌, ℕ, ◌+◌, ◌-◌, ◌<◌, List, [], ◌∷◌, ◌++◌, Bool, true, false, Option, Some, None, length, get_or, slice_get, map, take, refl, sym, ◌∙◌, ap, subst, arith, ⊎_elim}
-use Rattle.std.specs.Prelude.{Contains, IfSome, IsSome, IsTrue, Result, Ok, Err, is_some, nat_eq, suc, cond, ◌≤◌, ◌^◌, ◌&&◌}
+use Rattle.std.specs.Prelude.{Contains, IfSome, IsSome, is_some, nat_eq, suc, cond, ◌≤◌, ◌^◌, ◌&&◌}
 use Rattle.std.specs.List.{list_all}
-use Rattle.std.specs.Bool.{OnFalse}
 use Rattle.std.proofs.lemmas.Bool.{false≢true}
 use Rattle.std.proofs.lemmas.Option.{slice_get-get_or}
 use Rattle.std.proofs.lemmas.List.{take_more, get_or-map, length-map}
@@ -16,11 +15,7 @@ use Rattle.draughts_board.specs.declared.pieces.Value.{Value}
 use Rattle.draughts_board.specs.declared.pieces.Value.TheVariants.{BlackWins, WhiteWins, Draw}
 use Rattle.strategy_certificate.specs.declared.claims.Claim.{Claim}
 use Rattle.strategy_certificate.specs.declared.certificates.Certificate.{Certificate}
-use Rattle.strategy_certificate.specs.declared.oracle.Answer.{Answer}
-use Rattle.strategy_certificate.specs.Certificates.{IsGoodBy, IsTrueOf}
-use Rattle.certificate_checker.specs.declared.refusals.CheckRefusal.{CheckRefusal}
-use Rattle.certificate_checker.specs.Refusals.{check_wants_memory}
-use Rattle.shared_words.specs.Answers.{IsExact}
+use Rattle.strategy_certificate.specs.Certificates.{IsTrueOf}
 use Rattle.certificate_joiner.specs.Certified.{IsJoined, claim_for}
 use Rattle.certificate_joiner.specs.Strategy.{named}
 use Rattle.certificate_joiner.proofs.Named.{EachNode-contains, root_is, said_of}
@@ -34,16 +29,6 @@ use Rattle.opening_report.specs.Report.{root_of, forest_roots, IsTrueRoot, AreTr
 use Rattle.opening_report.proofs.ReportLemmas.{summary_line-is_line}
 
 -- ---- certificates
-
--- a good certificate is refused for want of memory alone
-pub only_memory : (answer : Board → Option Answer) (c : Certificate) (refused : Certificate × CheckRefusal) (Stands : Certificate × CheckRefusal → Type 0)
-    → IsExact {T = Certificate} (λ r. check_wants_memory r.1) (λ proved. (proved ≡ c) × IsGoodBy answer c) Stands (Err refused) → IsGoodBy answer c
-    → IsTrue (check_wants_memory refused.1)
-only_memory answer c refused Stands exact good = by (check_wants_memory refused.1) (exact.only_good c (refl, good))
-  where
-    by : (b : Bool) → OnFalse b (Err refused ≡ Ok c) → IsTrue b
-    by true said = refl
-    by false said = absurd cc
 
 -- the certificate of a settled root, without the root
 pub joined_there : (k : ℕ) (xs : List Node) (i : ℕ) (c : Certificate) → i < length xs → IfSome (slice_get xs i) (λ x. IsSome (value_of x))

@@ -300,6 +300,7 @@ second_byte (refusal.TableBadEntry index kept) = refl
 second_byte refusal.TooManyRoots = refl
 second_byte (refusal.NoRoot n) = refl
 second_byte (refusal.UnsettledRoot n) = refl
+second_byte (refusal.RootExpanded n) = refl
 second_byte refusal.Disk = refl
 second_byte refusal.NotAJournal = refl
 second_byte (refusal.OtherTable found asked) = refl

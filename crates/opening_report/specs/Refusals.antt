@@ -74,6 +74,7 @@ refusal_text (refusal.TableBadEntry index kept) =
 refusal_text refusal.TooManyRoots = codes "refused input too-many-roots\n"
 refusal_text (refusal.NoRoot n) = numbered (codes "refused input no-root ") n
 refusal_text (refusal.UnsettledRoot n) = numbered (codes "refused input unsettled-root ") n
+refusal_text (refusal.RootExpanded n) = numbered (codes "refused input root-expanded ") n
 refusal_text refusal.Disk = codes "refused disk\n"
 refusal_text refusal.NotAJournal = codes "refused journal not-a-journal\n"
 refusal_text (refusal.OtherTable found asked) =

@@ -1,9 +1,8 @@
 //! The report on a bench. A value is written only after a certificate of it was checked.
-ghost use Rattle.std.specs.Prelude.{◌≡◌, ◌≤◌, ◌-◌, IsTrue, length, slice_get, IsSome, IfSome, IfOk, OnOk};
+ghost use Rattle.std.specs.Prelude.{◌≡◌, ◌≤◌, ◌-◌, length, slice_get, IsSome, IfSome, IfOk, OnOk};
 ghost use Rattle.draughts_board.specs.Game.{HasValue};
 ghost use Rattle.draughts_board.specs.Draughts.{draughts};
 ghost use Rattle.strategy_certificate.specs.Certificates.{IsGood};
-ghost use Rattle.certificate_checker.specs.Refusals.{check_wants_memory};
 ghost use Rattle.certificate_joiner.specs.Certified.{IsJoined, claim_for};
 ghost use Rattle.proof_tree.specs.Forest.{nodes, value_of};
 ghost use Rattle.bench_core.specs.States.{are_settled};
@@ -16,26 +15,11 @@ use crate::reports::report;
 use crate::roots::Root;
 use arrayvec::ArrayString;
 use bench_core::Bench;
-use certificate_checker::{CheckRefusal, check};
+use certificate_checker::prove;
 use draughts_board::Value;
 use proof_tree::Tree;
 use std::alloc::{AllocError, Global};
 use strategy_certificate::{Certificate, Oracle};
-
-/// The want of memory for which a certificate was not checked.
-fn memory_of(refusal: CheckRefusal) -> AllocError
-    requires { IsTrue (check_wants_memory refusal) }
-{
-    match refusal {
-        CheckRefusal::Memory(error) => error,
-        CheckRefusal::ClaimNotMet
-        | CheckRefusal::BadRank { .. }
-        | CheckRefusal::BadMove { .. }
-        | CheckRefusal::Missing { .. }
-        | CheckRefusal::StuckHolder { .. }
-        | CheckRefusal::NoRoot(_) => unreachable!(),
-    }
-}
 
 /// A checked certificate that claims the value of a settled root, counted from 1. It fails only for
 /// want of memory, since what a bench joins is good.
@@ -62,10 +46,7 @@ pub fn root_certificate<O: Oracle>(
     let certificate = bench.certificate(number)?;
     let pieces = oracle.pieces();
     prove!(certificate.pieces == pieces);
-    match check(alloc, certificate, oracle) {
-        Ok(proved) => Ok(proved.into_certificate()),
-        Err((_certificate, refusal)) => Err(memory_of(refusal)),
-    }
+    Ok(prove(alloc, certificate, oracle)?.into_certificate())
 }
 
 /// The value of a root, counted from 1, where it is settled: it is true. It fails only for want of

@@ -73,6 +73,8 @@ pub enum Refusal {
     NoRoot(u32),
     /// The root with this number, counted from 1, has no value yet.
     UnsettledRoot(u32),
+    /// The root with this number, counted from 1, is expanded: what is learnt of it would not be used.
+    RootExpanded(u32),
     /// The disk failed.
     Disk,
     /// The bytes of the disk are those of no journal.
@@ -312,6 +314,7 @@ pub fn refusal_line(r: &Refusal) -> ArrayString<128>
         Refusal::TooManyRoots => plain("refused input too-many-roots\n"),
         Refusal::NoRoot(n) => numbered("refused input no-root ", n as usize),
         Refusal::UnsettledRoot(n) => numbered("refused input unsettled-root ", n as usize),
+        Refusal::RootExpanded(n) => numbered("refused input root-expanded ", n as usize),
         Refusal::Disk => plain("refused disk\n"),
         Refusal::NotAJournal => plain("refused journal not-a-journal\n"),
         Refusal::OtherTable { found, asked } => other_table_line(found, asked),

@@ -37,6 +37,7 @@ status_of (refusal.TableBadEntry index kept) = Input
 status_of refusal.TooManyRoots = Input
 status_of (refusal.NoRoot root) = Input
 status_of (refusal.UnsettledRoot root) = Input
+status_of (refusal.RootExpanded root) = Input
 -- the disk, and the journal on it
 status_of refusal.Disk = Disk
 status_of refusal.NotAJournal = Journal

@@ -19,7 +19,7 @@ use Rattle.certificate_checker.specs.Answers.{IsFinding, IsAnswer}
 use Rattle.strategy_certificate.specs.Parts.{WinList, HoldList, HasEntry}
 use Rattle.strategy_certificate.specs.Certificates.{IsTrueOf}
 use Rattle.proved_book.specs.Trimming.{IsTrimmedWin, IsTrimmedHold}
-use Rattle.proved_book.specs.OneParts.{with_part}
+use Rattle.certificate_checker.specs.OneParts.{with_part}
 use Rattle.proved_book.specs.Books.{Strategies, wins_of, holds_of, KnowsWin, KnowsHold, IsWinOf, IsHoldOf, IsAnsweredBy, IsBook}
 use Rattle.proved_book.specs.Laws.{AnswersServe, AnswersAreTrue, OneAnswer}
 use Rattle.proved_book.proofs.TrimLaws.{one_trimmed_win, one_trimmed_hold}

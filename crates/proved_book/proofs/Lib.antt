@@ -1,4 +1,3 @@
-pub mod AloneLemmas
 pub mod Those
 pub mod TrimLaws
 pub mod PlaceLemmas

@@ -3,4 +3,3 @@ pub mod Walking
 pub mod Books
 pub mod Laws
 pub mod Examples
-pub mod OneParts

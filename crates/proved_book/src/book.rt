@@ -4,12 +4,11 @@ ghost use Rattle.strategy_certificate.specs.declared.claims.Claim.TheVariants as
 ghost use Rattle.strategy_certificate.specs.declared.certificates.Part.TheVariants as parts;
 ghost use Rattle.strategy_certificate.specs.Parts.{HasEntry, WinList, HoldList};
 ghost use Rattle.strategy_certificate.specs.Certificates.{IsGoodWinPart, IsGoodHoldPart};
-ghost use Rattle.proved_book.specs.OneParts.{with_part};
+ghost use Rattle.certificate_checker.specs.OneParts.{with_part};
 ghost use Rattle.proved_book.specs.Trimming.{IsTrimmedWin, IsTrimmedHold};
 
-use crate::one_part::prove_part;
 use crate::trimming::{trim_holds, trim_wins};
-use certificate_checker::{ProofList, Proved};
+use certificate_checker::{ProofList, Proved, prove_part};
 use draughts_board::{Position, Side};
 use proof_numbers::Facts;
 use std::alloc::{AllocError, Global};

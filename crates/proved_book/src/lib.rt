@@ -18,7 +18,6 @@
 mod book;
 pub mod examples;
 pub mod laws;
-mod one_part;
 mod strategy;
 mod trimming;
 mod walking;

@@ -54,7 +54,8 @@ pub(crate) fn say_limit(text: &mut Vec<u8>, refusal: &Refusal) -> Result<(), All
         ),
         Refusal::TooLong => say(
             text,
-            "`solve` reads at most 16777216 bytes, `verify` 268435456 and `table-check` 4194304. \
+            "`solve` reads at most 16777216 bytes, `verify` and `learn` 268435456, and `table-check` \
+                4194304. \
                 Games can be split over several files that are given one after the other to the \
                 same journal.\n",
         ),
@@ -77,6 +78,15 @@ pub(crate) fn say_limit(text: &mut Vec<u8>, refusal: &Refusal) -> Result<(), All
                 "Root ",
                 u64::from(*n),
                 " has no value yet. Go on with `solve`, with a larger `--budget` or `--depth`.\n",
+            )
+        }
+        Refusal::RootExpanded(n) => {
+            say_number(
+                text,
+                "The search has gone on below root ",
+                u64::from(*n),
+                ", and a certificate of the root itself would not be used there. Go on with `solve`, \
+                    or learn the certificate in a new journal.\n",
             )
         }
         Refusal::Memory => say(

@@ -30,4 +30,4 @@ mod words;
 pub use boards::say_position;
 pub use disks::{failed_text, missing_text, other_run_text};
 pub use hints::hint;
-pub use move_lists::{legal_moves_text, push_move};
+pub use move_lists::legal_moves_text;

@@ -1,12 +1,11 @@
 //! Moves, and the list of those that are legal.
-ghost use Rattle.std.specs.Prelude.{◌≡◌, ◌≤◌, ◌++◌, ◌∷◌, [], ℕ, length, IfOk, OnOk};
+ghost use Rattle.std.specs.Prelude.{◌≡◌, ◌≤◌, ◌++◌, length, IfOk, OnOk};
 ghost use Rattle.draughts_board.specs.Play.{legal_paths};
-ghost use Rattle.certificate_text.specs.Lines.{further_squares, move_text, separator};
 ghost use Rattle.refusal_hints.specs.MoveLists.{further_moves, moves_text};
 
+use certificate_text::push_move;
 use draughts_board::{Move, Position, Square};
 use draughts_rules::legal_moves;
-use shared_words::push_number;
 use std::alloc::{AllocError, Global};
 
 /// The path is that of a capture, or jumps at least.
@@ -14,40 +13,6 @@ pub(crate) fn is_capture(path: &[Square]) -> bool
     requires { 2 ≤ length path.now }
 {
     path[0].row().abs_diff(path[1].row()) == 2
-}
-
-/// What stands between the squares of a path.
-fn separator(path: &[Square]) -> u8
-    requires { 2 ≤ length path.now }
-    ensures { result ≡ separator path.now }
-{
-    if path[0].row().abs_diff(path[1].row()) == 2 {
-        b'x'
-    } else {
-        b'-'
-    }
-}
-
-/// Appends squares, each behind the separator.
-fn push_further(text: &mut Vec<u8>, separator: u8, squares: &[Square]) -> Result<(), AllocError>
-    ensures { OnOk result (text.new.items ≡ text.old.items
-        ++ further_squares separator squares.now) }
-{
-    for square in squares {
-        text.push(separator)?;
-        push_number(text, u64::from(square.number()))?;
-    }
-    Ok(())
-}
-
-/// Appends a move by its squares, with `x` between those of a capture and `-` between those of a
-/// step.
-pub fn push_move(text: &mut Vec<u8>, m: &Move) -> Result<(), AllocError>
-    ensures { OnOk result (text.new.items ≡ text.old.items ++ move_text m.now) }
-{
-    let path = m.path();
-    push_number(text, u64::from(path[0].number()))?;
-    push_further(text, separator(path), &path[1..])
 }
 
 /// Appends moves, each behind a comma and a blank.

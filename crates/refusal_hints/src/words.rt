@@ -102,8 +102,8 @@ fn say_form(text: &mut Vec<u8>) -> Result<(), AllocError> {
     say(
         text,
         "The words are: opening_bench JOURNAL COMMAND, where JOURNAL is a file, or `-` for a \
-            journal in memory, and COMMAND is solve, report, certify N, verify, table K, \
-            table-check or generate SEED COUNT. Games are read from standard input:\n  opening_bench games.journal solve \
+            journal in memory, and COMMAND is solve, report, certify N, verify, learn, \
+            table K, table-check or generate SEED COUNT. Games are read from standard input:\n  opening_bench games.journal solve \
             < games.pdn\n`opening_bench --help` says more.\n",
     )
 }
@@ -288,7 +288,7 @@ fn say_argument(
     match command {
         "certify" | "table" if at == 2 => say_one_number(text, command),
         "generate" if at == 2 || at == 3 => say_generated(text),
-        "verify" | "table-check" => {
+        "verify" | "learn" | "table-check" => {
             say(text, command)?;
             say(
                 text,

@@ -319,7 +319,7 @@ fn is_told_words(alloc: Global, case: &Words) -> Result<bool, AllocError> {
 }
 
 const FORM: &str =
-    "The words are: opening_bench JOURNAL COMMAND, where JOURNAL is a file, or `-` for a journal in memory, and COMMAND is solve, report, certify N, verify, table K, table-check or generate SEED COUNT. Games are read from standard input:\n  opening_bench games.journal solve < games.pdn\n`opening_bench --help` says more.\n";
+    "The words are: opening_bench JOURNAL COMMAND, where JOURNAL is a file, or `-` for a journal in memory, and COMMAND is solve, report, certify N, verify, learn, table K, table-check or generate SEED COUNT. Games are read from standard input:\n  opening_bench games.journal solve < games.pdn\n`opening_bench --help` says more.\n";
 
 const WORDS: &[Words] = &[
     (&[], 0, FORM),
@@ -337,12 +337,12 @@ const WORDS: &[Words] = &[
     (
         &["--depth", "slove", "", ""],
         1,
-        "`slove` is no command. Perhaps `solve` is meant. The commands are solve, report, certify, verify, table, table-check and generate.\nThe first word names the journal: the file `--depth`. Options stand behind `solve`.\n",
+        "`slove` is no command. Perhaps `solve` is meant. The commands are solve, report, certify, verify, learn, table, table-check and generate.\nThe first word names the journal: the file `--depth`. Options stand behind `solve`.\n",
     ),
     (
         &["-", "slove", "", ""],
         1,
-        "`slove` is no command. Perhaps `solve` is meant. The commands are solve, report, certify, verify, table, table-check and generate.\n",
+        "`slove` is no command. Perhaps `solve` is meant. The commands are solve, report, certify, verify, learn, table, table-check and generate.\n",
     ),
     (
         &["solve", "-", "", ""],
@@ -444,7 +444,7 @@ fn certificates_and_tables(rt: HostRuntime) -> Result<(), Fail> {
     Ok(())
 }
 
-const JOURNALS: [Case; 3] = [
+const JOURNALS: [Case; 4] = [
     (
         Refusal::OtherTable { found: 3, asked: 2 },
         b"",
@@ -454,6 +454,11 @@ const JOURNALS: [Case; 3] = [
         Refusal::UnsettledRoot(5),
         b"",
         "Root 5 has no value yet. Go on with `solve`, with a larger `--budget` or `--depth`.\n",
+    ),
+    (
+        Refusal::RootExpanded(7),
+        b"",
+        "The search has gone on below root 7, and a certificate of the root itself would not be used there. Go on with `solve`, or learn the certificate in a new journal.\n",
     ),
     (
         Refusal::Memory,

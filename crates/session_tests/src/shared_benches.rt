@@ -1,7 +1,7 @@
 //! Threads at a shared bench with the roots W:W16,23:B12 and W:W16,24:B12.
 ghost use Rattle.std.specs.Prelude.{IfOk};
 ghost use Rattle.turn_lock.specs.Seen.{IsOutside};
-ghost use Rattle.tree_manager.specs.Turns.{GrowsByTurns};
+ghost use Rattle.tree_manager.specs.Taken.{TurnGoesOn};
 
 use crate::sessions::{session_with, two_against_one};
 use bench_core::LeaseRefusal;
@@ -13,7 +13,7 @@ use std::sync::Wait;
 use std::test::*;
 use std::thread;
 use std::thread::Threads;
-use tree_manager::{BenchPass, RootCounts, Session, SharedBench};
+use tree_manager::{BenchPass, RootCounts, Session, SharedBench, Turn};
 
 /// The number of a lease and its node, or why there is none.
 type Answer = Result<(u128, u64), LeaseRefusal>;
@@ -63,11 +63,6 @@ fn shared_on(
     Ok(shared_of(alloc, session)?)
 }
 
-/// How many entries the line of a session has.
-fn entries(session: &Session<MemoryDisk>) -> u64 {
-    session.len()
-}
-
 /// Ends the sharing: how many entries the line has, by the session and by the lock.
 fn count_at_end<R: Wait>(
     rt: &R,
@@ -76,8 +71,8 @@ fn count_at_end<R: Wait>(
 ) -> (u64, u64)
     requires { IsOutside shared pass }
 {
-    let ended = shared.finish_counted(rt, pass);
-    (entries(&ended.0), ended.1)
+    let (session, count) = shared.finish(rt, pass);
+    (session.len(), count)
 }
 
 /// Ends a lease, in one turn.
@@ -178,12 +173,12 @@ fn two_threads_lease_a_root_each(rt: HostRuntime) -> Result<(), Fail> {
 }
 
 /// What is answered to a worker who asks twice in a turn.
-#[tactic(auto, using(tree_manager::proofs::TurnLemmas::grows_then))]
-fn ask_twice(session: &mut Session<MemoryDisk>, worker: u32) -> (Answer, Answer)
-    ensures { GrowsByTurns session.old.line session.new.line }
+#[tactic(auto, using(tree_manager::proofs::TakenLemmas::turn_then))]
+fn ask_twice(turn: &mut Turn<MemoryDisk>, worker: u32) -> (Answer, Answer)
+    ensures { TurnGoesOn turn.old turn.new }
 {
-    let one = session.lease(worker);
-    let two = session.lease(worker);
+    let one = turn.lease(worker);
+    let two = turn.lease(worker);
     let told = |answer: Result<Lease, LeaseRefusal>| -> Answer {
         let lease = answer?;
         Ok((lease.id.number(), lease.node))
@@ -193,6 +188,7 @@ fn ask_twice(session: &mut Session<MemoryDisk>, worker: u32) -> (Answer, Answer)
 
 /// The leases of one turn, the answer to another worker behind it, and how many entries the line has at the end, by the
 /// session and by the lock.
+#[tactic(auto, using(tree_manager::proofs::TakenLemmas::has_turn_on))]
 fn two_in_one_turn<R: Wait>(
     rt: &R,
     alloc: Global,
@@ -200,7 +196,7 @@ fn two_in_one_turn<R: Wait>(
 ) -> Result<((Answer, Answer), Answer, (u64, u64)), Fail> {
     let (shared, mut pass) = shared_on(alloc, roots)?;
     let mut turn = shared.enter(rt, &mut pass);
-    let both = ask_twice(&mut turn.session, 1);
+    let both = ask_twice(&mut turn, 1);
     shared.leave(&mut pass, turn);
     let third = ask(rt, &shared, &mut pass, 2);
     Ok((both, third, count_at_end(rt, shared, pass)))

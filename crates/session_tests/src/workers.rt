@@ -89,7 +89,7 @@ fn come_to<R: Wait, D: Disk>(
 ) -> (D, End)
     requires { IsOutside shared pass }
 {
-    let session = shared.finish(rt, pass);
+    let (session, _) = shared.finish(rt, pass);
     let bench = session.bench();
     let end = (
         ended,

@@ -1,18 +1,29 @@
 -- Merging lists of entries, one row of the other list at a time.
-use Rattle.std.proofs.Common.{◌≡◌, ℕ, ◌⊎◌, inl, inr, List, [], ◌∷◌, ◌++◌, refl, sym, ◌∙◌, ap, subst, Option, Some, None, Bool, true, false, cond, map}
-use Rattle.std.specs.Prelude.{IfSome, is_none, nat_lt}
-use Rattle.std.specs.List.{IsDistinct}
+use Rattle.std.proofs.Common.{◌≡◌, ℕ, zero, suc, ◌⊎◌, inl, inr, List, [], ◌∷◌, ◌++◌, refl, sym, ◌∙◌, ap, subst, Option, Some, None, Bool, true, false, cond, map, set, slice_get, length, get_or, drop, ◌<◌, ◌+◌}
+use Rattle.std.specs.Prelude.{IfSome, is_none, is_some, nat_lt, not}
+use Rattle.std.specs.List.{IsDistinct, list_any, position_or_len}
 use Rattle.std.specs.Option.{option_map_or}
-use Rattle.std.proofs.lemmas.Bool.{cases_Bool}
-use Rattle.std.proofs.lemmas.List.{append-nil, append_assoc, map-append, map-id}
+use Rattle.std.proofs.lemmas.Bool.{cases_Bool, false≢true, true≢false}
+use Rattle.std.proofs.lemmas.List.{append-nil, append_assoc, drop_more, map-append, map-id}
 use Rattle.std.proofs.lemmas.Map.{lookup-none}
 use Rattle.std.proofs.lemmas.Map.Entries.{none_past_head}
 use Rattle.std.proofs.lemmas.Map.Keys.{IsDistinct-tail}
-use Rattle.indexmap.specs.IndexMap.{insert_entry}
+use Rattle.std.proofs.lemmas.Map.Made.{is_some-lookup}
+use Rattle.std.proofs.lemmas.Option.{same_Some}
 use Rattle.draughts_board.specs.Board.{Board, same_board}
 use Rattle.draughts_board.specs.Same.{same_board-Decides, same_board-equivalence}
+use Rattle.position_rows.specs.Rows.{IsRowAt}
+use Rattle.position_rows.proofs.ApartLemmas.{any_row, lookup_found, row_inside}
 use Rattle.strategy_certificate.specs.declared.entries.WinEntry.{WinEntry}
 use Rattle.strategy_certificate.specs.Parts.{HasDistinctPositions, positions_of, entry_of, smaller, improved, added_rows, merged_wins, merged_holds, without_rank}
+
+-- what is left of a list begins with the item at hand
+pub drop_item : {X : Type 0} (xs : List X) (i : ℕ) (x : X) → i < length xs → x ≡ get_or xs i x → drop i xs ≡ x ∷ drop (i + 1) xs
+drop_item xs i x inside is = drop_more xs i x inside ∙ ap (λ y. y ∷ drop (i + 1) xs) (sym is)
+
+not_false : (b : Bool) → not b ≡ false → b ≡ true
+not_false true is = refl
+not_false false is = absurd (true≢false is)
 
 -- ---- positions that are the same
 
@@ -36,6 +47,43 @@ module _ {E : Type 0} where
 
   pub entry_of-there : (p : Board) (row : Board × E) (rows : List (Board × E)) → same_board p row.0 ≡ false → entry_of (row ∷ rows) p ≡ entry_of rows p
   entry_of-there p row rows other = ap (λ b. cond b (Some row.1) (entry_of rows p)) other
+
+  -- whether a position is new is told by its look-up
+  pub is_new : (rows : List (Board × E)) (p : Board) → not (list_any (same_board p) (positions_of rows)) ≡ is_none (entry_of rows p)
+  is_new rows p = ap not (sym (is_some-lookup (same_board p) rows)) ∙ by (entry_of rows p)
+    where
+      by : (o : Option E) → not (is_some o) ≡ is_none o
+      by None = refl
+      by (Some e) = refl
+
+  -- a row that was noted where its position had none stands behind the others
+  pub noted_last : (rows : List (Board × E)) (p : Board) (e : E) (added : Bool) → added ≡ not (list_any (same_board p) (positions_of rows))
+      → HasNone rows p → cond added (rows ++ (p, e) ∷ []) rows ≡ rows ++ (p, e) ∷ []
+  noted_last rows p e added is none = ap (λ (b : Bool). cond b (rows ++ (p, e) ∷ []) rows) (is ∙ (is_new rows p ∙ ap is_none none))
+
+  pub none_if_added : (rows : List (Board × E)) (p : Board) (added : Bool) → added ≡ not (list_any (same_board p) (positions_of rows))
+      → added ≡ true → HasNone rows p
+  none_if_added rows p added is new = by (entry_of rows p) (sym (is_new rows p) ∙ (sym is ∙ new))
+    where
+      by : (o : Option E) → is_none o ≡ true → o ≡ None
+      by None none = refl
+      by (Some e) none = absurd (false≢true none)
+
+  -- and one that was not new is where it was
+  pub place_inside : (rows now : List (Board × E)) (p : Board) (i : ℕ) (added : Bool) → i ≡ position_or_len (same_board p) (positions_of rows)
+      → added ≡ not (list_any (same_board p) (positions_of rows)) → added ≡ false → now ≡ rows → i < length now
+  place_inside rows now p i added place is old same =
+      let there : IsRowAt rows i p = subst (λ (k : ℕ). IsRowAt rows k p) (sym place)
+      (any_row rows p (not_false (list_any (same_board p) (positions_of rows)) (sym is ∙ old))) in
+      subst (λ (es : List (Board × E)). i < length es) (sym same) (row_inside rows i p there)
+
+  pub kept_there : (rows now : List (Board × E)) (p : Board) (i : ℕ) (added : Bool) (row : Board × E) → i ≡ position_or_len (same_board p) (positions_of rows)
+      → added ≡ not (list_any (same_board p) (positions_of rows)) → added ≡ false → now ≡ rows → slice_get now i ≡ Some row → slice_get rows i ≡ Some (p, row.1)
+  kept_there rows now p i added row place is old same at =
+      let there : IsRowAt rows i p = subst (λ (k : ℕ). IsRowAt rows k p) (sym place)
+      (any_row rows p (not_false (list_any (same_board p) (positions_of rows)) (sym is ∙ old))) in
+      let this : (p, there.0) ≡ row = same_Some (p, there.0) row (sym there.1 ∙ (ap (λ (es : List (Board × E)). slice_get es i) (sym same) ∙ at)) in
+      there.1 ∙ ap (λ (r : Board × E). Some (p, r.1)) this
 
   -- where a list has no entry of the position, its first row is of another one
   none_head : (p : Board) (row : Board × E) (rows : List (Board × E)) → HasNone (row ∷ rows) p → same_board p row.0 ≡ false
@@ -190,28 +238,29 @@ map_improved-none row (x ∷ into) none =
 pub merged_wins-new : (into : List (Board × WinEntry)) (row : Board × WinEntry) → HasNone into row.0 → into ++ row ∷ [] ≡ merged_wins into (row ∷ [])
 merged_wins-new into row none = sym (λ i. map_improved-none row into none i ++ cond (is_none (none i)) (row ∷ []) [])
 
--- the first row of a list that has the position, or the others
-map_improved-there : (row : Board × WinEntry) (kept : WinEntry) (into : List (Board × WinEntry)) → HasDistinctPositions into
-    → entry_of into row.0 ≡ Some kept → nat_lt row.1.rank kept.rank ≡ true → insert_entry same_board into row.0 row.1 ≡ map (improved (row ∷ [])) into
-map_improved-there row kept [] distinct is below = cc
-map_improved-there row kept (x ∷ into) distinct is below =
-    elim (cases_Bool (same_board row.0 x.0)) [
-      | inl same ↦ (
-          let equal = equal_boards row.0 x.0 same in
-          let this : kept ≡ x.1 = (let e = sym is ∙ entry_of-here row.0 x into same in cc) in
-          let back : same_board x.0 row.0 ≡ true = same_board-equivalence.symm x.0 row.0 ∙ same in
-          let gone : HasNone into row.0 = subst (HasNone into) (sym equal) (first_none x into distinct) in
-          let less : nat_lt row.1.rank x.1.rank ≡ true = subst (λ (e : WinEntry). nat_lt row.1.rank e.rank ≡ true) this below in
-          let here : improved (row ∷ []) x ≡ (x.0, row.1) = λ i. (x.0, (ap (pick x.1) (entry_of-here x.0 row [] back) ∙ smaller-other x.1 row.1 less) i) in
-          let start : insert_entry same_board (x ∷ into) row.0 row.1 ≡ (x.0, row.1) ∷ into = ap (λ b. cond b ((x.0, row.1) ∷ into) (x ∷ insert_entry same_board into row.0 row.1)) same in
-          start ∙ sym (λ i. here i ∷ map_improved-none row into gone i))
-      | inr other ↦ (
-          let apart : same_board x.0 row.0 ≡ false = same_board-equivalence.symm x.0 row.0 ∙ other in
-          let here = improved-none (row ∷ []) x (entry_of-there x.0 row [] apart) in
-          let start : insert_entry same_board (x ∷ into) row.0 row.1 ≡ x ∷ insert_entry same_board into row.0 row.1 = ap (λ b. cond b ((x.0, row.1) ∷ into) (x ∷ insert_entry same_board into row.0 row.1)) other in
-          let more = map_improved-there row kept into (distinct_tail x into distinct) (sym (entry_of-there row.0 x into other) ∙ is) below in
-          start ∙ (λ i. sym here i ∷ more i))
-    ]
+-- the row of the position takes the better entry, at its place
+map_improved-there : (row : Board × WinEntry) (kept : WinEntry) (into : List (Board × WinEntry)) (i : ℕ) → HasDistinctPositions into
+    → slice_get into i ≡ Some (row.0, kept) → nat_lt row.1.rank kept.rank ≡ true → set into i row ≡ map (improved (row ∷ [])) into
+map_improved-there row kept [] i distinct at below = cc
+map_improved-there row kept (x ∷ into) zero distinct at below =
+    let is : x ≡ (row.0, kept) = same_Some x (row.0, kept) at in
+    let equal : x.0 ≡ row.0 = ap (λ (r : Board × WinEntry). r.0) is in
+    let back : same_board x.0 row.0 ≡ true = ap (λ (q : Board). same_board q row.0) equal ∙ same_itself row.0 in
+    let gone : HasNone into row.0 = subst (HasNone into) equal (first_none x into distinct) in
+    let less : nat_lt row.1.rank x.1.rank ≡ true = subst (λ (e : WinEntry). nat_lt row.1.rank e.rank ≡ true) (sym (ap (λ (r : Board × WinEntry). r.1) is)) below in
+    let better = ap (pick x.1) (entry_of-here x.0 row [] back) ∙ smaller-other x.1 row.1 less in
+    let here : improved (row ∷ []) x ≡ row = λ k. (equal k, better k) in
+    sym (λ k. here k ∷ map_improved-none row into gone k)
+map_improved-there row kept (x ∷ into) (suc i) distinct at below =
+    let found : entry_of into row.0 ≡ Some kept = lookup_found into (distinct_tail x into distinct) i row.0 kept at in
+    let gone : HasNone into x.0 = first_none x into distinct in
+    let apart : same_board x.0 row.0 ≡ false = elim (cases_Bool (same_board x.0 row.0)) [
+      | inl same ↦ absurd (let none = subst (λ (q : Board). entry_of into q ≡ None) (equal_boards x.0 row.0 same) gone in cc)
+      | inr other ↦ other
+    ] in
+    let here = improved-none (row ∷ []) x (entry_of-there x.0 row [] apart) in
+    let more = map_improved-there row kept into i (distinct_tail x into distinct) at below in
+    λ k. sym here k ∷ more k
 
 map_improved-kept : (row : Board × WinEntry) (kept : WinEntry) (into : List (Board × WinEntry)) → HasDistinctPositions into
     → entry_of into row.0 ≡ Some kept → nat_lt row.1.rank kept.rank ≡ false → into ≡ map (improved (row ∷ [])) into
@@ -239,9 +288,10 @@ merged_wins-present : (into : List (Board × WinEntry)) (row : Board × WinEntry
 merged_wins-present into row kept is =
     sym (append-nil (map (improved (row ∷ [])) into)) ∙ ap (λ o. map (improved (row ∷ [])) into ++ cond (is_none o) (row ∷ []) []) (sym is)
 
-pub merged_wins-there : (into : List (Board × WinEntry)) (row : Board × WinEntry) (kept : WinEntry) → HasDistinctPositions into
-    → entry_of into row.0 ≡ Some kept → nat_lt row.1.rank kept.rank ≡ true → insert_entry same_board into row.0 row.1 ≡ merged_wins into (row ∷ [])
-merged_wins-there into row kept distinct is below = map_improved-there row kept into distinct is below ∙ merged_wins-present into row kept is
+pub merged_wins-there : (into : List (Board × WinEntry)) (row : Board × WinEntry) (kept : WinEntry) (i : ℕ) → HasDistinctPositions into
+    → slice_get into i ≡ Some (row.0, kept) → nat_lt row.1.rank kept.rank ≡ true → set into i row ≡ merged_wins into (row ∷ [])
+merged_wins-there into row kept i distinct at below =
+    map_improved-there row kept into i distinct at below ∙ merged_wins-present into row kept (lookup_found into distinct i row.0 kept at)
 
 pub merged_wins-kept : (into : List (Board × WinEntry)) (row : Board × WinEntry) (kept : WinEntry) → HasDistinctPositions into
     → entry_of into row.0 ≡ Some kept → nat_lt row.1.rank kept.rank ≡ false → into ≡ merged_wins into (row ∷ [])

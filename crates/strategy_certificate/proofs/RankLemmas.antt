@@ -1,5 +1,5 @@
 -- Short ranks stand in the order of the ranks that they replace.
-use Rattle.std.proofs.Common.{◌≡◌, ℕ, suc, ◌+◌, ◌<◌, ◌≤◌, Bool, true, false, eqb, inl, inr, ⊎_elim, List, [], ◌∷◌, ◌++◌, map, length, get_or, Option, refl, sym, ap, ◌∙◌, subst, arith}
+use Rattle.std.proofs.Common.{◌≡◌, ℕ, suc, ◌<◌, ◌≤◌, Bool, true, false, eqb, inl, inr, ⊎_elim, List, [], ◌∷◌, map, length, get_or, Option, refl, sym, ap, ◌∙◌, subst, arith}
 use Rattle.std.specs.Prelude.{◌↔◌, ◌^◌, IsTrue, Contains, All, slice_get, slice_index_or, Some, Result, Err, Ok, MatchResult}
 use Rattle.std.specs.Bool.{MatchBool}
 use Rattle.std.specs.List.{AllWithin, HoldsAt, range_with_len, position_or_len, dedup}
@@ -24,7 +24,7 @@ use Rattle.strategy_certificate.specs.declared.entries.WinEntry.{WinEntry}
 use Rattle.strategy_certificate.specs.Tables.{IsSoundTable}
 use Rattle.strategy_certificate.specs.Parts.{WinList, HasDistinctPositions, IsWinList, IsWinRow, positions_of}
 use Rattle.strategy_certificate.specs.Certificates.{IsReached, IsReachedBelow, IsGoodWinEntry, IsGoodWinPart, due_positions}
-use Rattle.strategy_certificate.specs.ShortRanks.{AreRanksOf, IsShortened, ranks_of, short_rank, short_row, OneShortPart, ShortPartsAreGood}
+use Rattle.strategy_certificate.specs.ShortRanks.{AreRanksOf, ranks_of, short_rank, short_row, OneShortPart, ShortPartsAreGood}
 use Rattle.strategy_certificate.proofs.TableRanks.{table_ranks_are_low}
 
 -- ---- places

@@ -1,5 +1,5 @@
 -- At which place a position has its entry.
-use Rattle.std.specs.Prelude.{◌≡◌, ℕ, List, Option, Some, slice_get}
+use Rattle.std.specs.Prelude.{◌≡◌, ℕ, List, Some, slice_get}
 use Rattle.draughts_board.specs.Board.{Board}
 
 -- the position has its entry at this place, counted from 0

@@ -6,7 +6,7 @@ use crate::entries::note_rules;
 use crate::merging::add_all_new;
 use crate::rows::{add_new_row, find_row, place_of_row, row_at};
 use draughts_board::{Move, Position, Side};
-use indexmap::IndexMap;
+use position_rows::PositionRows;
 use std::alloc::{AllocError, Global};
 use std::marker::Model;
 
@@ -17,7 +17,7 @@ use std::marker::Model;
 #[derive(Drop)]
 pub struct HoldPart {
     side: Side,
-    entries: IndexMap<Position, Option<Move>>,
+    entries: PositionRows<Option<Move>>,
 }
 
 impl Model for HoldPart {
@@ -44,12 +44,12 @@ impl HoldPart {
     {
         Ok(HoldPart {
             side,
-            entries: IndexMap::new(alloc),
+            entries: PositionRows::new(alloc),
         })
     }
 
     /// A part with these entries.
-    pub(crate) fn of(side: Side, entries: IndexMap<Position, Option<Move>>) -> HoldPart
+    pub(crate) fn of(side: Side, entries: PositionRows<Option<Move>>) -> HoldPart
         requires { IsHoldList (record { side = side; entries = entries.entries }) }
         ensures { result ≡ record { side = side; entries = entries.entries } }
     {

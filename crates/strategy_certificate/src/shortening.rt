@@ -7,21 +7,18 @@ ghost use Rattle.strategy_certificate.specs.ShortRanks.{AreRanksOf, short_row};
 use crate::certificates::{Certificate, Part};
 use crate::entries::{MOST_FOUND_RANK, WinEntry};
 use draughts_board::Position;
-use indexmap::IndexMap;
+use position_rows::PositionRows;
 use std::alloc::{AllocError, Global};
 
 /// The least of the short ranks: each rank of a table is below it.
 pub const FIRST_SHORT_RANK: u64 = 1 << 32;
 
 /// The ranks of the rows, each once, rising.
-pub(crate) fn ranks_of(
-    alloc: Global,
-    rows: &IndexMap<Position, WinEntry>,
-) -> Result<Vec<u64>, AllocError>
+pub(crate) fn ranks_of(alloc: Global, rows: &PositionRows<WinEntry>) -> Result<Vec<u64>, AllocError>
     ensures { IfOk result (λ ranks. AreRanksOf ranks.items rows.now.entries) }
 {
     let mut ranks = Vec::with_capacity(alloc, rows.len())?;
-    for (_p, e) in rows.iter() {
+    for (_p, e) in rows.as_slice() {
         ranks.push(e.rank)?;
     }
     ranks.sort_unstable();
@@ -32,23 +29,23 @@ pub(crate) fn ranks_of(
 /// The same rows, in the same order, each rank replaced by the short one of its place among these.
 pub(crate) fn with_short_ranks(
     alloc: Global,
-    rows: &IndexMap<Position, WinEntry>,
+    rows: &PositionRows<WinEntry>,
     ranks: &[u64],
-) -> Result<IndexMap<Position, WinEntry>, AllocError>
+) -> Result<PositionRows<WinEntry>, AllocError>
     requires are { AreRanksOf ranks.now rows.now.entries }
     requires few { length ranks.now < 2 ^ 32 }
     ensures entries { IfOk result (λ short. short.entries
         ≡ map (short_row ranks.now) rows.now.entries) }
     ensures distinct { IfOk result (λ short. HasDistinctPositions short.entries) }
 {
-    let mut short = IndexMap::with_capacity(alloc, rows.len())?;
-    for (p, e) in rows.iter() {
+    let mut short = PositionRows::with_capacity(alloc, rows.len())?;
+    for (p, e) in rows.as_slice() {
         let Ok(place) = ranks.binary_search(&e.rank) else {
             unreachable!()
         };
         let rank = FIRST_SHORT_RANK + place as u64;
         let chosen = e.chosen;
-        short.insert(*p, WinEntry { rank, chosen })?;
+        short.note(*p, WinEntry { rank, chosen })?;
     }
     Ok(short)
 }

@@ -11,7 +11,7 @@ use crate::merging::{improve_all, without_ranks};
 use crate::rows::{add_new_row, find_row, place_of_row, row_at};
 use crate::shortening::{ranks_of, with_short_ranks};
 use draughts_board::{Position, Side};
-use indexmap::IndexMap;
+use position_rows::PositionRows;
 use std::alloc::{AllocError, Global};
 use std::marker::Model;
 
@@ -22,7 +22,7 @@ use std::marker::Model;
 #[derive(Drop)]
 pub struct WinPart {
     side: Side,
-    entries: IndexMap<Position, WinEntry>,
+    entries: PositionRows<WinEntry>,
 }
 
 impl Model for WinPart {
@@ -51,7 +51,7 @@ impl WinPart {
     {
         Ok(WinPart {
             side,
-            entries: IndexMap::new(alloc),
+            entries: PositionRows::new(alloc),
         })
     }
 

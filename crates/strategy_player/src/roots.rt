@@ -1,7 +1,6 @@
 //! A play from a root of a journal.
-ghost use Rattle.std.specs.Prelude.{◌≡◌, true, IfErr, IfOk, IsTrue};
+ghost use Rattle.std.specs.Prelude.{◌≡◌, true, IfErr, IfOk};
 ghost use Rattle.bench_disk.specs.Disk.{IsHonest, Stays};
-ghost use Rattle.certificate_checker.specs.Refusals.{check_wants_memory};
 ghost use Rattle.strategy_certificate.specs.Certificates.{IsGood};
 ghost use Rattle.strategy_certificate.specs.Tables.{IsTableSize};
 ghost use Rattle.strategy_player.specs.Runs.{AcceptsRoot, AnswersCauses, IsRefusedBy, IsRefusedRoot, Shows};
@@ -11,7 +10,7 @@ use crate::refusals::PlayRefusal;
 use crate::texts::play_text;
 use crate::words::Request;
 use bench_disk::Disk;
-use certificate_checker::{CheckRefusal, Proved, check};
+use certificate_checker::{Proved, prove};
 use certificate_plays::played;
 use draughts_board::Side;
 use endgame_table::fill;
@@ -19,16 +18,6 @@ use journal_looks::certify;
 use opening_report::Written;
 use std::alloc::{AllocError, Global};
 use strategy_certificate::{Certificate, Oracle};
-
-/// The want of memory for which a certificate was not checked.
-fn memory_of(refusal: CheckRefusal) -> AllocError
-    requires { IsTrue (check_wants_memory refusal) }
-{
-    match refusal {
-        CheckRefusal::Memory(error) => error,
-        _ => unreachable!(),
-    }
-}
 
 /// The certificate, which is good, as one that the checker accepted. It fails only for want of memory.
 fn proved<O: Oracle>(
@@ -42,10 +31,7 @@ fn proved<O: Oracle>(
 {
     // That tells that its answers are sound.
     let _pieces = oracle.pieces();
-    match check(alloc, certificate, oracle) {
-        Ok(proved) => Ok(proved),
-        Err((_certificate, refusal)) => Err(memory_of(refusal)),
-    }
+    prove(alloc, certificate, oracle)
 }
 
 /// What is written of a play of the side by a certificate, which is good, against the lines of a

@@ -3,9 +3,9 @@ ghost use Rattle.std.specs.Prelude.{◌≡◌, ◌++◌, IfOk, OnOk};
 ghost use Rattle.strategy_player.specs.Texts.{end_line, game_text, move_line, move_lines, position_line};
 
 use certificate_plays::FinishedPlay;
+use certificate_text::push_move;
 use draughts_board::{Move, Position};
 use fen_text::print_fen;
-use refusal_hints::push_move;
 use std::alloc::{AllocError, Global};
 use swift_moves::has_move;
 

@@ -43,9 +43,9 @@ fn drawn(dice: &mut Pcg32) -> Option<Position> {
     Position::of_masks([black_men, black_kings, white_men, white_kings], to_move)
 }
 
-/// The positions of the roots.
-fn positions(alloc: Global) -> Result<Vec<Position>> {
-    let mut dice = Pcg32::new(7, 1);
+/// The positions of the roots that this seed draws.
+fn positions(alloc: Global, seed: u64) -> Result<Vec<Position>> {
+    let mut dice = Pcg32::new(seed, 1);
     let mut all = Vec::new(alloc);
     for _ in 0..DRAWN {
         if let Some(p) = drawn(&mut dice) {
@@ -57,12 +57,14 @@ fn positions(alloc: Global) -> Result<Vec<Position>> {
     Ok(all)
 }
 
-/// The journal of these roots, each searched until it has a value, or the budget is spent.
+/// The journal of the roots that this seed draws, each searched until it has a value, or the budget is
+/// spent.
 pub(crate) fn settled_journal<R: Threads + Wait + Sync>(
     rt: &R,
     alloc: Global,
+    seed: u64,
 ) -> Result<SettledJournal> {
-    let positions = positions(alloc)?;
+    let positions = positions(alloc, seed)?;
     let plan = Plan {
         settings: Settings {
             pieces: 2,

@@ -13,6 +13,8 @@ mod fens;
 #[cfg(test)]
 mod games;
 #[cfg(test)]
+mod opened;
+#[cfg(test)]
 mod openings;
 #[cfg(test)]
 mod records;

@@ -2,7 +2,7 @@
 ghost use Rattle.std.specs.Prelude.{◌≡◌, IfOk};
 ghost use Rattle.turn_lock.specs.Seen.{IsOutside};
 ghost use Rattle.bench_core.specs.Cores.{IsOutcomeOf};
-ghost use Rattle.tree_manager.specs.Turns.{GrowsByTurns};
+ghost use Rattle.tree_manager.specs.Taken.{TurnGoesOn};
 
 use crate::alone::outcome_of;
 use crate::roots::{End, PIECES};
@@ -17,7 +17,7 @@ use lease_table::Lease;
 use std::alloc::Global;
 use std::sync::Wait;
 use std::time::Instant;
-use tree_manager::{BenchPass, Session, SharedBench};
+use tree_manager::{BenchPass, SharedBench, Turn};
 
 /// The number of the worker.
 const WORKER: u32 = 1;
@@ -83,20 +83,21 @@ fn search_leased(
 }
 
 /// Stages in a turn what was found, commits it, and asks for the next leaf.
-#[tactic(auto, using(tree_manager::proofs::TurnLemmas::grows_then))]
+#[tactic(auto, using(tree_manager::proofs::TakenLemmas::turn_then))]
 fn settle<D: Disk>(
     shared: &SharedBench<D>,
-    session: &mut Session<D>,
+    turn: &mut Turn<D>,
     found: LeaseResult,
 ) -> Result<Option<Lease>>
-    ensures { GrowsByTurns session.old.line session.new.line }
+    ensures { TurnGoesOn turn.old turn.new }
 {
-    session.stage_numbered(found)?;
-    shared.commit_in_turn(session)?;
-    next_of(session.lease(WORKER))
+    turn.stage_numbered(found)?;
+    shared.commit_in_turn(turn)?;
+    next_of(turn.lease(WORKER))
 }
 
 /// Makes the sheet of what was found, and hands it in, in one turn, for the next lease.
+#[tactic(auto, using(tree_manager::proofs::TakenLemmas::has_turn_on))]
 fn hand_in<R: Wait, D: Disk>(
     waiting: &R,
     rt: &HostRuntime,
@@ -115,7 +116,7 @@ fn hand_in<R: Wait, D: Disk>(
     let sheets = start.elapsed(rt)?.as_nanos();
     let start = Instant::now(rt)?;
     let mut turn = shared.enter(waiting, pass);
-    let next = settle(shared, &mut turn.session, found);
+    let next = settle(shared, &mut turn, found);
     shared.leave(pass, turn);
     let turns = start.elapsed(rt)?.as_nanos();
     spent.sheets = spent.sheets.saturating_add(sheets);

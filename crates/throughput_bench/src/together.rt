@@ -76,7 +76,8 @@ pub(crate) fn end_of<R: Wait, D: Disk + Drop>(
 ) -> End
     requires { IsOutside shared pass }
 {
-    End::of(&shared.finish(waiting, pass))
+    let (session, _) = shared.finish(waiting, pass);
+    End::of(&session)
 }
 
 /// Lets `workers` workers work on the disk's journal until all roots are settled.

@@ -241,6 +241,13 @@ module _ {D : Type 0} (g : Ghosts D) where
       kept.counted unfailed
       ∙ sym (ap length (recorded_split line) ∙ (length-append (applied_in line) (unapplied_in line) ∙ omega (arith, ap length stands.records, ap length stands.staged, ap length none)))
 
+  -- its calls come later
+  pub moment_on : (line : List Entry) (marks : List Mark) (capacity due : ℕ) (core : Core) (old new : Log D) → Kept line marks capacity due core old → old.failed ≡ false
+      → HasCommitted g old new → IsHonest g.TELLS → g.moment old.disk ≤ g.moment new.disk
+  moment_on line marks capacity due core old new kept unfailed left honest =
+      let synced = kept.synced honest in
+      (left.crash synced.payloads (synced.at_rest (sym kept.failed ∙ unfailed)).0).later
+
   -- what a crash might have left goes on
   pub goes_on : (line : List Entry) (marks : List Mark) (capacity due : ℕ) (core : Core) (old new : Log D) → Kept line marks capacity due core old → old.failed ≡ false
       → HasCommitted g old new → IsHonest g.TELLS → GoesOn (g.moment old.disk) (g.images_since old.disk) (g.images_since new.disk)

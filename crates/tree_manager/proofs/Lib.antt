@@ -19,6 +19,7 @@ pub mod ExactLemmas
 pub mod WorksLemmas
 pub mod TurnLemmas
 pub mod NumberLemmas
+pub mod TakenLemmas
 pub mod SharedLemmas
 pub mod CountingLemmas
 pub mod SearchLemmas

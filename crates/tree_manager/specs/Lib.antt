@@ -8,5 +8,6 @@ pub mod Replaying
 pub mod Sessions
 pub mod Synced
 pub mod Turns
+pub mod Taken
 pub mod Weaving
 pub mod Keeping

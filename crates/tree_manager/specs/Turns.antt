@@ -1,8 +1,7 @@
 -- What one turn of a shared session does, said of the line that it found and of the line that it
 -- left, which is the front of its pass.
-use Rattle.std.specs.Prelude.{◌≡◌, ◌≢◌, ◌⊎◌, ℕ, false, List, [], ◌∷◌, ◌++◌, true, Contains, length, count_by, is_some, Result, Ok, Err}
+use Rattle.std.specs.Prelude.{◌≡◌, ◌≢◌, ◌⊎◌, ℕ, false, List, [], ◌∷◌, ◌++◌, Contains, length, count_by, is_some, Result, Ok, Err}
 use Rattle.turn_lock.specs.Growth.{GrowsTo}
-use Rattle.turn_lock.specs.Seen.{LockId, SeenPass}
 use Rattle.draughts_board.specs.Draughts.{draughts}
 use Rattle.draughts_board.specs.Game.{is_at_sight}
 use Rattle.proof_tree.specs.Forest.{Forest, nodes, value_of}
@@ -31,12 +30,6 @@ use Rattle.tree_manager.specs.Sessions.{MayAddInTurn}
 -- the new line is the old one and then entries that turns may add
 abbrev pub GrowsByTurns : List Entry → List Entry → Type 0
 GrowsByTurns = GrowsTo MayAddInTurn
-
--- The pass has the turn at this lock, and its front has `entered` entries.
-pub record HasTurn (lock : LockId) (pass : SeenPass Entry) (entered : ℕ) : Type 0 where
-  pub lock_is : pass.lock ≡ lock
-  pub turn : pass.turn ≡ true
-  pub entries : entered ≡ length pass.front
 
 -- The turn found a line that goes on from the front before. It did this to it, and left the front
 -- after, which goes on from what was found.

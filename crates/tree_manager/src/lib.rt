@@ -16,9 +16,9 @@
 //!
 //! Proved of a `SharedBench`, which threads enter each with a pass: what a pass has seen is a
 //! beginning of what stands. Each call is one turn, and answers what the session's call of that
-//! name answers in the state that the turn found. Between `enter` and `leave` a thread has the
-//! session itself, for several calls in one turn; the line that it leaves has to go on from the one
-//! that it found.
+//! name answers in the state that the turn found. Between `enter` and `leave` a thread has a
+//! `Turn`, for several calls in one turn: it leaves the session that it found, whose line went on
+//! by what those calls add, on the same disk.
 //!
 //! `laws`: a line tells the core to which it leads, whose roots are those begun. A file reads as
 //! one list of records, and one for which a session is refused as none.
@@ -38,6 +38,7 @@ mod replaying;
 mod roots;
 mod session;
 mod shared;
+mod turn;
 
 pub use counting::RootCounts;
 pub use entries::{Attachment, Entry};
@@ -45,4 +46,5 @@ pub use held::HeldSession;
 pub use refusals::{BeginRefusal, CommitRefusal, StageRefusal};
 pub use replaying::replay_payloads;
 pub use session::Session;
-pub use shared::{BenchPass, SharedBench, Turn};
+pub use shared::{BenchPass, SharedBench};
+pub use turn::Turn;

@@ -40,6 +40,7 @@ pub(crate) fn commit_parts<D: Disk>(
         ≡ length (recorded (state_of (parts_of marks.new due.new bench.new journal.new)).line)) }
     ensures moment { IfOk result (λ receipt. receipt.moment ≡ D.moment journal.new.disk) }
     ensures later { D.faults journal.old.disk ≤ D.faults journal.new.disk }
+    ensures onward { IsHonest D.TELLS → D.moment journal.old.disk ≤ D.moment journal.new.disk }
     ensures calls { D.moment journal.new.disk ≤ D.moment journal.old.disk + 4 }
     ensures since { IsHonest D.TELLS → GoesOn (D.moment journal.old.disk)
         (D.images_since journal.old.disk) (D.images_since journal.new.disk) }

@@ -369,6 +369,7 @@ impl<D: Disk> Session<D> {
         ensures unfailed { OnOk result (is_failed self.old.line ≡ false) }
         ensures live { OnOk result
             (Contains self.old.core.state.leases.rows (unkept found.lease)) }
+        ensures disk { self.new.disk ≡ self.old.disk }
         ensures refused { IfErr result
             (RefusesStage self.old.line self.old.core.state found.lease) }
         ensures unchanged { OnErr result (self.new ≡ self.old) }
@@ -395,6 +396,7 @@ impl<D: Disk> Session<D> {
         ensures number { IfOk result (λ receipt. receipt.number ≡ length (recorded self.new.line)) }
         ensures moment { IfOk result (λ receipt. receipt.moment ≡ D.moment self.new.disk) }
         ensures later { D.faults self.old.disk ≤ D.faults self.new.disk }
+        ensures onward { IsHonest D.TELLS → D.moment self.old.disk ≤ D.moment self.new.disk }
         ensures calls { D.moment self.new.disk ≤ D.moment self.old.disk + 4 }
         ensures since { IsHonest D.TELLS → GoesOn (D.moment self.old.disk)
             (D.images_since self.old.disk) (D.images_since self.new.disk) }

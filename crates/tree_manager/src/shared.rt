@@ -11,12 +11,14 @@ ghost use Rattle.bench_disk.specs.Disk.{IsHonest};
 ghost use Rattle.turn_lock.specs.Seen.{IsOutside};
 ghost use Rattle.bench_core.specs.Cores.{IsOutcomeOf};
 ghost use Rattle.tree_manager.specs.Receipts.{acknowledgements};
-ghost use Rattle.tree_manager.specs.Turns.{HasTurn, GrowsByTurns, InOneTurn, AsksForSearch, Leases, StagesNumbered, Commits, Releases, Counts};
+ghost use Rattle.tree_manager.specs.Taken.{HasTurn, TurnGoesOn};
+ghost use Rattle.tree_manager.specs.Turns.{GrowsByTurns, InOneTurn, AsksForSearch, Leases, StagesNumbered, Commits, Releases, Counts};
 
 use crate::counting::RootCounts;
 use crate::held::HeldSession;
 use crate::refusals::{CommitRefusal, StageRefusal};
 use crate::session::Session;
+use crate::turn::Turn;
 use bench_core::{LeaseRefusal, LeaseResult};
 use bench_disk::Disk;
 use certificate_checker::Outcome;
@@ -27,7 +29,7 @@ use std::marker::Model;
 use std::sync::Wait;
 use std::sync::atomic::{AtomicBool, AtomicU64, Ordering};
 use std::thread;
-use turn_lock::{Pass, TurnLock};
+use turn_lock::{Kept, Pass, TurnLock};
 
 /// How often a pass that waits for another's commit looks for it at most.
 const MOST_LOOKS: u32 = 256;
@@ -58,13 +60,6 @@ impl<D: Disk> Model for SharedBench<D> {
 ///
 /// A pass that is dropped outside a call takes nothing with it.
 pub type BenchPass<D> = Pass<HeldSession<D>>;
-
-/// The session in the hand of the pass that has the turn, for `leave` to take back.
-pub struct Turn<D: Disk> {
-    pub session: Box<Session<D>>,
-    /// How many entries its line had when the turn began.
-    entered: u64,
-}
 
 impl<D: Disk> SharedBench<D> {
     /// A shared bench over the session, and its first pass. Want of memory hands the session back.
@@ -99,25 +94,25 @@ impl<D: Disk> SharedBench<D> {
     /// It never returns where another pass was dropped with the turn.
     pub fn enter<R: Wait>(&self, rt: &R, pass: &mut BenchPass<D>) -> Turn<D>
         requires outside { IsOutside self.now pass.old }
-        ensures turn { HasTurn self.now pass.new result.entered }
-        ensures whole { pass.new.front ≡ result.session.value.line }
+        ensures turn { HasTurn self.now pass.new result.start }
+        ensures whole { pass.new.front ≡ result.session.line }
         ensures grows { GrowsByTurns pass.old.front pass.new.front }
     {
-        let HeldSession { session } = self.lock.enter(rt, pass);
-        let entered = session.len();
-        Turn { session, entered }
+        let held = self.lock.enter(rt, pass);
+        Turn::new(&self.lock, held)
     }
 
-    /// Puts the session back, and gives the turn up. The pass's front is then the session's line.
+    /// Puts the session back that the pass found, and gives the turn up. The pass's front is then the session's line, which
+    /// goes on from the front before.
     pub fn leave(&self, pass: &mut BenchPass<D>, turn: Turn<D>)
-        requires turn { HasTurn self.now pass.old turn.entered }
-        requires grows { GrowsByTurns pass.old.front turn.session.value.line }
+        requires turn { HasTurn self.now pass.old turn.start }
         ensures outside { IsOutside self.now pass.new }
-        ensures front { pass.new.front ≡ turn.session.value.line }
+        ensures front { pass.new.front ≡ turn.session.line }
+        ensures grows { GrowsByTurns pass.old.front pass.new.front }
     {
-        let Turn { session, entered } = turn;
-        let added = session.len() - entered;
-        let held = HeldSession { session };
+        let (held, entered) = turn.into_held();
+        let count = held.count();
+        let added = count - entered;
         self.lock.note(pass, &held, added);
         self.lock.leave(pass, held);
     }
@@ -138,7 +133,7 @@ impl<D: Disk> SharedBench<D> {
         ensures settings { IfOk result (AsksForSearch pass.old.front) }
     {
         let mut turn = self.enter(rt, pass);
-        let answer = turn.session.lease(worker);
+        let answer = turn.lease(worker);
         self.leave(pass, turn);
         answer
     }
@@ -163,7 +158,7 @@ impl<D: Disk> SharedBench<D> {
     {
         let found = LeaseResult::new(self.alloc, lease, outcome)?;
         let mut turn = self.enter(rt, pass);
-        let answer = turn.session.stage_numbered(found);
+        let answer = turn.stage_numbered(found);
         self.leave(pass, turn);
         answer
     }
@@ -180,20 +175,20 @@ impl<D: Disk> SharedBench<D> {
             Each (λ ack. ack.moment ≤ receipt.moment) (acknowledgements pass.new.front)) }
     {
         let mut turn = self.enter(rt, pass);
-        let answer = self.commit_in_turn(&mut turn.session);
+        let answer = self.commit_in_turn(&mut turn);
         self.leave(pass, turn);
         answer
     }
 
     /// Commits as the session does, between `enter` and `leave`, and notes for the other passes that it did, and whether any
     /// of them sleeps over it.
-    pub fn commit_in_turn(&self, session: &mut Session<D>) -> Result<Receipt, CommitRefusal>
-        ensures grows { GrowsByTurns session.old.line session.new.line }
-        ensures turn { Commits session.old.line session.new.line result }
+    pub fn commit_in_turn(&self, turn: &mut Turn<D>) -> Result<Receipt, CommitRefusal>
+        ensures goes_on { TurnGoesOn turn.old turn.new }
+        ensures turn { Commits turn.old.session.line turn.new.session.line result }
         ensures moments { IsHonest D.TELLS → IfOk result (λ receipt.
-            Each (λ ack. ack.moment ≤ receipt.moment) (acknowledgements session.new.line)) }
+            Each (λ ack. ack.moment ≤ receipt.moment) (acknowledgements turn.new.session.line)) }
     {
-        let receipt = session.commit()?;
+        let receipt = turn.commit()?;
         self.commits.fetch_add(1, Ordering::SeqCst);
         self.is_slow
             .store(self.lock.has_sleepers(), Ordering::SeqCst);
@@ -239,7 +234,7 @@ impl<D: Disk> SharedBench<D> {
             (λ found new. Releases found new id result) }
     {
         let mut turn = self.enter(rt, pass);
-        let answer = turn.session.release(id);
+        let answer = turn.release(id);
         self.leave(pass, turn);
         answer
     }
@@ -253,7 +248,7 @@ impl<D: Disk> SharedBench<D> {
             (λ found new. Counts found new result) }
     {
         let turn = self.enter(rt, pass);
-        let counts = RootCounts::of(turn.session.bench().tree());
+        let counts = RootCounts::of(turn.session().bench().tree());
         self.leave(pass, turn);
         counts
     }
@@ -278,22 +273,15 @@ impl<D: Disk> SharedBench<D> {
         self.lock.join_pass(pass, other);
     }
 
-    /// Waits until no other pass has the turn, and hands the session out for good, with all that any pass has seen of it.
-    pub fn finish<R: Wait>(self, rt: &R, pass: BenchPass<D>) -> Session<D>
-        requires outside { IsOutside self pass }
-        ensures { GrowsByTurns pass.front result.line }
-    {
-        self.finish_counted(rt, pass).0
-    }
-
-    /// The same, with how many entries the line has by the lock's count.
-    pub fn finish_counted<R: Wait>(self, rt: &R, pass: BenchPass<D>) -> (Session<D>, u64)
+    /// Waits until no other pass has the turn, and hands the session out for good, with all that any pass has seen of it,
+    /// and with the lock's count of the entries of its line.
+    pub fn finish<R: Wait>(self, rt: &R, pass: BenchPass<D>) -> (Session<D>, u64)
         requires outside { IsOutside self pass }
         ensures grows { GrowsByTurns pass.front result.0.line }
         ensures count { length result.0.line ≡ result.1 }
     {
         let Self { lock, .. } = self;
-        let (held, count) = lock.close_counted(rt, pass);
+        let (held, count) = lock.close(rt, pass);
         (held.into_session(), count)
     }
 }

@@ -170,17 +170,9 @@ impl<V: Kept> TurnLock<V> {
         self.join_seats(&mut pass.seat, other.into_seat());
     }
 
-    /// Waits as `enter` does, and hands the value out for good.
-    pub fn close<R: Wait>(self, rt: &R, pass: Pass<V>) -> V
-        requires lock { pass.lock ≡ self }
-        requires outside { pass.turn ≡ false }
-        ensures { GrowsTo V.may_add pass.front (V.entries result) }
-    {
-        self.close_counted(rt, pass).0
-    }
-
-    /// The same, with what the count word says.
-    pub fn close_counted<R: Wait>(self, rt: &R, pass: Pass<V>) -> (V, u64)
+    /// Waits as `enter` does, and hands the value out for good, with the count word: the value has that
+    /// many entries.
+    pub fn close<R: Wait>(self, rt: &R, pass: Pass<V>) -> (V, u64)
         requires lock { pass.lock ≡ self }
         requires outside { pass.turn ≡ false }
         ensures grows { GrowsTo V.may_add pass.front (V.entries result.0) }

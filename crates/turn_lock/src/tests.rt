@@ -173,7 +173,7 @@ fn take_turns_in_threads<R: Threads + Wait + Clock + Sync>(
             ensures { IsOutside shared.entry.now own.new }
         { take_turns(rt, shared, relay, own) },
     );
-    Ok(lock.close_counted(rt, pass))
+    Ok(lock.close(rt, pass))
 }
 
 /// How many turns the caller took, where they stand in order.
@@ -274,7 +274,7 @@ fn keep_sealed<R: Wait>(rt: &R, alloc: Global, sealed: Sealed) -> Sealed {
     let in_hand = lock.enter(rt, &mut other);
     lock.leave(&mut other, in_hand);
     lock.join_pass(&mut pass, other);
-    lock.close(rt, pass)
+    lock.close(rt, pass).0
 }
 
 #[test]

@@ -121,5 +121,5 @@ pub fn run<R: Threads + Wait + Sync>(
     let all = passes(alloc, &lock, &mut pass, job.threads)?;
     let all = take_all(rt, &lock, all, job);
     join_all(&lock, &mut pass, all);
-    Ok(lock.close(rt, pass))
+    Ok(lock.close(rt, pass).0)
 }

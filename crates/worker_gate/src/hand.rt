@@ -1,7 +1,8 @@
 //! What a worker has in hand, and what it does with it in a turn.
 ghost use Rattle.std.specs.Prelude.{◌≡◌, ◌≤◌, [], length, All, OnOk, IfOk, IfErr, OnErr};
 ghost use Rattle.tree_manager.specs.Lines.{recorded, applied_in};
-ghost use Rattle.tree_manager.specs.Turns.{GrowsByTurns, AsksForSearch, Leases};
+ghost use Rattle.tree_manager.specs.Taken.{TurnGoesOn};
+ghost use Rattle.tree_manager.specs.Turns.{AsksForSearch, Leases};
 ghost use Rattle.worker_gate.specs.Work.{ShowsEnd};
 
 use crate::worker::Ended;
@@ -10,7 +11,7 @@ use bench_disk::Disk;
 use lease_table::Lease;
 use std::alloc::Global;
 use std::collections::VecDeque;
-use tree_manager::{Session, SharedBench, StageRefusal};
+use tree_manager::{Session, SharedBench, StageRefusal, Turn};
 
 /// How many leaves a worker has leased at most.
 const MOST_LEASED: usize = 8;
@@ -73,18 +74,18 @@ impl Hand {
 
 /// Stages the results in a turn, in order, and drops those that come too late. The answer is the number of the last record
 /// that it staged, and 0 where it staged none.
-#[tactic(auto, using(tree_manager::proofs::TurnLemmas::grows_then))]
+#[tactic(auto, using(tree_manager::proofs::TakenLemmas::turn_then, tree_manager::proofs::TakenLemmas::turn_stays))]
 pub(crate) fn stage_results<D: Disk>(
-    session: &mut Session<D>,
+    turn: &mut Turn<D>,
     results: &mut VecDeque<LeaseResult>,
 ) -> Result<u64, Ended>
-    ensures grows { GrowsByTurns session.old.line session.new.line }
-    ensures number { IfOk result (λ number. number ≤ length (recorded session.new.line)) }
-    ensures ended { IfErr result (λ ended. ShowsEnd ended session.new.line) }
+    ensures goes_on { TurnGoesOn turn.old turn.new }
+    ensures number { IfOk result (λ number. number ≤ length (recorded turn.new.session.line)) }
+    ensures ended { IfErr result (λ ended. ShowsEnd ended turn.new.session.line) }
 {
     let mut number = 0;
     while let Some(found) = results.pop_front() {
-        match session.stage_numbered(found) {
+        match turn.stage_numbered(found) {
             Ok(staged) => number = staged,
             Err(StageRefusal::Stale(_)) => {}
             Err(StageRefusal::Failed) => return Err(Ended::Failed),
@@ -95,30 +96,30 @@ pub(crate) fn stage_results<D: Disk>(
 }
 
 /// Releases the leases in a turn. Some of them may have ended by themselves.
-#[tactic(auto, using(tree_manager::proofs::TurnLemmas::grows_then))]
-pub(crate) fn release_leases<D: Disk>(session: &mut Session<D>, leases: &[Lease])
-    ensures { GrowsByTurns session.old.line session.new.line }
+#[tactic(auto, using(tree_manager::proofs::TakenLemmas::turn_then, tree_manager::proofs::TakenLemmas::turn_stays))]
+pub(crate) fn release_leases<D: Disk>(turn: &mut Turn<D>, leases: &[Lease])
+    ensures { TurnGoesOn turn.old turn.new }
 {
     for lease in leases {
-        let _ = session.release(lease.id);
+        let _ = turn.release(lease.id);
     }
 }
 
 /// Sees to it in a turn that the record of this number is durable and applied, by a commit of this worker or of another.
 pub(crate) fn commit_unless_applied<D: Disk>(
     shared: &SharedBench<D>,
-    session: &mut Session<D>,
+    turn: &mut Turn<D>,
     number: u64,
 ) -> Result<(), Ended>
-    requires { number ≤ length (recorded session.old.line) }
-    ensures grows { GrowsByTurns session.old.line session.new.line }
-    ensures applied { OnOk result (number ≤ length (applied_in session.new.line)) }
-    ensures ended { IfErr result (λ ended. ShowsEnd ended session.new.line) }
+    requires { number ≤ length (recorded turn.old.session.line) }
+    ensures goes_on { TurnGoesOn turn.old turn.new }
+    ensures applied { OnOk result (number ≤ length (applied_in turn.new.session.line)) }
+    ensures ended { IfErr result (λ ended. ShowsEnd ended turn.new.session.line) }
 {
-    if session.has_applied(number) {
+    if turn.session().has_applied(number) {
         return Ok(());
     }
-    match shared.commit_in_turn(session) {
+    match shared.commit_in_turn(turn) {
         Ok(_) => Ok(()),
         Err(_) => Err(Ended::Failed),
     }
@@ -132,28 +133,28 @@ fn left_of_budget<D: Disk>(session: &Session<D>) -> usize {
 
 /// Leases up to this number of leaves to a worker in a turn, and no more than the budget leaves. It is refused only where it gets
 /// none.
-#[tactic(auto, using(tree_manager::proofs::TurnLemmas::grows_then))]
+#[tactic(auto, using(tree_manager::proofs::TakenLemmas::turn_then, tree_manager::proofs::TakenLemmas::turn_stays))]
 pub(crate) fn take_leaves<D: Disk>(
-    session: &mut Session<D>,
+    turn: &mut Turn<D>,
     worker: u32,
     leases: &mut Vec<Lease>,
     wanted: usize,
 ) -> Result<(), LeaseRefusal>
     requires { leases.old.items ≡ [] }
-    ensures grows { GrowsByTurns session.old.line session.new.line }
-    ensures leases { OnOk result (All (AsksForSearch session.new.line) leases.new.items) }
+    ensures goes_on { TurnGoesOn turn.old turn.new }
+    ensures leases { OnOk result (All (AsksForSearch turn.new.session.line) leases.new.items) }
     ensures none { OnErr result (leases.new.items ≡ []) }
     ensures refused { IfErr result
-        (λ refusal. Leases session.old.line session.new.line worker (Err refusal)) }
+        (λ refusal. Leases turn.old.session.line turn.new.session.line worker (Err refusal)) }
 {
     leases.reserve(1)?;
-    leases.push_reserved(session.lease(worker)?);
-    let most = wanted.min(left_of_budget(session));
+    leases.push_reserved(turn.lease(worker)?);
+    let most = wanted.min(left_of_budget(turn.session()));
     for _ in 1..most {
         if leases.reserve(1).is_err() {
             break;
         }
-        match session.lease(worker) {
+        match turn.lease(worker) {
             Ok(lease) => leases.push_reserved(lease),
             Err(_) => break,
         }

@@ -18,13 +18,19 @@ use std::thread::Threads;
 use strategy_certificate::Oracle;
 
 /// How many positions a thread remembers in which looking ahead shows no win, where it looks no deeper than `SHALLOW`.
-const REMEMBERED_SHALLOW: usize = 4_096;
+const REMEMBERED_SHALLOW: usize = 128;
+
+/// .. where it looks no deeper than `MIDDLE`.
+const REMEMBERED_MIDDLE: usize = 512;
 
 /// .. and where it looks deeper.
 const REMEMBERED_DEEP: usize = 65_536;
 
-/// A search of this many plies takes less than making the larger memory.
+/// Searches of at most this many plies take less than making a larger memory.
 const SHALLOW: u8 = 4;
+
+/// Those of at most this many plies take less than making the largest.
+const MIDDLE: u8 = 6;
 
 /// Searches these leaves in as many threads, and gives what it found: one result for each lease, in their order.
 ///
@@ -87,7 +93,8 @@ fn remembered(leases: &[Lease]) -> usize
     ensures { 1 ≤ result }
 {
     match leases.first() {
-        Some(lease) if lease.depth > SHALLOW => REMEMBERED_DEEP,
+        Some(lease) if lease.depth > MIDDLE => REMEMBERED_DEEP,
+        Some(lease) if lease.depth > SHALLOW => REMEMBERED_MIDDLE,
         _ => REMEMBERED_SHALLOW,
     }
 }

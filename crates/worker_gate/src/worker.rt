@@ -2,7 +2,8 @@
 ghost use Rattle.std.specs.Prelude.{◌≡◌, ◌≤◌, [], length, All, OnOk, IfOk, IfErr};
 ghost use Rattle.turn_lock.specs.Seen.{IsOutside};
 ghost use Rattle.tree_manager.specs.Lines.{recorded};
-ghost use Rattle.tree_manager.specs.Turns.{HasTurn, GrowsByTurns, AsksForSearch};
+ghost use Rattle.tree_manager.specs.Taken.{HasTurn, TurnGoesOn};
+ghost use Rattle.tree_manager.specs.Turns.{GrowsByTurns, AsksForSearch};
 ghost use Rattle.worker_gate.specs.Work.{CanSearch, CanSearchLeaf, ShowsEnd};
 
 use crate::gates::Gate;
@@ -17,7 +18,7 @@ use std::alloc::{AllocError, Global};
 use std::collections::VecDeque;
 use std::sync::Wait;
 use strategy_certificate::Oracle;
-use tree_manager::{BenchPass, Session, SharedBench, Turn};
+use tree_manager::{BenchPass, SharedBench, Turn};
 
 /// How many positions a worker remembers in which looking ahead shows no win.
 const REMEMBERED: usize = 65_536;
@@ -108,7 +109,7 @@ fn trade<R: Wait, D: Disk>(
 {
     let mut turn = shared.enter(rt, pass);
     hand.note_wait(pass.has_waited());
-    let number = match stage_results(&mut turn.session, &mut hand.results) {
+    let number = match stage_results(&mut turn, &mut hand.results) {
         Ok(number) => number,
         Err(ended) => {
             shared.leave(pass, turn);
@@ -117,7 +118,7 @@ fn trade<R: Wait, D: Disk>(
     };
     hand.leases.clear();
     let mut turn = let_others_stage(rt, shared, pass, turn, number);
-    let traded = commit_and_take(shared, &mut turn.session, number, worker, hand);
+    let traded = commit_and_take(shared, &mut turn, number, worker, hand);
     shared.leave(pass, turn);
     traded
 }
@@ -131,12 +132,10 @@ fn let_others_stage<R: Wait, D: Disk>(
     turn: Turn<D>,
     number: u64,
 ) -> Turn<D>
-    requires turn { HasTurn shared.now pass.old turn.entered }
-    requires found { GrowsByTurns pass.old.front turn.session.value.line }
-    ensures turn { HasTurn shared.now pass.new result.entered }
-    ensures found { GrowsByTurns pass.new.front result.session.value.line }
+    requires turn { HasTurn shared.now pass.old turn.start }
+    ensures turn { HasTurn shared.now pass.new result.start }
     ensures grows { GrowsByTurns pass.old.front pass.new.front }
-    ensures goes_on { GrowsByTurns turn.session.value.line result.session.value.line }
+    ensures goes_on { GrowsByTurns turn.session.line result.session.line }
 {
     if number == 0 || !shared.is_slow() {
         return turn;
@@ -147,22 +146,23 @@ fn let_others_stage<R: Wait, D: Disk>(
 }
 
 /// Sees to it in a turn that the record of this number is durable, and takes leaves; none, where every open leaf is leased.
-#[tactic(auto, using(tree_manager::proofs::TurnLemmas::grows_then))]
+#[tactic(auto, using(tree_manager::proofs::TakenLemmas::turn_then, tree_manager::proofs::TakenLemmas::turn_stays))]
 fn commit_and_take<D: Disk>(
     shared: &SharedBench<D>,
-    session: &mut Session<D>,
+    turn: &mut Turn<D>,
     number: u64,
     worker: u32,
     hand: &mut Hand,
 ) -> Result<(), Ended>
-    requires number { number ≤ length (recorded session.old.line) }
+    requires number { number ≤ length (recorded turn.old.session.line) }
     requires none { hand.old.leases.items ≡ [] }
-    ensures grows { GrowsByTurns session.old.line session.new.line }
-    ensures leases { OnOk result (All (AsksForSearch session.new.line) hand.new.leases.items) }
-    ensures ended { IfErr result (λ ended. ShowsEnd ended session.new.line) }
+    ensures goes_on { TurnGoesOn turn.old turn.new }
+    ensures leases { OnOk result
+        (All (AsksForSearch turn.new.session.line) hand.new.leases.items) }
+    ensures ended { IfErr result (λ ended. ShowsEnd ended turn.new.session.line) }
 {
-    commit_unless_applied(shared, session, number)?;
-    let taken = take_leaves(session, worker, &mut hand.leases, hand.wanted);
+    commit_unless_applied(shared, turn, number)?;
+    let taken = take_leaves(turn, worker, &mut hand.leases, hand.wanted);
     hand.note_leases();
     match taken {
         Ok(()) | Err(LeaseRefusal::NoLeaf { .. }) => Ok(()),
@@ -230,7 +230,7 @@ fn show_bench<R: Wait, D: Disk, G: Gate>(
     ensures grows { GrowsByTurns pass.old.front pass.new.front }
 {
     let turn = shared.enter(rt, pass);
-    gate.look(turn.session.bench());
+    gate.look(turn.session().bench());
     shared.leave(pass, turn);
 }
 
@@ -266,7 +266,7 @@ fn give_back<R: Wait, D: Disk>(
     ensures ended { ShowsEnd result pass.new.front }
 {
     let mut turn = shared.enter(rt, pass);
-    release_leases(&mut turn.session, leases);
+    release_leases(&mut turn, leases);
     shared.leave(pass, turn);
     Ended::Memory
 }

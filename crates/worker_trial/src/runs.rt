@@ -123,7 +123,7 @@ fn come_to<R: Wait>(
     requires outside { IsOutside shared pass }
     requires pieces { table.now.pieces ≡ 2 }
 {
-    let session = shared.finish(rt, pass);
+    let (session, _) = shared.finish(rt, pass);
     if ended != Ended::Done {
         bail!("the work ended as {ended:?}");
     }

@@ -28,7 +28,7 @@ returns-in_default c =
     let named : get_or words 0 [] ≢ [] = text_some c.args.words.now 0 _ c.is_empty-else-is_empty.result (grind (arith, common_steps)) c.is_empty-else-is_empty.ensures c.if-is_empty-2.false in
     let within : 1 < length c.args.words.now = grind (arith, common_steps) in
     let word = text_at c.args.words.now 1 _ within in
-    let other = no_name (get_or words 1 []) (λ same. c.in_default.not-solve (sym word ∙ same)) (λ same. c.in_default.not-report (sym word ∙ same)) (λ same. c.in_default.not-certify (sym word ∙ same)) (λ same. c.in_default.not-verify (sym word ∙ same)) (λ same. c.in_default.not-table (sym word ∙ same)) (λ same. c.in_default.not-text (sym word ∙ same)) (λ same. c.in_default.not-generate (sym word ∙ same)) in
+    let other = no_name (get_or words 1 []) (λ same. c.in_default.not-solve (sym word ∙ same)) (λ same. c.in_default.not-report (sym word ∙ same)) (λ same. c.in_default.not-certify (sym word ∙ same)) (λ same. c.in_default.not-verify (sym word ∙ same)) (λ same. c.in_default.not-learn (sym word ∙ same)) (λ same. c.in_default.not-table (sym word ∙ same)) (λ same. c.in_default.not-text (sym word ∙ same)) (λ same. c.in_default.not-generate (sym word ∙ same)) in
     one_refusal words 1 (refused_command words (grind (arith, common_steps)) named (λ inside. other))
 
 pub read_solve-requires : goal.read_solve-requires
@@ -53,6 +53,11 @@ read_plain-requires-in-verify-clause-front c =
     let front = front_read c.args.words.now _ (codes "verify") c.is_empty-else-is_empty.result (grind (arith, common_steps)) c.is_empty-else-is_empty.ensures c.if-is_empty-2.false c.in-verify.is in
     record { path = front.0; named = front.1; spelling = front.2 }
 
+pub read_plain-requires-in-learn-clause-front : goal.read_plain-requires-in-learn-clause-front
+read_plain-requires-in-learn-clause-front c =
+    let front = front_read c.args.words.now _ (codes "learn") c.is_empty-else-is_empty.result (grind (arith, common_steps)) c.is_empty-else-is_empty.ensures c.if-is_empty-2.false c.in-learn.is in
+    record { path = front.0; named = front.1; spelling = front.2 }
+
 pub read_plain-requires-in-text-clause-front : goal.read_plain-requires-in-text-clause-front
 read_plain-requires-in-text-clause-front c =
     let front = front_read c.args.words.now _ (codes "table-check") c.is_empty-else-is_empty.result (grind (arith, common_steps)) c.is_empty-else-is_empty.ensures c.if-is_empty-2.false c.in-text.is in
@@ -72,6 +77,9 @@ returns-in-report c = one_answer (texts c.args.words.now) c.read_plain.result c.
 
 pub returns-in-verify : goal.returns-in-verify
 returns-in-verify c = one_answer (texts c.args.words.now) c.read_plain-in-verify.result c.read_plain-in-verify.ensures.command c.read_plain-in-verify.ensures.refused
+
+pub returns-in-learn : goal.returns-in-learn
+returns-in-learn c = one_answer (texts c.args.words.now) c.read_plain-in-learn.result c.read_plain-in-learn.ensures.command c.read_plain-in-learn.ensures.refused
 
 pub returns-in-text : goal.returns-in-text
 returns-in-text c = one_answer (texts c.args.words.now) c.read_plain-in-text.result c.read_plain-in-text.ensures.command c.read_plain-in-text.ensures.refused

@@ -1,6 +1,5 @@
-use Rattle.std.proofs.Common.{List, ℕ, [], sym, subst, ◌∙◌, ap, length, arith}
+use Rattle.std.proofs.Common.{List, ℕ, [], sym, subst, arith}
 use Rattle.std.specs.Prelude.{Contains}
-use Rattle.certificate_lines.specs.Steps.{IsLongest}
 use Rattle.certificate_lines.proofs.LineLemmas.{replies_go_on, reply_is}
 use Rattle.certificate_lines.proofs.plies.reply.Goals as goal
 

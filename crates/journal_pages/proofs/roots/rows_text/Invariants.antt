@@ -3,4 +3,4 @@ use Rattle.journal_pages.specs.Roots.{row_lines}
 use Rattle.journal_pages.proofs.roots.rows_text.Given as goal
 
 abbrev pub invariant-loop-i : goal.invariant-loop-i
-invariant-loop-i l = l.text.items ++ row_lines (1 + l.i) (drop l.i l.rows) ≡ row_lines 1 l.rows
+invariant-loop-i l = l.text.items ++ row_lines l.games (1 + l.i) (drop l.i l.rows) ≡ row_lines l.games 1 l.rows

@@ -16,8 +16,8 @@ run_workers-requires-clause-settings g c κs within =
 pub go_on_alone-ended-requires : goal.go_on_alone-ended-requires
 go_on_alone-ended-requires g c =
     let can : CanSearch (g.O.Oracle.piece_limit c.args.oracle.now) c.args.session.line = record { tables = c.requires.tables; depth = c.requires.depth } in
-    searches_grown _ _ _ can (subst (λ front. GrowsByTurns front c.finish-session.result.line) c.in-Ok.ensures.front (grows_then _ _ _ c.run_workers.ensures.grows c.finish-session.ensures))
+    searches_grown _ _ _ can (subst (λ front. GrowsByTurns front c.finish-session.result.0.line) c.in-Ok.ensures.front (grows_then _ _ _ c.run_workers.ensures.grows c.finish-session.ensures.grows))
 
 pub returns-clause-grows : goal.returns-clause-grows
 returns-clause-grows g c =
-    grows_then _ _ _ (subst (λ front. GrowsByTurns front c.finish-session.result.line) c.in-Ok.ensures.front (grows_then _ _ _ c.run_workers.ensures.grows c.finish-session.ensures)) c.go_on_alone-ended.ensures.grows
+    grows_then _ _ _ (subst (λ front. GrowsByTurns front c.finish-session.result.0.line) c.in-Ok.ensures.front (grows_then _ _ _ c.run_workers.ensures.grows c.finish-session.ensures.grows)) c.go_on_alone-ended.ensures.grows

@@ -1,14 +1,13 @@
 use Rattle.std.proofs.Common.{◌≡◌, ◌<◌, ◌-◌, ◌∙◌, length, slice_get, subst, sym, arith}
 use Rattle.draughts_board.specs.Draughts.{draughts}
 use Rattle.strategy_certificate.specs.Tables.{IsSoundTable}
-use Rattle.strategy_certificate.specs.Certificates.{IsTrueOf}
 use Rattle.strategy_certificate.specs.declared.certificates.Certificate.{Certificate}
 use Rattle.proof_tree.specs.Forest.{nodes}
-use Rattle.opening_report.proofs.BenchLemmas.{only_memory, joined_there, joined_true}
+use Rattle.opening_report.proofs.BenchLemmas.{joined_there, joined_true}
 use Rattle.opening_report.proofs.benches.root_certificate.Goals as goal
 
-pub memory_of-requires : goal.memory_of-requires
-memory_of-requires g c =
+pub prove-requires-clause-good : goal.prove-requires-clause-good
+prove-requires-clause-good g c =
     let k = c.args.bench.now.state.settings.pieces in
     let xs = nodes c.args.bench.now.state.forest in
     let joined : Certificate = c.in_ok-certificate.certificate in
@@ -17,9 +16,9 @@ memory_of-requires g c =
     let has = joined_there k xs (c.args.number - 1) joined within c.requires.settled c.in_ok-certificate.ensures in
     let sound : IsSoundTable draughts joined.pieces answer =
     subst (λ n. IsSoundTable draughts n answer) (c.requires.tables ∙ sym has.1.1.pieces) c.pieces-pieces.ensures.sound in
-    only_memory answer joined (c.in-Err._certificate, c.in-Err.refusal) _ c.in-Err.ensures.exact (has.1.1.good answer sound)
+    has.1.1.good answer sound
 
-pub returns-in-Ok-clause-value : goal.returns-in-Ok-clause-value
-returns-in-Ok-clause-value g c =
+pub returns-clause-value : goal.returns-clause-value
+returns-clause-value g c =
     joined_true c.args.bench.now.state.settings.pieces (slice_get (nodes c.args.bench.now.state.forest) (c.args.number - 1)) c.in_ok-certificate.certificate
-    c.in_ok-certificate.ensures c.in-Ok.ensures.claim
+    c.in_ok-certificate.ensures c.in_ok-prove.ensures.claim

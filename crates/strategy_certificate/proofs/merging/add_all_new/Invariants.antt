@@ -1,12 +1,11 @@
-use Rattle.std.proofs.Common.{◌≡◌, ◌≤◌, length}
-use Rattle.indexmap.specs.IndexMap.{spare}
+use Rattle.std.proofs.Common.{◌≡◌, ◌≤◌, drop, length}
 use Rattle.strategy_certificate.specs.Parts.{HasDistinctPositions, merged_holds}
 use Rattle.strategy_certificate.proofs.merging.add_all_new.Given as goal
 
 abbrev pub invariant-loop-p : goal.invariant-loop-p
-invariant-loop-p l =
-    (goal.iterator-loop-p).can_next l.p-iterator × (goal.iterator-loop-p).is_finite l.p-iterator
-    × (merged_holds l.into.entries l.p-iterator ≡ merged_holds l.fn.into.entries l.fn.from.entries)
-    × HasDistinctPositions l.into.entries
-    × HasDistinctPositions l.p-iterator
-    × (length l.p-iterator ≤ spare l.into)
+invariant-loop-p l = record {
+  merged : merged_holds l.into.entries (drop l.p-index l.p-items) ≡ merged_holds l.fn.into.entries l.p-items;
+  distinct : HasDistinctPositions l.into.entries;
+  rest : HasDistinctPositions (drop l.p-index l.p-items);
+  room : length (drop l.p-index l.p-items) ≤ l.into.spare;
+}

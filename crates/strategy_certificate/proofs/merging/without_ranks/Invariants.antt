@@ -1,9 +1,9 @@
-use Rattle.std.proofs.Common.{◌≡◌, ◌++◌, map}
+use Rattle.std.proofs.Common.{◌≡◌, ◌++◌, drop, map}
 use Rattle.strategy_certificate.specs.Parts.{HasDistinctPositions, without_rank}
 use Rattle.strategy_certificate.proofs.merging.without_ranks.Given as goal
 
 abbrev pub invariant-loop-p : goal.invariant-loop-p
-invariant-loop-p l =
-    (goal.iterator-loop-p).can_next l.p-iterator × (goal.iterator-loop-p).is_finite l.p-iterator
-    × (l.rows.entries ++ map without_rank l.p-iterator ≡ map without_rank l.fn.from.entries)
-    × HasDistinctPositions (l.rows.entries ++ map without_rank l.p-iterator)
+invariant-loop-p l = record {
+  all : l.rows.entries ++ map without_rank (drop l.p-index l.p-items) ≡ map without_rank l.p-items;
+  distinct : HasDistinctPositions (l.rows.entries ++ map without_rank (drop l.p-index l.p-items));
+}

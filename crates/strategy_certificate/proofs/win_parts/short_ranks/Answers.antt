@@ -1,4 +1,4 @@
-use Rattle.std.proofs.Common.{◌<◌, List, length, map, sym, subst, arith}
+use Rattle.std.proofs.Common.{◌<◌, length, sym, subst, arith}
 use Rattle.std.specs.Prelude.{◌^◌, ◌≤◌, All}
 use Rattle.draughts_board.specs.Board.{Board}
 use Rattle.strategy_certificate.specs.declared.entries.WinEntry.{WinEntry}

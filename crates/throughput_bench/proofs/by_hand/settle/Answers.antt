@@ -1,5 +1,5 @@
-use Rattle.tree_manager.proofs.TurnLemmas.{grows_then}
+use Rattle.tree_manager.proofs.TakenLemmas.{turn_then}
 use Rattle.throughput_bench.proofs.by_hand.settle.Goals as goal
 
 pub returns : goal.returns
-returns g c = grows_then _ _ _ c.stage_numbered.ensures.grows (grows_then _ _ _ c.commit_in_turn.ensures.grows c.lease.ensures.grows)
+returns g c = turn_then _ _ _ c.stage_numbered.ensures.goes_on (turn_then _ _ _ c.commit_in_turn.ensures.goes_on c.lease.ensures.goes_on)

@@ -6,7 +6,7 @@ use Rattle.tree_manager.specs.declared.marks.Mark.TheVariants as mark
 use Rattle.tree_manager.specs.Receipts.{acknowledgements}
 use Rattle.tree_manager.specs.Weaving.{woven}
 use Rattle.tree_manager.specs.Keeping.{most_entries}
-use Rattle.tree_manager.proofs.KeptLemmas.{each_rose, goes_on, kept_acked, kept_broken, line_other, number_of}
+use Rattle.tree_manager.proofs.KeptLemmas.{each_rose, goes_on, kept_acked, kept_broken, line_other, moment_on, number_of}
 use Rattle.tree_manager.proofs.CallLemmas.{receipts_of}
 use Rattle.tree_manager.proofs.parts.commit_parts.Goals as goal
 
@@ -64,6 +64,18 @@ returns-then-waiting-gt0-clause-since g c honest =
     (goes_on g.D.Disk
     (woven c.args.marks.now (c.args.bench.now.records ++ c.args.bench.now.staged)) c.args.marks.now most_entries c.args.due.now c.args.bench.now c.args.journal.now c.commit.new.self c.requires.within unfailed (record { crash = c.in-Ok.ensures.crash honest; stays = c.in-Ok.ensures.kept honest }) honest)
 
+pub returns-then-waiting-gt0-clause-onward : goal.returns-then-waiting-gt0-clause-onward
+returns-then-waiting-gt0-clause-onward g c honest =
+    let unfailed : c.args.journal.now.failed ≡ false = c.requires.unfailed in
+    moment_on g.D.Disk
+    (woven c.args.marks.now (c.args.bench.now.records ++ c.args.bench.now.staged)) c.args.marks.now most_entries c.args.due.now c.args.bench.now c.args.journal.now c.commit.new.self c.requires.within unfailed (record { crash = c.in-Ok.ensures.crash honest; stays = c.in-Ok.ensures.kept honest }) honest
+
+pub returns-else-waiting-gt0-clause-onward : goal.returns-else-waiting-gt0-clause-onward
+returns-else-waiting-gt0-clause-onward g c honest =
+    let unfailed : c.args.journal.now.failed ≡ false = c.requires.unfailed in
+    moment_on g.D.Disk
+    (woven c.args.marks.now (c.args.bench.now.records ++ c.args.bench.now.staged)) c.args.marks.now most_entries c.args.due.now c.args.bench.now c.args.journal.now c.commit.new.self c.requires.within unfailed (record { crash = c.in-Ok.ensures.crash honest; stays = c.in-Ok.ensures.kept honest }) honest
+
 pub returns-else-waiting-gt0-clause-number : goal.returns-else-waiting-gt0-clause-number
 returns-else-waiting-gt0-clause-number g c =
     let unfailed : c.args.journal.now.failed ≡ false = c.requires.unfailed in
@@ -83,6 +95,12 @@ returns-else-waiting-gt0-clause-moments g c honest =
     subst (λ m. Each (λ ack. ack.moment ≤ m) (acknowledgements line)) (sym (c.in-Ok.ensures.moment ∙ now))
     (receipts_of g.D.Disk
     c.args.marks.now most_entries c.args.due.now c.args.bench.now c.args.journal.now c.requires.within honest).moments
+
+pub returns-in-Err-clause-onward : goal.returns-in-Err-clause-onward
+returns-in-Err-clause-onward g c honest =
+    let unfailed : c.args.journal.now.failed ≡ false = c.requires.unfailed in
+    moment_on g.D.Disk
+    (woven c.args.marks.now (c.args.bench.now.records ++ c.args.bench.now.staged)) c.args.marks.now most_entries c.args.due.now c.args.bench.now c.args.journal.now c.commit.new.self c.requires.within unfailed (record { crash = c.in-Err.ensures.crash honest; stays = c.in-Err.ensures.kept honest }) honest
 
 pub returns-in-Err-clause-since : goal.returns-in-Err-clause-since
 returns-in-Err-clause-since g c honest =

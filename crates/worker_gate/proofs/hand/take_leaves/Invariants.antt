@@ -1,9 +1,10 @@
 use Rattle.std.proofs.Common.{All}
-use Rattle.tree_manager.specs.Turns.{GrowsByTurns, AsksForSearch}
+use Rattle.tree_manager.specs.Taken.{TurnGoesOn}
+use Rattle.tree_manager.specs.Turns.{AsksForSearch}
 use Rattle.worker_gate.proofs.hand.take_leaves.Given as goal
 
 abbrev pub invariant-loop : goal.invariant-loop
 invariant-loop g l = record {
-  grows : GrowsByTurns l.initial.session.line l.session.line;
-  leases : All (AsksForSearch l.session.line) l.leases.items;
+  goes_on : TurnGoesOn l.initial.turn l.turn;
+  leases : All (AsksForSearch l.turn.session.line) l.leases.items;
 }

@@ -1,7 +1,9 @@
-use Rattle.std.proofs.Common.{ap, sym, ◌∙◌}
-use Rattle.tree_manager.proofs.SharedLemmas.{grows_turn}
+use Rattle.tree_manager.proofs.TakenLemmas.{has_turn_on}
+use Rattle.tree_manager.proofs.TurnLemmas.{grows_then}
 use Rattle.worker_gate.proofs.worker.give_back.Goals as goal
 
+pub leave-requires : goal.leave-requires
+leave-requires g c = record { turn = has_turn_on _ _ _ _ c.enter-turn.ensures.turn c.release_leases.ensures }
+
 pub returns-clause-grows : goal.returns-clause-grows
-returns-clause-grows g c =
-    grows_turn _ _ _ _ _ c.enter-turn.ensures.grows (c.enter-turn.ensures.whole ∙ ap (λ s. s.line) (sym c.deref_mut.ensures.value)) c.release_leases.ensures c.leave.ensures.front
+returns-clause-grows g c = grows_then _ _ _ c.enter-turn.ensures.grows c.leave.ensures.grows

@@ -1,4 +1,4 @@
-use Rattle.std.proofs.Common.{◌≡◌, ℕ, Option, ◌∷◌, ◌++◌, List, [], cond, ◌∙◌}
+use Rattle.std.proofs.Common.{ℕ, Option, ◌∷◌, ◌++◌, List, [], cond, ◌∙◌}
 use Rattle.draughts_board.specs.Board.{Board}
 use Rattle.draughts_board.specs.declared.pieces.Side.{Side}
 use Rattle.strategy_certificate.specs.Parts.{HoldList}

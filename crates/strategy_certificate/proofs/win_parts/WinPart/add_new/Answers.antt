@@ -1,4 +1,4 @@
-use Rattle.std.proofs.Common.{◌≡◌, ◌∷◌, ◌++◌, List, [], cond, ◌∙◌, ap, sym, subst}
+use Rattle.std.proofs.Common.{◌∷◌, ◌++◌, List, [], cond, ◌∙◌, ap, sym, subst}
 use Rattle.std.specs.Prelude.{All}
 use Rattle.draughts_board.specs.Board.{Board}
 use Rattle.draughts_board.specs.declared.pieces.Side.{Side}

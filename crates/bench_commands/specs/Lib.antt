@@ -1,0 +1,12 @@
+pub mod Solving
+pub mod Verifying
+pub mod Learning
+pub mod Tables
+pub mod Commands
+pub mod Lines
+pub mod Disks
+pub mod Bench
+pub mod Accepted
+pub mod Runs
+pub mod Steps
+pub mod Examples

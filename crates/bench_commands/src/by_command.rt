@@ -1,0 +1,38 @@
+//! Of each command: whether workers search for it, and how long its source may be.
+ghost use Rattle.std.specs.Prelude.{◌≡◌, true, false};
+ghost use Rattle.bench_commands.specs.Commands.{Searches, source_limit};
+
+use crate::commands::solve::GAMES_LIMIT;
+use crate::commands::table_check::TABLE_LIMIT;
+use crate::commands::verify::CERTIFICATE_LIMIT;
+use bench_edges::Command;
+
+/// Whether workers search for the command's values.
+pub(crate) fn searches(command: Command) -> bool
+    ensures yes { result ≡ true → Searches command }
+    ensures no { result ≡ false → Searches command → ⊥ }
+{
+    match command {
+        Command::Solve(_) | Command::Generate { .. } => true,
+        Command::Report
+        | Command::Certify(_)
+        | Command::Verify
+        | Command::Learn
+        | Command::MakeTable(_)
+        | Command::TableCheck => false,
+    }
+}
+
+/// How many bytes the source of a command has at most, if it reads one.
+pub(crate) fn source_limit(command: Command) -> Option<usize>
+    ensures { result ≡ source_limit command }
+{
+    match command {
+        Command::Solve(_) => Some(GAMES_LIMIT),
+        Command::Verify => Some(CERTIFICATE_LIMIT),
+        Command::Learn => Some(CERTIFICATE_LIMIT),
+        Command::TableCheck => Some(TABLE_LIMIT),
+        Command::Report | Command::Certify(_) | Command::MakeTable(_) | Command::Generate { .. } =>
+            None,
+    }
+}

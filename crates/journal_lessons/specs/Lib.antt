@@ -1,0 +1,5 @@
+pub mod Lessons
+pub mod Laws
+pub mod Learnt
+pub mod Teaching
+pub mod Conversions

@@ -1,0 +1,7 @@
+use Rattle.std.proofs.Common.{◌≡◌, take}
+use Rattle.draughts_board.specs.Board.{Board}
+use Rattle.opened_games.specs.Opened.{games_at, numbers_at}
+use Rattle.opened_games.proofs.opened.numbers_of.Given as goal
+
+abbrev pub invariant-loop-opening : goal.invariant-loop-opening
+invariant-loop-opening l = (p : Board) → numbers_at l.numbers p ≡ games_at (take l.opening-index l.openings) p

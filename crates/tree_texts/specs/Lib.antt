@@ -1,0 +1,3 @@
+pub mod TreeTexts
+pub mod Json
+pub mod Shown

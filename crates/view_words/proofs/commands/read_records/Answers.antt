@@ -1,0 +1,20 @@
+use Rattle.std.proofs.Common.{rules}
+use Rattle.bench_edges.specs.Words.{texts}
+use Rattle.view_words.specs.Words.{IsRefusedAt}
+use Rattle.view_words.proofs.Readings.{records_more, records_said}
+use Rattle.view_words.proofs.commands.read_records.Goals as goal
+
+pub returns-in_err-end_at-clause-refused : goal.returns-in_err-end_at-clause-refused
+returns-in_err-end_at-clause-refused c =
+    let words = texts c.args.words.now in
+    let refused : IsRefusedAt words c.in_err-end_at.field-0.0.at =
+    records_more words c.requires
+    c.stands_at-json.result c.behind_word-after_json.result c.stands_at-json.ensures.yes c.stands_at-json.ensures.no c.behind_word-after_json.ensures.yes c.behind_word-after_json.ensures.no
+    c.in_err-end_at.ensures.more c.in_err-end_at.field-0.0.at c.in_err-end_at.ensures.place in
+    search (rules, refused)
+
+pub returns-clause-request : goal.returns-clause-request
+returns-clause-request c =
+    records_said (texts c.args.words.now) c.requires
+    c.stands_at-json.result c.behind_word-after_json.result c.stands_at-json.ensures.yes c.stands_at-json.ensures.no c.behind_word-after_json.ensures.yes c.behind_word-after_json.ensures.no
+    c.in_ok-end_at.ensures.end
