@@ -17,7 +17,7 @@ use Rattle.program_edges.specs.Sources.{IsInput}
 use Rattle.program_edges.specs.Statuses.{status_of}
 use Rattle.bench_commands.specs.Commands.{source_limit}
 use Rattle.bench_commands.specs.Steps.{AcceptsBytes}
-use Rattle.bench_commands.specs.declared.commands.verify.TheConstants.{CERTIFICATE_LIMIT}
+use Rattle.bench_commands.specs.declared.commands.verify.TheConstants.{MOST_CERTIFICATE_BYTES}
 use Rattle.bench_commands.proofs.TableLemmas.{table_is_short}
 
 -- ---- what is accepted
@@ -47,12 +47,12 @@ module _ {D : Type 0} (g : Ghosts D) where
   bytes_accept command source bytes old r input accepts = accept_by command source bytes old r input accepts (read_or_none command)
 
 pub certificates_accepted : {D : Type 0} (g : Ghosts D) (source : Option (List ℕ)) (old : D) (s : Status) → Accepts g Verify source old s
-    → IfSome source (λ told. length told ≤ CERTIFICATE_LIMIT → (c : Certificate) → IsGood c → ReadsAs told c → IsUnrefused s)
+    → IfSome source (λ told. length told ≤ MOST_CERTIFICATE_BYTES → (c : Certificate) → IsGood c → ReadsAs told c → IsUnrefused s)
 certificates_accepted g None old s h = tt
 certificates_accepted g (Some told) old s h = λ fits c good spelled. h (c, (good, spelled)) fits tt
 
 pub lessons_accepted : {D : Type 0} (g : Ghosts D) (source : Option (List ℕ)) (old : D) (s : Status) → Accepts g Learn source old s
-    → IfSome source (λ told. length told ≤ CERTIFICATE_LIMIT → (c : Certificate) → IsGood c → ReadsAs told c → MayLearn g c old → IsUnrefused s)
+    → IfSome source (λ told. length told ≤ MOST_CERTIFICATE_BYTES → (c : Certificate) → IsGood c → ReadsAs told c → MayLearn g c old → IsUnrefused s)
 lessons_accepted g None old s h = tt
 lessons_accepted g (Some told) old s h = λ fits c good spelled may. h (c, (good, spelled)) fits (λ other reads. subst (λ (x : Certificate). MayLearn g x old) (one_certificate_read told c other spelled reads) may)
 

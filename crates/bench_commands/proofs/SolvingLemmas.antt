@@ -36,7 +36,7 @@ use Rattle.bench_commands.proofs.OnceLemmas.{roots_stand_in_one_line}
 use Rattle.bench_commands.specs.Lines.{StandsInOneLine}
 use Rattle.bench_commands.specs.Accepted.{Accepts, HasAmpleBudget, HasRoom, IsUnrefused}
 use Rattle.bench_commands.specs.declared.commands.generate.TheConstants.{GENERATE_DEPTH, GENERATE_LEASE, GENERATE_PIECES}
-use Rattle.bench_commands.specs.declared.commands.solve.TheConstants.{GAMES_LIMIT}
+use Rattle.program_edges.specs.declared.sources.TheConstants.{MOST_GAMES_BYTES}
 use Rattle.program_edges.specs.Answers.{TakesOutput}
 use Rattle.program_edges.specs.Sources.{IsInput}
 use Rattle.bench_commands.specs.Bench.{Does, Finishes, Reports, WritesOnly, HoldsOpenings}
@@ -108,7 +108,7 @@ said_once words command other each says = let e = each other says in cc
 
 -- a good source of openings, and a journal that has room for their roots, are not refused
 pub openings_accepted : {D : Type 0} (g : Ghosts D) (options : Options) (source : Option (List ℕ)) (old : D) (status : Status) → Accepts g (Solve options) source old status
-    → IfSome source (λ told. length told ≤ GAMES_LIMIT → (all : List Opening) → OpeningsOf options.plies told all → HasRoom g options.pieces (roots_of_openings all) old → IsUnrefused status)
+    → IfSome source (λ told. length told ≤ MOST_GAMES_BYTES → (all : List Opening) → OpeningsOf options.plies told all → HasRoom g options.pieces (roots_of_openings all) old → IsUnrefused status)
 openings_accepted g options None old status h = tt
 openings_accepted g options (Some told) old status h = λ fits all read room.
     h (all, read) fits (λ others are. subst (λ (os : List Opening). HasRoom g options.pieces (roots_of_openings os) old) (one_list_of options.plies told all others read are) room)

@@ -10,9 +10,9 @@ use Rattle.journal_looks.specs.Looks.{IsTrueReport}
 use Rattle.journal_runs.specs.Journals.{CountsRoots}
 use Rattle.strategy_certificate.specs.Certificates.{IsGood}
 use Rattle.opening_report.specs.declared.refusals.Refusal.{Refusal}
-use Rattle.bench_commands.specs.declared.commands.solve.TheConstants.{GAMES_LIMIT}
-use Rattle.bench_commands.specs.declared.commands.table_check.TheConstants.{TABLE_LIMIT}
-use Rattle.bench_commands.specs.declared.commands.verify.TheConstants.{CERTIFICATE_LIMIT}
+use Rattle.program_edges.specs.declared.sources.TheConstants.{MOST_GAMES_BYTES}
+use Rattle.bench_commands.specs.declared.commands.table_check.TheConstants.{MOST_TABLE_BYTES}
+use Rattle.bench_commands.specs.declared.commands.verify.TheConstants.{MOST_CERTIFICATE_BYTES}
 use Rattle.bench_commands.specs.Learning.{IsLearntOf}
 use Rattle.bench_commands.specs.Solving.{IsReportOn, HasGamesFault}
 use Rattle.bench_commands.specs.Tables.{AreTableBytes, IsSoundOf, HasTableFault}
@@ -20,13 +20,13 @@ use Rattle.bench_commands.specs.Verifying.{IsVerifiedOf, HasCertificateFault}
 
 -- how many bytes its source has at most; none where it reads no source
 abbrev pub source_limit : Command → Option ℕ
-source_limit (Solve options) = Some GAMES_LIMIT
+source_limit (Solve options) = Some MOST_GAMES_BYTES
 source_limit Report = None
 source_limit (Certify root) = None
-source_limit Verify = Some CERTIFICATE_LIMIT
-source_limit Learn = Some CERTIFICATE_LIMIT
+source_limit Verify = Some MOST_CERTIFICATE_BYTES
+source_limit Learn = Some MOST_CERTIFICATE_BYTES
 source_limit (MakeTable pieces) = None
-source_limit TableCheck = Some TABLE_LIMIT
+source_limit TableCheck = Some MOST_TABLE_BYTES
 source_limit (Generate seed count) = None
 
 -- the text is that of a good certificate, so that its claim is true

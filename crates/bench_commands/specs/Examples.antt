@@ -27,9 +27,9 @@ use Rattle.proof_tree.specs.declared.tree.TheConstants.{MOST_ROOTS}
 use Rattle.strategy_certificate.specs.declared.entries.TheConstants.{MOST_FOUND_RANK, MOST_RANK}
 use Rattle.strategy_certificate.specs.declared.shortening.TheConstants.{FIRST_SHORT_RANK}
 use Rattle.bench_commands.specs.declared.commands.generate.TheConstants.{GENERATE_DEPTH, GENERATE_LEASE, GENERATE_PIECES}
-use Rattle.bench_commands.specs.declared.commands.solve.TheConstants.{GAMES_LIMIT}
-use Rattle.bench_commands.specs.declared.commands.table_check.TheConstants.{TABLE_LIMIT}
-use Rattle.bench_commands.specs.declared.commands.verify.TheConstants.{CERTIFICATE_LIMIT}
+use Rattle.program_edges.specs.declared.sources.TheConstants.{MOST_GAMES_BYTES}
+use Rattle.bench_commands.specs.declared.commands.table_check.TheConstants.{MOST_TABLE_BYTES}
+use Rattle.bench_commands.specs.declared.commands.verify.TheConstants.{MOST_CERTIFICATE_BYTES}
 
 -- ---- what a written move means
 
@@ -127,9 +127,9 @@ pub record WorkedTears : Type 0 where
 -- Where a definition or a clause names a limit, it is this number.
 pub record WorkedLimits : Type 0 where
   -- bytes of sources
-  pub games_bytes : GAMES_LIMIT ≡ 16777216
-  pub certificate_bytes : CERTIFICATE_LIMIT ≡ 268435456
-  pub table_bytes : TABLE_LIMIT ≡ 4194304
+  pub games_bytes : MOST_GAMES_BYTES ≡ 16777216
+  pub certificate_bytes : MOST_CERTIFICATE_BYTES ≡ 268435456
+  pub table_bytes : MOST_TABLE_BYTES ≡ 4194304
   -- what a source, a journal and a run may have
   pub games : MOST_GAMES ≡ 4096
   pub roots : MOST_ROOTS ≡ 65536

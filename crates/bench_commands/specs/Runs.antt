@@ -34,8 +34,8 @@ use Rattle.bench_commands.specs.Commands.{source_limit}
 use Rattle.bench_commands.specs.Disks.{LeavesDisk}
 use Rattle.bench_commands.specs.Solving.{OpeningsOf, roots_of_openings}
 use Rattle.bench_commands.specs.declared.commands.generate.TheConstants.{GENERATE_DEPTH, GENERATE_PIECES}
-use Rattle.bench_commands.specs.declared.commands.solve.TheConstants.{GAMES_LIMIT}
-use Rattle.bench_commands.specs.declared.commands.verify.TheConstants.{CERTIFICATE_LIMIT}
+use Rattle.program_edges.specs.declared.sources.TheConstants.{MOST_GAMES_BYTES}
+use Rattle.bench_commands.specs.declared.commands.verify.TheConstants.{MOST_CERTIFICATE_BYTES}
 
 -- ---- by the command
 
@@ -102,7 +102,7 @@ module _ {S K D : Type 0} (s : SourceGhosts S) (k : SinkGhosts K) (g : Ghosts D)
     pub unused : status ≡ Words → new ≡ old
     pub words : (status ≡ Words) ↔ ((command : Command) → ¬ Says command_line command)
     pub accepted : (options : Options) → Says command_line (Solve options)
-        → IfSome (s.left source) (λ text. length text ≤ GAMES_LIMIT
+        → IfSome (s.left source) (λ text. length text ≤ MOST_GAMES_BYTES
         → (all : List Opening) → OpeningsOf options.plies text all
         → HasRoom g options.pieces (roots_of_openings all) old → IsUnrefused status)
     pub ample : (options : Options) → Says command_line (Solve options)
@@ -123,7 +123,7 @@ module _ {S K D : Type 0} (s : SourceGhosts S) (k : SinkGhosts K) (g : Ghosts D)
         → IsHonest g.TELLS → ReadsRecords GENERATE_PIECES (g.reads old) []
         → IsUnrefused status × (status ≢ Unsolved)
     pub accepted_certificates : Says command_line Verify
-        → IfSome (s.left source) (λ bytes. length bytes ≤ CERTIFICATE_LIMIT
+        → IfSome (s.left source) (λ bytes. length bytes ≤ MOST_CERTIFICATE_BYTES
         → (c : Certificate) → IsGood c → ReadsAs bytes c → IsUnrefused status)
     pub accepted_tables : Says command_line TableCheck
         → IfSome (s.left source) (λ bytes. (pieces : ℕ) (numbers : List ℕ)
@@ -139,7 +139,7 @@ module _ {S K D : Type 0} (s : SourceGhosts S) (k : SinkGhosts K) (g : Ghosts D)
         → IsRefusedFor (of_look cause) (k.taken before) (k.taken after) (k.faults before)
         (k.faults after) status
     pub accepted_lessons : Says command_line Learn
-        → IfSome (s.left source) (λ bytes. length bytes ≤ CERTIFICATE_LIMIT
+        → IfSome (s.left source) (λ bytes. length bytes ≤ MOST_CERTIFICATE_BYTES
         → (c : Certificate) → IsGood c → ReadsAs bytes c → MayLearn g c old → IsUnrefused status)
     pub taught : IsHonest g.TELLS → Says command_line Learn
         → Teaches Learn (s.left source) (g.reads old) (λ cause. (status ≡ Read)

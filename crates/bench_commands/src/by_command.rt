@@ -2,10 +2,10 @@
 ghost use Rattle.std.specs.Prelude.{◌≡◌, true, false};
 ghost use Rattle.bench_commands.specs.Commands.{Searches, source_limit};
 
-use crate::commands::solve::GAMES_LIMIT;
-use crate::commands::table_check::TABLE_LIMIT;
-use crate::commands::verify::CERTIFICATE_LIMIT;
+use crate::commands::table_check::MOST_TABLE_BYTES;
+use crate::commands::verify::MOST_CERTIFICATE_BYTES;
 use bench_edges::Command;
+use program_edges::MOST_GAMES_BYTES;
 
 /// Whether workers search for the command's values.
 pub(crate) fn searches(command: Command) -> bool
@@ -28,10 +28,10 @@ pub(crate) fn source_limit(command: Command) -> Option<usize>
     ensures { result ≡ source_limit command }
 {
     match command {
-        Command::Solve(_) => Some(GAMES_LIMIT),
-        Command::Verify => Some(CERTIFICATE_LIMIT),
-        Command::Learn => Some(CERTIFICATE_LIMIT),
-        Command::TableCheck => Some(TABLE_LIMIT),
+        Command::Solve(_) => Some(MOST_GAMES_BYTES),
+        Command::Verify => Some(MOST_CERTIFICATE_BYTES),
+        Command::Learn => Some(MOST_CERTIFICATE_BYTES),
+        Command::TableCheck => Some(MOST_TABLE_BYTES),
         Command::Report | Command::Certify(_) | Command::MakeTable(_) | Command::Generate { .. } =>
             None,
     }

@@ -27,11 +27,11 @@ ghost use Rattle.bench_commands.specs.Disks.{LeavesDisk};
 ghost use Rattle.bench_commands.specs.Solving.{OpeningsOf, roots_of_openings};
 
 use crate::commands::generate::{GENERATE_DEPTH, GENERATE_PIECES};
-use crate::commands::solve::GAMES_LIMIT;
-use crate::commands::verify::CERTIFICATE_LIMIT;
+use crate::commands::verify::MOST_CERTIFICATE_BYTES;
 use crate::running::run;
 use bench_disk::Disk;
 use bench_edges::{Command, Sink, Source, Status};
+use program_edges::MOST_GAMES_BYTES;
 use std::alloc::Global;
 use std::sync::Wait;
 use std::thread::Threads;
@@ -105,7 +105,7 @@ pub fn bench<R: Threads + Wait + Sync, S: Source, K: Sink, D: Disk + Send, G: Ga
     ensures words { (result.0 ≡ Status.Words)
         ↔ ((command : Command) → ¬ Says (texts words.now) command) }
     ensures accepted { (options : Options) → Says (texts words.now) (Command.Solve options)
-        → IfSome (S.left source.old) (λ text. length text ≤ GAMES_LIMIT
+        → IfSome (S.left source.old) (λ text. length text ≤ MOST_GAMES_BYTES
         → (all : List Opening) → OpeningsOf options.plies text all
         → HasRoom D.Disk options.pieces (roots_of_openings all) disk
         → IsUnrefused result.0) }
@@ -140,7 +140,7 @@ pub fn bench<R: Threads + Wait + Sync, S: Source, K: Sink, D: Disk + Send, G: Ga
         → ReadsRecords GENERATE_PIECES (D.reads disk) []
         → IsUnrefused result.0 × (result.0 ≢ Status.Unsolved) }
     ensures accepted_certificates { Says (texts words.now) Command.Verify
-        → IfSome (S.left source.old) (λ bytes. length bytes ≤ CERTIFICATE_LIMIT
+        → IfSome (S.left source.old) (λ bytes. length bytes ≤ MOST_CERTIFICATE_BYTES
         → (c : Certificate) → IsGood c → ReadsAs bytes c → IsUnrefused result.0) }
     ensures accepted_tables { Says (texts words.now) Command.TableCheck
         → IfSome (S.left source.old) (λ bytes. (k : ℕ) (numbers : List ℕ)
@@ -158,7 +158,7 @@ pub fn bench<R: Threads + Wait + Sync, S: Source, K: Sink, D: Disk + Send, G: Ga
         (K.faults sink.old) (K.faults sink.new) result.0 }
     // Of `learn`, with a good certificate.
     ensures accepted_lessons { Says (texts words.now) Command.Learn
-        → IfSome (S.left source.old) (λ bytes. length bytes ≤ CERTIFICATE_LIMIT
+        → IfSome (S.left source.old) (λ bytes. length bytes ≤ MOST_CERTIFICATE_BYTES
         → (c : Certificate) → IsGood c → ReadsAs bytes c → MayLearn D.Disk c disk
         → IsUnrefused result.0) }
     ensures taught { IsHonest D.TELLS → Says (texts words.now) Command.Learn

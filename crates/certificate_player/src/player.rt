@@ -1,4 +1,10 @@
 //! The player.
+ghost use Rattle.std.specs.Prelude.{◌≡◌, ◌↔◌, IsTrue, Some, map};
+ghost use Rattle.strategy_certificate.specs.Certificates.{claim_of, due_claims};
+ghost use Rattle.strategy_certificate.specs.Claims.{TellsHold};
+ghost use Rattle.certificate_player.specs.Plays.{own_part};
+ghost use Rattle.certificate_player.specs.Sides.{side_of};
+
 use crate::moves::chosen_move;
 use crate::ranks::{first_rank, next_rank};
 use certificate_checker::Proved;
@@ -42,12 +48,6 @@ impl Model for Player {
       rank = player.rank;
     }) };
 }
-
-ghost use Rattle.std.specs.Prelude.{◌≡◌, ◌↔◌, IsTrue, Some, map};
-ghost use Rattle.strategy_certificate.specs.Certificates.{claim_of, due_claims};
-ghost use Rattle.strategy_certificate.specs.Claims.{TellsHold};
-ghost use Rattle.certificate_player.specs.Plays.{own_part};
-ghost use Rattle.certificate_player.specs.Sides.{side_of};
 
 /// The claim says or implies that the side holds.
 fn tells_hold(claim: Claim, side: Side) -> bool

@@ -30,6 +30,6 @@ mod reader;
 mod refusal;
 
 pub use journal::{Journal, Receipt};
-pub use load::read_journal;
+pub use load::{MOST_FRESH, read_journal};
 pub use payload::Payload;
 pub use refusal::JournalRefusal;

@@ -19,7 +19,8 @@ use crate::refusal::JournalRefusal;
 use bench_disk::{Disk, DiskFault};
 use std::alloc::Global;
 
-const MOST_FRESH: u64 = 9;
+/// The most bytes of a file that is taken as a new journal, whatever they are.
+pub const MOST_FRESH: u64 = 9;
 
 /// Reads a journal on a disk without writing to it, and tells the pieces of its tables and its
 /// payloads, in order. A fresh disk, of at most 9 bytes, gives 2 and no payload.

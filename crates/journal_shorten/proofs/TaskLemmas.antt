@@ -4,8 +4,8 @@ use Rattle.std.proofs.Common.{List, ℕ, refl}
 use Rattle.std.specs.Prelude.{Err}
 use Rattle.bench_disk.specs.declared.disk.Disk.{Ghosts}
 use Rattle.bench_disk.specs.Disk.{IsHonest}
-use Rattle.bench_disk.specs.Runs.{OnlyLooks}
 use Rattle.bench_edges.specs.declared.words.WordsRefusal.{WordsRefusal}
+use Rattle.disk_journal.specs.Reads.{OnlyLooksAt}
 use Rattle.journal_shortening.proofs.OutcomeLemmas.{NowCounts, OnlyNow, no_call}
 use Rattle.journal_shorten.specs.Runs.{DoesTask, StaysThroughout}
 use Rattle.journal_shorten.specs.Words.{IsRefusedAt}
@@ -13,7 +13,7 @@ use Rattle.journal_shorten.specs.declared.refusals.ShortenRefusal.TheVariants.{W
 use Rattle.journal_shorten.specs.declared.words.Task.TheVariants.{Shorten, Which}
 
 module _ {D : Type 0} (g : Ghosts D) (honest : IsHonest g.TELLS) where
-  pub stays_looked : NowCounts g → (old new : D) → OnlyLooks g.reads g.images g.images_since g.moment old new → StaysThroughout g old new
+  pub stays_looked : NowCounts g → (old new : D) → OnlyLooksAt g old new → StaysThroughout g old new
   stays_looked now_counts old new looks = record {
     stays = record {
       same = looks.same;

@@ -5,11 +5,11 @@ use Rattle.shared_words.specs.Answers.{Unless}
 use Rattle.shared_words.specs.Counts.{Rose}
 use Rattle.bench_disk.specs.declared.disk.Disk.{Ghosts}
 use Rattle.bench_disk.specs.Disk.{IsHonest, NothingPending, Stays}
-use Rattle.bench_disk.specs.Runs.{OnlyLooks}
 use Rattle.bench_edges.specs.declared.sink.Sink.{Ghosts as SinkGhosts}
 use Rattle.bench_edges.specs.declared.status.Status.{Status}
 use Rattle.bench_edges.specs.declared.status.Status.TheVariants as status
 use Rattle.disk_journal.specs.Format.{IsFresh}
+use Rattle.disk_journal.specs.Reads.{OnlyLooksAt}
 use Rattle.journal_shortening.specs.Choices.{IsChosenBy}
 use Rattle.journal_shortening.specs.Outcomes.{IsShorter, LeavesNoneOrShorter}
 use Rattle.journal_shortening.specs.Refusals.{HasNoChoice, IsCause, says_nothing}
@@ -54,7 +54,7 @@ is_excused other = false
 -- and a crash since the run began might have left nothing else.
 pub record StaysThroughout {D : Type 0} (g : Ghosts D) (old new : D) : Type 0 where
   pub stays : Stays g.reads g.images old new
-  pub looks : OnlyLooks g.reads g.images g.images_since g.moment old new
+  pub looks : OnlyLooksAt g old new
 
 module _ {A B : Type 0} (a : Ghosts A) (b : Ghosts B) where
   -- The second journal stands for the first, whole and with nothing pending, and these are their numbers.

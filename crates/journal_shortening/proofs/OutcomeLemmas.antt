@@ -3,9 +3,10 @@ use Rattle.std.proofs.Common.{◌≡◌, ◌≤◌, ◌<◌, ◌⊎◌, ⊎_elim
 use Rattle.std.proofs.lemmas.List.{length-map}
 use Rattle.bench_disk.specs.declared.disk.Disk.{Ghosts}
 use Rattle.bench_disk.specs.Disk.{IsHonest, NothingPending}
-use Rattle.bench_disk.specs.Runs.{Leaves, OnlyLooks, leaves_none, leaves_then, leaves_weaker}
+use Rattle.bench_disk.specs.Runs.{Leaves, leaves_none, leaves_then, leaves_weaker}
 use Rattle.disk_journal.specs.Format.{HasPayloads, IsFresh, StandsForEither}
 use Rattle.disk_journal.specs.Log.{StaysOrFresh}
+use Rattle.disk_journal.specs.Reads.{OnlyLooksAt}
 use Rattle.proof_tree.specs.Forest.{Forest, Node, no_node, nodes, value_of}
 use Rattle.bench_records.specs.declared.records.BenchRecord.{BenchRecord}
 use Rattle.bench_core.specs.Growing.{IsForestOf}
@@ -102,7 +103,7 @@ module _ {D : Type 0} (g : Ghosts D) where
       by image (inr both) = both.1
 
   -- a disk that is only looked at
-  pub looks_fresh : (into mid : D) → NothingPending (g.reads into) (g.images into) → IsFresh (g.reads into) → OnlyLooks g.reads g.images g.images_since g.moment into mid
+  pub looks_fresh : (into mid : D) → NothingPending (g.reads into) (g.images into) → IsFresh (g.reads into) → OnlyLooksAt g into mid
       → Leaves g.moment g.images_since into mid IsFresh
   looks_fresh into mid none fresh looks =
       leaves_weaker g.moment g.images_since into mid (g.images into) IsFresh (λ image was. subst IsFresh (sym (none image was)) fresh) looks.run
@@ -142,13 +143,13 @@ module _ {D : Type 0} (g : Ghosts D) (honest : IsHonest g.TELLS) (earlier_counts
 
 module _ {D : Type 0} (g : Ghosts D) (honest : IsHonest g.TELLS) where
   -- nothing was pending before looks, nor is behind them
-  pub looks_settled : NowCounts g → (into mid : D) → NothingPending (g.reads into) (g.images into) → OnlyLooks g.reads g.images g.images_since g.moment into mid → NothingPending (g.reads mid) (g.images mid)
+  pub looks_settled : NowCounts g → (into mid : D) → NothingPending (g.reads into) (g.images into) → OnlyLooksAt g into mid → NothingPending (g.reads mid) (g.images mid)
   looks_settled now_counts into mid none looks image now =
       let run = looks.run in
       none image (run.each image (now_counts mid (g.moment into) image honest run.later now)) ∙ sym looks.same
 
   -- by no call
-  pub no_call : OnlyNow g → (into : D) → OnlyLooks g.reads g.images g.images_since g.moment into into
+  pub no_call : OnlyNow g → (into : D) → OnlyLooksAt g into into
   no_call only_now into = record {
     same = refl;
     run = leaves_none g.moment g.images_since into (g.images into) (λ image since. only_now into image honest since);

@@ -3,9 +3,8 @@ ghost use Rattle.std.specs.Prelude.{◌≡◌, ◌≤◌, ◌<◌, true, length,
 ghost use Rattle.shared_words.specs.Answers.{Unless};
 ghost use Rattle.shared_words.specs.Counts.{Rose};
 ghost use Rattle.bench_disk.specs.Disk.{IsHonest, NothingPending};
-ghost use Rattle.bench_disk.specs.Runs.{OnlyLooks};
 ghost use Rattle.disk_journal.specs.Format.{IsFresh};
-ghost use Rattle.disk_journal.specs.Reads.{OnlyReads};
+ghost use Rattle.disk_journal.specs.Reads.{OnlyLooksAt, OnlyReads};
 ghost use Rattle.journal_shortening.specs.Outcomes.{IsShorter, LeavesNoneOrShorter};
 ghost use Rattle.journal_shortening.specs.Refusals.{Explains, IsCause, is_of_from, says_nothing};
 ghost use Rattle.journal_shortening.specs.declared.refusals.CompactRefusal.{CompactRefusal as Cause};
@@ -49,7 +48,7 @@ pub fn compact<A: Disk, B: Disk>(
     // A disk that is not fresh is refused and not written, and none is asked for anything before the
     // old journal is read.
     ensures unwritten { IsHonest B.TELLS → 9 < length (B.reads into) →
-        IsErrAnd result (λ e. OnlyLooks B.reads B.images B.images_since B.moment into e.0) }
+        IsErrAnd result (λ e. OnlyLooksAt B.Disk into e.0) }
     ensures unasked { IfErr result (λ e. is_of_from e.1 ≡ true → e.0 ≡ into) }
 
     // Each refusal comes exactly for its cause, unless a disk failed or memory ran out.

@@ -12,11 +12,8 @@ ghost use Rattle.journal_shortening.specs.Refusals.{is_of_from, says_nothing};
 
 use crate::refusals::CompactRefusal;
 use bench_disk::Disk;
-use disk_journal::{Journal, JournalRefusal};
+use disk_journal::{Journal, JournalRefusal, MOST_FRESH};
 use std::alloc::Global;
-
-/// The most bytes of a disk that is taken as a new journal, whatever they are.
-const MOST_FRESH: u64 = 9;
 
 /// Refuses a disk that is not fresh. It writes nothing to it.
 pub(crate) fn expect_fresh<B: Disk>(into: &mut B) -> Result<(), CompactRefusal>

@@ -11,7 +11,7 @@ use Rattle.pdn_text.specs.Pdn.{Reads, Refused}
 use Rattle.pdn_text.specs.declared.game.Game.{Game}
 use Rattle.pdn_text.specs.declared.refusal.PdnRefusal.{PdnRefusal}
 use Rattle.program_edges.specs.Sources.{IsCutShort, IsInput}
-use Rattle.journal_view.specs.declared.games.TheConstants.{GAMES_LIMIT}
+use Rattle.program_edges.specs.declared.sources.TheConstants.{MOST_GAMES_BYTES}
 use Rattle.view_words.specs.declared.requests.Request.{Request}
 use Rattle.view_words.specs.declared.requests.Request.TheVariants.{Roots, Line, Tree, Page, Records}
 use Rattle.view_words.specs.declared.requests.TheConstants.{MOST_PLAYED}
@@ -37,13 +37,13 @@ HasGamesFault plies text r =
 -- the games of a source, which was read to its end
 abbrev pub OpensSource : ℕ → Option (List ℕ) → Opened → Type 0
 OpensSource plies source opened =
-    (text : List ℕ) × (IsInput (Some GAMES_LIMIT) source text × OpensGames plies text opened)
+    (text : List ℕ) × (IsInput (Some MOST_GAMES_BYTES) source text × OpensGames plies text opened)
 
 -- The source was cut short; or it was read, and memory ran out or its text has no openings.
 abbrev pub IsRefusedSource : ℕ → Option (List ℕ) → Option (List ℕ) → ℕ → ℕ → Refusal → Type 0
 IsRefusedSource plies source rest before after r =
-    IsCutShort (Some GAMES_LIMIT) source rest before after r
-    ⊎ ((text : List ℕ) × (IsInput (Some GAMES_LIMIT) source text
+    IsCutShort (Some MOST_GAMES_BYTES) source rest before after r
+    ⊎ ((text : List ℕ) × (IsInput (Some MOST_GAMES_BYTES) source text
     × ((r ≡ refusal.Memory) ⊎ HasGamesFault plies text r)))
 
 -- ---- by what is asked

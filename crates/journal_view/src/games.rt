@@ -8,12 +8,9 @@ use opened_games::OpenedGames;
 use opening_report::Refusal;
 use pdn_openings::openings;
 use pdn_text::read_games;
-use program_edges::{hand_back, read_source};
+use program_edges::{MOST_GAMES_BYTES, hand_back, read_source};
 use std::alloc::Global;
 use view_words::{MOST_PLAYED, Request};
-
-/// The longest source of games, in bytes, as of `opening_bench PATH solve`.
-pub const GAMES_LIMIT: usize = 16_777_216;
 
 /// The games of a text with their openings after this number of plies.
 fn opened_in(alloc: Global, plies: u32, text: &[u8]) -> Result<OpenedGames, Refusal>
@@ -33,9 +30,9 @@ fn read_opened<S: Source>(alloc: Global, plies: u32, source: &mut S) -> Result<O
     ensures refused { IfErr result (IsRefusedSource plies (S.left source.old) (S.left source.new)
         (S.faults source.old) (S.faults source.new)) }
 {
-    let text = read_source(alloc, Some(GAMES_LIMIT), source)?;
+    let text = read_source(alloc, Some(MOST_GAMES_BYTES), source)?;
     let opened = opened_in(alloc, plies, &text);
-    hand_back(Some(GAMES_LIMIT), text, source);
+    hand_back(Some(MOST_GAMES_BYTES), text, source);
     opened
 }
 

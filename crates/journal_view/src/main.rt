@@ -31,7 +31,6 @@ mod usage;
 use bench_disk::{Access, FileDisk};
 use bench_edges::{MemorySource, Source, StdSink, StdSource};
 pub use ended::Ended;
-pub use games::GAMES_LIMIT;
 pub use lines::DRAWN_PLIES;
 use program_edges::{KeepingSource, PathDisk, Standards, args, print, told, words_of};
 pub use running::{run, view};

@@ -31,6 +31,6 @@ pub use keeping_sink::KeepingSink;
 pub use keeping_source::KeepingSource;
 pub use path_disk::PathDisk;
 pub use refused::Refused;
-pub use sources::{hand_back, read_source};
+pub use sources::{MOST_GAMES_BYTES, hand_back, read_source};
 pub use standard_streams::{print, tell};
 pub use standards::Standards;

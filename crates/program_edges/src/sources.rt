@@ -8,6 +8,9 @@ use bench_edges::{Source, read_to_limit};
 use opening_report::Refusal;
 use std::alloc::Global;
 
+/// The longest source of games that a program reads, in bytes.
+pub const MOST_GAMES_BYTES: usize = 16_777_216;
+
 /// Reads all that is left of the source, of which at most `limit` bytes may be left; nothing where
 /// there is no limit, for a run that reads no source. Answers `TooLong` behind one byte more,
 /// `Read` where the source failed, and `Memory`.

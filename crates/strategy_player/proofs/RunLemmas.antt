@@ -31,7 +31,7 @@ use Rattle.strategy_player.specs.Runs.{AcceptsRoot, AnswersCauses, HandsOut, Has
 use Rattle.strategy_player.specs.Words.{IsRefusedAt, Says}
 use Rattle.strategy_player.specs.declared.refusals.PlayRefusal.{PlayRefusal}
 use Rattle.strategy_player.specs.declared.refusals.PlayRefusal.TheVariants.{Run, NotHeld, Line}
-use Rattle.strategy_player.specs.declared.running.TheConstants.{SOURCE_LIMIT}
+use Rattle.strategy_player.specs.declared.running.TheConstants.{MOST_SOURCE_BYTES}
 
 -- ---- statuses
 
@@ -164,27 +164,27 @@ module _ {D : Type 0} (g : Ghosts D) where
 
 -- of each text within the limit that the source tells
 map_source : (o : Option (List ℕ)) (P : Type 0) (Q : List ℕ → Type 0) → ((text : List ℕ) → P → Q text)
-    → IfSome o (λ text. length text ≤ SOURCE_LIMIT → P) → IfSome o (λ text. length text ≤ SOURCE_LIMIT → Q text)
+    → IfSome o (λ text. length text ≤ MOST_SOURCE_BYTES → P) → IfSome o (λ text. length text ≤ MOST_SOURCE_BYTES → Q text)
 map_source None P Q f h = tt
 map_source (Some text) P Q f h = λ fits. f text (h fits)
 
-any_source : (o : Option (List ℕ)) (Q : List ℕ → Type 0) → ((text : List ℕ) → Q text) → IfSome o (λ text. length text ≤ SOURCE_LIMIT → Q text)
+any_source : (o : Option (List ℕ)) (Q : List ℕ → Type 0) → ((text : List ℕ) → Q text) → IfSome o (λ text. length text ≤ MOST_SOURCE_BYTES → Q text)
 any_source None Q h = tt
 any_source (Some text) Q h = λ fits. h text
 
-long_source : (o : Option (List ℕ)) (most : ℕ) → Some SOURCE_LIMIT ≡ Some most → IfSome o (λ told. most < length told)
-    → (P : Type 0) → IfSome o (λ text. length text ≤ SOURCE_LIMIT → P)
+long_source : (o : Option (List ℕ)) (most : ℕ) → Some MOST_SOURCE_BYTES ≡ Some most → IfSome o (λ told. most < length told)
+    → (P : Type 0) → IfSome o (λ text. length text ≤ MOST_SOURCE_BYTES → P)
 long_source None most is long P = tt
-long_source (Some text) most is long P = λ fits. (let e : SOURCE_LIMIT ≡ most = cc in absurd (omega (arith, e, long, fits)))
+long_source (Some text) most is long P = λ fits. (let e : MOST_SOURCE_BYTES ≡ most = cc in absurd (omega (arith, e, long, fits)))
 
 -- A source that was cut short: what the status says of it.
 record OfCut (source : Option (List ℕ)) (before after : ℕ) (status : Status) : Type 0 where
   words : status ≢ Words
   fault : status ≢ Disk
   read : status ≡ Read → Rose before after
-  excused : IfSome source (λ text. length text ≤ SOURCE_LIMIT → is_excused status ≡ true)
+  excused : IfSome source (λ text. length text ≤ MOST_SOURCE_BYTES → is_excused status ≡ true)
 
-cut_status : (source rest : Option (List ℕ)) (before after : ℕ) (r : Refusal) → IsCutShort (Some SOURCE_LIMIT) source rest before after r → OfCut source before after (status_of r)
+cut_status : (source rest : Option (List ℕ)) (before after : ℕ) (r : Refusal) → IsCutShort (Some MOST_SOURCE_BYTES) source rest before after r → OfCut source before after (status_of r)
 cut_status source rest before after r (inl memory) =
     subst (λ (x : Refusal). OfCut source before after (status_of x)) (sym memory)
     (record { words = λ e. cc; fault = λ e. cc; read = λ e. cc; excused = any_source source (λ text. is_excused Memory ≡ true) (λ text. refl) })
@@ -259,7 +259,7 @@ module _ {S K D : Type 0} (s : SourceGhosts S) (k : SinkGhosts K) (g : Ghosts D)
   module _ (root : ℕ) (side : Side) (says : Says words root side) (once : (m : ℕ) (t : Side) → Says words m t → (root ≡ m) × (side ≡ t)) where
     -- the source was cut short
     pub why_no_source : (cause : Refusal) (source rest : S) (before after : K) (old : D) (status : Status)
-        → IsCutShort (Some SOURCE_LIMIT) (s.left source) (s.left rest) (s.faults source) (s.faults rest) cause → status ≡ status_of cause
+        → IsCutShort (Some MOST_SOURCE_BYTES) (s.left source) (s.left rest) (s.faults source) (s.faults rest) cause → status ≡ status_of cause
         → TakesLine (refusal_text cause) (k.taken before) (k.taken after) (k.faults before) (k.faults after)
         → IsRefusedRun s k g words source rest before after old old status
     why_no_source cause source rest before after old status cut is line = record {
@@ -270,7 +270,7 @@ module _ {S K D : Type 0} (s : SourceGhosts S) (k : SinkGhosts K) (g : Ghosts D)
     }
 
     pub hands_no_source : (cause : Refusal) (source rest : S) (before after : K) (old : D) (status : Status) (handed : Option PlayRefusal)
-        → IsCutShort (Some SOURCE_LIMIT) (s.left source) (s.left rest) (s.faults source) (s.faults rest) cause → status ≡ status_of cause
+        → IsCutShort (Some MOST_SOURCE_BYTES) (s.left source) (s.left rest) (s.faults source) (s.faults rest) cause → status ≡ status_of cause
         → TakesLine (refusal_text cause) (k.taken before) (k.taken after) (k.faults before) (k.faults after) → handed ≡ Some (Run cause)
         → HandsOut s k g words source rest before after old old status handed
     unfolding why_no_source
@@ -278,8 +278,8 @@ module _ {S K D : Type 0} (s : SourceGhosts S) (k : SinkGhosts K) (g : Ghosts D)
         hands_why source rest before after old old status handed (why_no_source cause source rest before after old status cut is line) same
 
     pub runs_no_source : (cause : Refusal) (source rest : S) (before after : K) (old : D) (status : Status)
-        → IsCutShort (Some SOURCE_LIMIT) (s.left source) (s.left rest) (s.faults source) (s.faults rest) cause
-        → ConsumesAtMost (SOURCE_LIMIT + 1) (s.left source) (s.left rest) → status ≡ status_of cause
+        → IsCutShort (Some MOST_SOURCE_BYTES) (s.left source) (s.left rest) (s.faults source) (s.faults rest) cause
+        → ConsumesAtMost (MOST_SOURCE_BYTES + 1) (s.left source) (s.left rest) → status ≡ status_of cause
         → TakesLine (refusal_text cause) (k.taken before) (k.taken after) (k.faults before) (k.faults after)
         → RunsPlay s k g words source rest before after old old status
     runs_no_source cause source rest before after old status cut front is line =
@@ -303,8 +303,8 @@ module _ {S K D : Type 0} (s : SourceGhosts S) (k : SinkGhosts K) (g : Ghosts D)
           unread = λ e. absurd (of.words e);
         })
       where
-        excused : (r : PlayRefusal) → IfSome (s.left source) (λ text. length text ≤ SOURCE_LIMIT → is_excused (status_of cause) ≡ true)
-            → IfSome (s.left source) (λ text. length text ≤ SOURCE_LIMIT → IsRefusedFor r (k.taken before) (k.taken after) (k.faults before) (k.faults after) (status_of cause))
+        excused : (r : PlayRefusal) → IfSome (s.left source) (λ text. length text ≤ MOST_SOURCE_BYTES → is_excused (status_of cause) ≡ true)
+            → IfSome (s.left source) (λ text. length text ≤ MOST_SOURCE_BYTES → IsRefusedFor r (k.taken before) (k.taken after) (k.faults before) (k.faults after) (status_of cause))
         excused r = map_source (s.left source) (is_excused (status_of cause) ≡ true)
             (λ text. IsRefusedFor r (k.taken before) (k.taken after) (k.faults before) (k.faults after) (status_of cause))
             (λ text. excuse r (k.taken before) (k.taken after) (k.faults before) (k.faults after) (status_of cause))
@@ -320,7 +320,7 @@ module _ {S K D : Type 0} (s : SourceGhosts S) (k : SinkGhosts K) (g : Ghosts D)
 
     -- the play is written
     pub runs_play : {T : Type 0} (value : T) (input text : List ℕ) (settled : Bool) (source rest : S) (before after : K) (old new : D) (status : Status)
-        → IsInput (Some SOURCE_LIMIT) (s.left source) input → IsAtEnd (s.left rest) → ConsumesAtMost (SOURCE_LIMIT + 1) (s.left source) (s.left rest)
+        → IsInput (Some MOST_SOURCE_BYTES) (s.left source) input → IsAtEnd (s.left rest) → ConsumesAtMost (MOST_SOURCE_BYTES + 1) (s.left source) (s.left rest)
         → Shows g root side input old text → settled ≡ true → AnswersCauses g root side old (Ok value) → (IsHonest g.TELLS → Stays g.reads g.images old new)
         → TakesOutput status text settled (k.taken before) (k.taken after) → (status ≡ Write → Rose (k.faults before) (k.faults after))
         → RunsPlay s k g words source rest before after old new status
@@ -361,7 +361,7 @@ module _ {S K D : Type 0} (s : SourceGhosts S) (k : SinkGhosts K) (g : Ghosts D)
 
     -- the root, or a line, is refused
     pub why_refused : (r : PlayRefusal) (input : List ℕ) (source rest : S) (before after : K) (old new : D) (status : Status)
-        → IsInput (Some SOURCE_LIMIT) (s.left source) input → IsAtEnd (s.left rest) → s.faults rest ≡ s.faults source
+        → IsInput (Some MOST_SOURCE_BYTES) (s.left source) input → IsAtEnd (s.left rest) → s.faults rest ≡ s.faults source
         → IsRefusedRoot g root side input old new r
         → status ≡ play_status r → TakesLine (play_text r) (k.taken before) (k.taken after) (k.faults before) (k.faults after)
         → IsRefusedRun s k g words source rest before after old new status
@@ -373,7 +373,7 @@ module _ {S K D : Type 0} (s : SourceGhosts S) (k : SinkGhosts K) (g : Ghosts D)
     }
 
     pub runs_refused : {T : Type 0} (r : PlayRefusal) (input : List ℕ) (source rest : S) (before after : K) (old new : D) (status : Status)
-        → IsInput (Some SOURCE_LIMIT) (s.left source) input → IsAtEnd (s.left rest) → s.faults rest ≡ s.faults source → ConsumesAtMost (SOURCE_LIMIT + 1) (s.left source) (s.left rest)
+        → IsInput (Some MOST_SOURCE_BYTES) (s.left source) input → IsAtEnd (s.left rest) → s.faults rest ≡ s.faults source → ConsumesAtMost (MOST_SOURCE_BYTES + 1) (s.left source) (s.left rest)
         → IsRefusedRoot g root side input old new r → AnswersCauses g {T = T} root side old (Err r) → AcceptsRoot g {T = T} root side input old (Err r)
         → (IsHonest g.TELLS → Stays g.reads g.images old new)
         → status ≡ play_status r → TakesLine (play_text r) (k.taken before) (k.taken after) (k.faults before) (k.faults after)
@@ -387,7 +387,7 @@ module _ {S K D : Type 0} (s : SourceGhosts S) (k : SinkGhosts K) (g : Ghosts D)
           solved = not_unsolved (play_status r) (refuses r);
           asked = (λ e. absurd (of.words e), λ none. absurd (none root side says));
           looked = λ m t said honest cause has. for_cause (of_journal_look cause) (causes.looked honest cause (looked_root m t said old cause has));
-          lost = λ m t said honest worth. subst (λ u. IfSome (s.left source) (λ text. length text ≤ SOURCE_LIMIT → IsRefusedFor (NotHeld u) (k.taken before) (k.taken after) (k.faults before) (k.faults after) (play_status r))) (once m t said).1
+          lost = λ m t said honest worth. subst (λ u. IfSome (s.left source) (λ text. length text ≤ MOST_SOURCE_BYTES → IsRefusedFor (NotHeld u) (k.taken before) (k.taken after) (k.faults before) (k.faults after) (play_status r))) (once m t said).1
               (for_cause (NotHeld side) (causes.lost honest (lost_root m t said old worth)));
           accepted = λ m t said honest settled held. by (s.left source) is_input m t said honest settled held;
           read = λ e. absurd (of.read e);
@@ -399,7 +399,7 @@ module _ {S K D : Type 0} (s : SourceGhosts S) (k : SinkGhosts K) (g : Ghosts D)
         })
       where
         for_cause : (x : PlayRefusal) → OnFalse (says_nothing r) (◌≡◌ {A = Result T PlayRefusal} (Err r) (Err x))
-            → IfSome (s.left source) (λ text. length text ≤ SOURCE_LIMIT → IsRefusedFor x (k.taken before) (k.taken after) (k.faults before) (k.faults after) (play_status r))
+            → IfSome (s.left source) (λ text. length text ≤ MOST_SOURCE_BYTES → IsRefusedFor x (k.taken before) (k.taken after) (k.faults before) (k.faults after) (play_status r))
         for_cause x same = any_source (s.left source) (λ text. IsRefusedFor x (k.taken before) (k.taken after) (k.faults before) (k.faults after) (play_status r))
             (λ text. named T (k.taken before) (k.taken after) (k.faults before) (k.faults after) r x line same)
 
@@ -410,9 +410,9 @@ module _ {S K D : Type 0} (s : SourceGhosts S) (k : SinkGhosts K) (g : Ghosts D)
             (subst (λ u. IsHonest g.TELLS → (settled : HasSettledRoot (g.reads old) root) → (settled.value ≡ won_by (other u) → ⊥) → RefusesNoLine (g.reads old) root u input → says_nothing r ≡ true) alike
             accepts)
 
-        by : (o : Option (List ℕ)) → IsInput (Some SOURCE_LIMIT) o input → (m : ℕ) (t : Side) → Says words m t → IsHonest g.TELLS
+        by : (o : Option (List ℕ)) → IsInput (Some MOST_SOURCE_BYTES) o input → (m : ℕ) (t : Side) → Says words m t → IsHonest g.TELLS
             → (settled : HasSettledRoot (g.reads old) m) → (settled.value ≡ won_by (other t) → ⊥)
-            → IfSome o (λ text. length text ≤ SOURCE_LIMIT → RefusesNoLine (g.reads old) m t text → (play_status r ≢ Input) × (play_status r ≢ Journal))
+            → IfSome o (λ text. length text ≤ MOST_SOURCE_BYTES → RefusesNoLine (g.reads old) m t text → (play_status r ≢ Input) × (play_status r ≢ Journal))
         by None input_is m t said honest settled held = tt
         by (Some text) input_is m t said honest settled held = λ fits none.
             (let same = once m t said in
@@ -420,8 +420,8 @@ module _ {S K D : Type 0} (s : SourceGhosts S) (k : SinkGhosts K) (g : Ghosts D)
 
     -- the play is written, or refused
     pub answered : {answer : Result Written PlayRefusal} {seen bytes : List ℕ} {source middle rest : S} {before after : K} {old new : D} {status : Status} {handed : Option PlayRefusal}
-        → seen ≡ bytes → IsInput (Some SOURCE_LIMIT) (s.left source) bytes → (IsSome (Some SOURCE_LIMIT) → IsAtEnd (s.left middle)) → s.faults middle ≡ s.faults source
-        → ConsumesAtMost (SOURCE_LIMIT + 1) (s.left source) (s.left middle) → s.left rest ≡ s.left middle → s.faults rest ≡ s.faults middle
+        → seen ≡ bytes → IsInput (Some MOST_SOURCE_BYTES) (s.left source) bytes → (IsSome (Some MOST_SOURCE_BYTES) → IsAtEnd (s.left middle)) → s.faults middle ≡ s.faults source
+        → ConsumesAtMost (MOST_SOURCE_BYTES + 1) (s.left source) (s.left middle) → s.left rest ≡ s.left middle → s.faults rest ≡ s.faults middle
         → IfOk answer (λ w. Shows g root side seen old w.text.items) → IfOk answer (λ w. w.is_settled ≡ true) → IfErr answer (IsRefusedRoot g root side seen old new)
         → AnswersCauses g root side old answer → AcceptsRoot g root side seen old answer → (IsHonest g.TELLS → Stays g.reads g.images old new)
         → IfOk answer (λ w. TakesOutput status w.text.items w.is_settled (k.taken before) (k.taken after)) → OnOk answer (status ≡ Write → Rose (k.faults before) (k.faults after))
@@ -430,16 +430,16 @@ module _ {S K D : Type 0} (s : SourceGhosts S) (k : SinkGhosts K) (g : Ghosts D)
         → RunsPlay s k g words source rest before after old new status × HandsOut s k g words source rest before after old new status handed
     unfolding why_refused
     answered {answer = Ok w} {seen} {bytes} {source} {middle} {rest} {before} {after} {old} {new} {status} {handed} same input end counted front left faults shows settled refused causes accepts leaves taken write is line none some =
-        let is_input : IsInput (Some SOURCE_LIMIT) (s.left source) seen = subst (IsInput (Some SOURCE_LIMIT) (s.left source)) (sym same) input in
+        let is_input : IsInput (Some MOST_SOURCE_BYTES) (s.left source) seen = subst (IsInput (Some MOST_SOURCE_BYTES) (s.left source)) (sym same) input in
         let at_end : IsAtEnd (s.left rest) = subst IsAtEnd (sym left) (end refl) in
-        let in_front : ConsumesAtMost (SOURCE_LIMIT + 1) (s.left source) (s.left rest) = subst (ConsumesAtMost (SOURCE_LIMIT + 1) (s.left source)) (sym left) front in (
+        let in_front : ConsumesAtMost (MOST_SOURCE_BYTES + 1) (s.left source) (s.left rest) = subst (ConsumesAtMost (MOST_SOURCE_BYTES + 1) (s.left source)) (sym left) front in (
           runs_play w seen w.text.items w.is_settled source rest before after old new status is_input at_end in_front shows settled causes leaves taken write,
           hands_play w.text.items w.is_settled source rest before after old new status handed settled taken none,
         )
     answered {answer = Err r} {seen} {bytes} {source} {middle} {rest} {before} {after} {old} {new} {status} {handed} same input end counted front left faults shows settled refused causes accepts leaves taken write is line none some =
-        let is_input : IsInput (Some SOURCE_LIMIT) (s.left source) seen = subst (IsInput (Some SOURCE_LIMIT) (s.left source)) (sym same) input in
+        let is_input : IsInput (Some MOST_SOURCE_BYTES) (s.left source) seen = subst (IsInput (Some MOST_SOURCE_BYTES) (s.left source)) (sym same) input in
         let at_end : IsAtEnd (s.left rest) = subst IsAtEnd (sym left) (end refl) in
-        let in_front : ConsumesAtMost (SOURCE_LIMIT + 1) (s.left source) (s.left rest) = subst (ConsumesAtMost (SOURCE_LIMIT + 1) (s.left source)) (sym left) front in (
+        let in_front : ConsumesAtMost (MOST_SOURCE_BYTES + 1) (s.left source) (s.left rest) = subst (ConsumesAtMost (MOST_SOURCE_BYTES + 1) (s.left source)) (sym left) front in (
           runs_refused {T = Written} r seen source rest before after old new status is_input at_end (faults ∙ counted) in_front refused causes accepts leaves is line,
           hands_why source rest before after old new status handed (why_refused r seen source rest before after old new status is_input at_end (faults ∙ counted) refused is line) some,
         )

@@ -37,7 +37,7 @@ use Rattle.strategy_player.specs.Refusals.{of_journal_look, of_play, play_status
 use Rattle.strategy_player.specs.Words.{IsRefusedAt, Says}
 use Rattle.strategy_player.specs.declared.refusals.PlayRefusal.{PlayRefusal}
 use Rattle.strategy_player.specs.declared.refusals.PlayRefusal.TheVariants.{Run, NotHeld}
-use Rattle.strategy_player.specs.declared.running.TheConstants.{SOURCE_LIMIT}
+use Rattle.strategy_player.specs.declared.running.TheConstants.{MOST_SOURCE_BYTES}
 
 -- ---- statuses
 
@@ -164,14 +164,14 @@ module _ {D : Type 0} (g : Ghosts D) where
       (old new : D) (r : PlayRefusal) : Type 0 where
     pub cause : Refusal
     pub is : r ≡ Run cause
-    pub cut : IsCutShort (Some SOURCE_LIMIT) source rest read_before read_after cause
+    pub cut : IsCutShort (Some MOST_SOURCE_BYTES) source rest read_before read_after cause
     pub unused : new ≡ old
 
   -- behind the source, which was read to its end, the root or the play is refused
   pub record IsRefusedPlay (root : ℕ) (side : Side) (source rest : Option (List ℕ))
       (read_before read_after : ℕ) (old new : D) (r : PlayRefusal) : Type 0 where
     pub input : List ℕ
-    pub is_input : IsInput (Some SOURCE_LIMIT) source input
+    pub is_input : IsInput (Some MOST_SOURCE_BYTES) source input
     pub end : IsAtEnd rest
     pub counted : read_after ≡ read_before
     pub why : IsRefusedRoot root side input old new r
@@ -198,7 +198,7 @@ module _ {S K D : Type 0} (s : SourceGhosts S) (k : SinkGhosts K) (g : Ghosts D)
     pub side : Side
     pub says : Says words root side
     pub input : List ℕ
-    pub is_input : IsInput (Some SOURCE_LIMIT) (s.left source) input
+    pub is_input : IsInput (Some MOST_SOURCE_BYTES) (s.left source) input
     pub text : List ℕ
     pub shows : Shows g root side input old text
     pub taken : TakesOutput status text true (k.taken before) (k.taken after)
@@ -231,19 +231,19 @@ module _ {S K D : Type 0} (s : SourceGhosts S) (k : SinkGhosts K) (g : Ghosts D)
     -- for that, where the source is within its limit.
     pub looked : (root : ℕ) (side : Side) → Says words root side → IsHonest g.TELLS
         → (cause : LookRefusal) → HasNoCertificate (g.reads old) root cause
-        → IfSome (s.left source) (λ text. length text ≤ SOURCE_LIMIT
+        → IfSome (s.left source) (λ text. length text ≤ MOST_SOURCE_BYTES
         → IsRefusedFor (of_journal_look cause) (k.taken before) (k.taken after) (k.faults before)
         (k.faults after) status)
     pub lost : (root : ℕ) (side : Side) → Says words root side → IsHonest g.TELLS
         → HasRootWorth (g.reads old) root (won_by (other side))
-        → IfSome (s.left source) (λ text. length text ≤ SOURCE_LIMIT
+        → IfSome (s.left source) (λ text. length text ≤ MOST_SOURCE_BYTES
         → IsRefusedFor (NotHeld side) (k.taken before) (k.taken after) (k.faults before)
         (k.faults after) status)
     -- A root with a value that is not the other side's win, and a source within its limit of which no
     -- line is refused, are not refused.
     pub accepted : (root : ℕ) (side : Side) → Says words root side → IsHonest g.TELLS
         → (settled : HasSettledRoot (g.reads old) root) → (settled.value ≡ won_by (other side) → ⊥)
-        → IfSome (s.left source) (λ text. length text ≤ SOURCE_LIMIT
+        → IfSome (s.left source) (λ text. length text ≤ MOST_SOURCE_BYTES
         → RefusesNoLine (g.reads old) root side text → (status ≢ Input) × (status ≢ Journal))
     -- each failure shows in a count of faults
     pub read : status ≡ Read → Rose (s.faults source) (s.faults rest)
@@ -252,7 +252,7 @@ module _ {S K D : Type 0} (s : SourceGhosts S) (k : SinkGhosts K) (g : Ghosts D)
     -- what is left of the source: nothing behind a play, and all where the words ask for none
     pub all_read : Reports status → IsAtEnd (s.left rest)
     pub front : (root : ℕ) (side : Side) → Says words root side
-        → ConsumesAtMost (SOURCE_LIMIT + 1) (s.left source) (s.left rest)
+        → ConsumesAtMost (MOST_SOURCE_BYTES + 1) (s.left source) (s.left rest)
     pub unread : status ≡ Words → (rest ≡ source) × (new ≡ old)
 
   -- What a run hands out beside its status: the refusal for which it is refused, and none where it

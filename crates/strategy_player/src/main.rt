@@ -30,7 +30,7 @@ pub use certificate_player::Player;
 pub use ended::Ended;
 use program_edges::{KeepingSource, PathDisk, Standards, args, print, told, words_of};
 pub use refusals::PlayRefusal;
-pub use running::{SOURCE_LIMIT, play, run};
+pub use running::{MOST_SOURCE_BYTES, play, run};
 use std::io;
 use std::process::ExitCode;
 use telling::{tell_of, tell_of_disk};

@@ -18,7 +18,7 @@ use program_edges::{hand_back, read_source, refuse, write_answer};
 use std::alloc::Global;
 
 /// The longest source, in bytes.
-pub const SOURCE_LIMIT: usize = 1_048_576;
+pub const MOST_SOURCE_BYTES: usize = 1_048_576;
 
 /// Writes the line of a refusal that comes before the play.
 fn refused<K: Sink>(cause: Refusal, sink: &mut K) -> Ended
@@ -53,13 +53,13 @@ pub fn run<S: Source, K: Sink, D: Disk>(
         Ok(request) => request,
         Err(cause) => return (refused(Refusal::from(cause), sink), disk),
     };
-    let bytes = match read_source(alloc, Some(SOURCE_LIMIT), source) {
+    let bytes = match read_source(alloc, Some(MOST_SOURCE_BYTES), source) {
         Ok(bytes) => bytes,
         Err(cause) => return (refused(cause, sink), disk),
     };
     let mut disk = disk;
     let answer = played_root(alloc, request, &bytes, &mut disk);
-    hand_back(Some(SOURCE_LIMIT), bytes, source);
+    hand_back(Some(MOST_SOURCE_BYTES), bytes, source);
     let (status, refusal) = write_answer(answer, sink);
     (Ended { status, refusal }, disk)
 }

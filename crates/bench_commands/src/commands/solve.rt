@@ -24,9 +24,6 @@ use std::sync::Wait;
 use std::thread::Threads;
 use worker_gate::Gate;
 
-/// The longest source that `solve` reads, in bytes.
-pub const GAMES_LIMIT: usize = 16_777_216;
-
 /// The distinct positions of the openings, each at its first place.
 fn distinct_positions(alloc: Global, openings: &[Opening]) -> Result<IndexSet<Position>, AllocError>
     ensures { IfOk result (λ positions. positions.keys ≡ roots_of_openings openings.now) }

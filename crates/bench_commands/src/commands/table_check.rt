@@ -12,7 +12,7 @@ use std::alloc::{AllocError, Global};
 use table_checker::check_table;
 
 /// The longest source that `table-check` reads, in bytes.
-pub const TABLE_LIMIT: usize = 4_194_304;
+pub const MOST_TABLE_BYTES: usize = 4_194_304;
 
 /// The line that the table is sound.
 fn sound_text(alloc: Global, table: &Table) -> Result<Vec<u8>, AllocError>

@@ -15,7 +15,7 @@ use opening_report::{Refusal, Written, verified_line};
 use std::alloc::{AllocError, Global};
 
 /// The longest source that `verify` reads, in bytes.
-pub const CERTIFICATE_LIMIT: usize = 268_435_456;
+pub const MOST_CERTIFICATE_BYTES: usize = 268_435_456;
 
 /// The line that the certificate's claim is true of its position.
 fn verified_text(alloc: Global, proved: &Proved) -> Result<Vec<u8>, AllocError>
