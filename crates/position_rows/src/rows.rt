@@ -100,12 +100,12 @@ impl<E: Copy> PositionRows<E> {
     }
 
     /// Makes room for `count` more rows. Fails where memory runs out, or for 2^32 - 1 rows or more
-    /// in all.
+    /// in all; the room that was there stays.
     pub fn reserve(&mut self, count: usize) -> Result<(), AllocError>
         ensures entries { self.new.entries ≡ self.old.entries }
         ensures apart { AreApart self.new.entries }
         ensures room { OnOk result (count ≤ self.new.spare) }
-        ensures kept { OnOk result (self.old.spare ≤ self.new.spare) }
+        ensures kept { self.old.spare ≤ self.new.spare }
         ensures succeeds { count ≤ self.old.spare → IsOk result }
     {
         self.rows.reserve(count)?;

@@ -85,7 +85,7 @@ impl Index {
         Ok(Index { slots, nodes, room })
     }
 
-    /// Makes room for `count` more rows.
+    /// Makes room for `count` more rows; the room that was there stays, also after want of memory.
     pub(crate) fn reserve<E: Copy>(
         &mut self,
         alloc: Global,
@@ -96,13 +96,16 @@ impl Index {
         requires index { IsIndexOf rows.now self.old }
         ensures index { IsIndexOf rows.now self.new }
         ensures room { OnOk result (count ≤ spare_of self.new) }
-        ensures kept { OnOk result (spare_of self.old ≤ spare_of self.new) }
+        ensures kept { spare_of self.old ≤ spare_of self.new }
         ensures succeeds { count ≤ spare_of self.old → IsOk result }
     {
-        if count > self.room {
-            *self = Index::with_room(alloc, rows, count)?;
+        if count <= self.room {
+            return self.nodes.reserve(count);
         }
-        self.nodes.reserve(count)
+        let mut made = Index::with_room(alloc, rows, count)?;
+        made.nodes.reserve(count)?;
+        *self = made;
+        Ok(())
     }
 
     /// The place of this position's row, counted from 0; none exactly where it has none.
