@@ -6,6 +6,8 @@
 //! Proved: the nodes that [`shown_tree`] gives are those of the forest down to that ply, each once, behind the
 //! one above it, with their depths, moves, positions, marks, facts and numbers, and `next` at the leaf that one
 //! worker alone would search next. There are no more of them than may be shown, but for the root.
+//!
+//! Tests: report_tests/src/trees.rt
 #![tactic(auto)]
 
 mod nodes;

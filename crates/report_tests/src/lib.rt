@@ -11,3 +11,5 @@ mod hints;
 mod path_disks;
 #[cfg(test)]
 mod reports;
+#[cfg(test)]
+mod trees;

@@ -5,6 +5,8 @@
 //!
 //! Proved: [`shown_text`] writes exactly the texts of `specs/`, of the nodes that `journal_trees` shows, and counts
 //! them.
+//!
+//! Tests: report_tests/src/trees.rt
 #![tactic(auto)]
 
 mod json;
