@@ -4,6 +4,7 @@
 //! where a child is expanded, and back where all below it is taken. It keeps nothing but the row
 //! where it stands and the child that was tried last.
 ghost use Rattle.std.specs.Prelude.{◌≡◌, ℕ, ◌<◌, ◌≤◌, ◌+◌, ◌^◌, true, false, length, Some, None, map, All, is_some, slice_index};
+ghost use Rattle.std.specs.Map.{values_of};
 ghost use Rattle.draughts_board.specs.Board.{same_side};
 ghost use Rattle.proof_tree.specs.Rows.{row_at, kept_numbers, AreLinked, nodes_from, node_in, FitsRow, Fits, settled_front, AreNoted};
 ghost use Rattle.proof_tree.specs.Walking.{is_before, key, comes, is_behind, is_candidate, first_child_of, IsFirst};
@@ -12,9 +13,11 @@ ghost use Rattle.proof_tree.specs.Picking.{leaf_below, pick_at, pick_from};
 ghost use Rattle.proof_tree.specs.Forest.{goal_by, value_by, value_of};
 
 use crate::kept::{KeptNumber, KeptNumbers};
+use crate::roots::row_of;
 use crate::rows::{Mark, NodeId, NodeRow};
 use crate::stretches::Stretches;
 use draughts_board::{Side, Value};
+use position_rows::PositionRows;
 
 /// Less left to show, or the same and an earlier place.
 fn is_before(x: KeptNumber, a: usize, y: KeptNumber, b: usize) -> bool
@@ -240,21 +243,23 @@ fn pick_at<T: Taken>(rows: &[NodeRow], root: usize, taken: &T) -> Option<(NodeId
 /// The leaf to work on next, where `front` roots at the front are settled. Stretches of settled roots are passed as noted.
 pub(crate) fn pick_from<T: Taken>(
     rows: &[NodeRow],
-    roots: &[usize],
+    roots: &PositionRows<usize>,
     front: usize,
     stretches: &Stretches,
     taken: &T,
 ) -> Option<(NodeId, Side)>
     requires linked { AreLinked rows.now }
     requires fits { (k : ℕ) → k < length rows.now → Fits rows.now k }
-    requires inside { (i : ℕ) → i < length roots.now → slice_index roots.now i < length rows.now }
-    requires tops { (i : ℕ) → i < length roots.now
-        → (row_at rows.now (slice_index roots.now i)).parent ≡ None }
-    requires settled { front ≤ settled_front (map (node_in (nodes_from 0 rows.now)) roots.now) }
-    requires noted { AreNoted (map (node_in (nodes_from 0 rows.now)) roots.now)
+    requires inside { (i : ℕ) → i < length roots.now.entries
+        → slice_index (values_of roots.now.entries) i < length rows.now }
+    requires tops { (i : ℕ) → i < length roots.now.entries
+        → (row_at rows.now (slice_index (values_of roots.now.entries) i)).parent ≡ None }
+    requires settled { front
+        ≤ settled_front (map (node_in (nodes_from 0 rows.now)) (values_of roots.now.entries)) }
+    requires noted { AreNoted (map (node_in (nodes_from 0 rows.now)) (values_of roots.now.entries))
         stretches.now.ends.items stretches.now.starts.items }
     ensures { result ≡ pick_from (T.taken taken.now)
-        (map (node_in (nodes_from 0 rows.now)) roots.now) }
+        (map (node_in (nodes_from 0 rows.now)) (values_of roots.now.entries)) }
 {
     let mut place = front;
     while place < roots.len() {
@@ -262,7 +267,7 @@ pub(crate) fn pick_from<T: Taken>(
         if place < end {
             place = end;
         } else {
-            if let Some(found) = pick_at(rows, roots[place], taken) {
+            if let Some(found) = pick_at(rows, row_of(roots, place), taken) {
                 return Some(found);
             }
             place += 1;
@@ -284,15 +289,18 @@ pub(crate) fn is_settled(rows: &[NodeRow], root: usize) -> bool
 }
 
 /// How many roots stand before the first that is unsettled, where at least `front` do.
-pub(crate) fn settled_front(rows: &[NodeRow], roots: &[usize], front: usize) -> usize
+pub(crate) fn settled_front(rows: &[NodeRow], roots: &PositionRows<usize>, front: usize) -> usize
     requires linked { AreLinked rows.now }
     requires fits { (k : ℕ) → k < length rows.now → Fits rows.now k }
-    requires inside { (i : ℕ) → i < length roots.now → slice_index roots.now i < length rows.now }
-    requires settled { front ≤ settled_front (map (node_in (nodes_from 0 rows.now)) roots.now) }
-    ensures { result ≡ settled_front (map (node_in (nodes_from 0 rows.now)) roots.now) }
+    requires inside { (i : ℕ) → i < length roots.now.entries
+        → slice_index (values_of roots.now.entries) i < length rows.now }
+    requires settled { front
+        ≤ settled_front (map (node_in (nodes_from 0 rows.now)) (values_of roots.now.entries)) }
+    ensures { result
+        ≡ settled_front (map (node_in (nodes_from 0 rows.now)) (values_of roots.now.entries)) }
 {
     for i in front..roots.len() {
-        if !is_settled(rows, roots[i]) {
+        if !is_settled(rows, row_of(roots, i)) {
             return i;
         }
     }

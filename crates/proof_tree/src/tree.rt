@@ -8,11 +8,11 @@ ghost use Rattle.proof_tree.specs.Rows.{roots_from, forest_of, settled_front, no
 use crate::growing::{expand, push_root};
 use crate::numbering::learn;
 use crate::picking::{Taken, is_settled, pick_from, settled_front, value_by};
-use crate::roots::{add, top};
+use crate::roots::{add, row_of, top};
 use crate::rows::{Mark, NodeId, NodeRow};
 use crate::stretches::Stretches;
 use draughts_board::{Position, Side, Value};
-use indexmap::IndexMap;
+use position_rows::PositionRows;
 use proof_numbers::{Child, Facts, Numbers};
 use std::alloc::{AllocError, Global};
 use std::marker::Model;
@@ -34,7 +34,7 @@ pub struct Tree {
     /// One for each node, in the order in which they were made.
     rows: Vec<NodeRow>,
     /// The rows of the roots by their positions, in order.
-    roots: IndexMap<Position, usize>,
+    roots: PositionRows<usize>,
     /// How many more nodes room was made for.
     spare: usize,
     /// How many roots stand before the first that is unsettled.
@@ -46,7 +46,6 @@ pub struct Tree {
 impl Model for Tree {
     ghost use Rattle.std.specs.Prelude.{vec_capacity};
     ghost use Rattle.std.specs.Map.{values_of};
-    ghost use Rattle.indexmap.specs.IndexMap.{spare as map_spare};
     ghost use Rattle.proof_tree.specs.Code.{state_code};
     ghost use Rattle.proof_tree.specs.Rows.{forest_of, note_room, IsTreeFrom};
     ghost use Rattle.proof_tree.specs.Sound.{TreeState};
@@ -59,7 +58,7 @@ impl Model for Tree {
         record { forest = forest_of t.rows.items (values_of t.roots.entries); spare = t.spare } };
 
     ghost invariant = { λ t.
-        IsTreeFrom t.rows.items t.roots.entries (vec_capacity t.rows) (map_spare t.roots) t.spare
+        IsTreeFrom t.rows.items t.roots.entries (vec_capacity t.rows) t.roots.spare t.spare
         t.front t.stretches.ends.items t.stretches.starts.items (note_room t.stretches) };
 }
 
@@ -82,7 +81,7 @@ impl Tree {
     {
         Tree {
             rows: Vec::new(alloc),
-            roots: IndexMap::new(alloc),
+            roots: PositionRows::new(alloc),
             spare: 0,
             front: 0,
             stretches: Stretches::new(alloc),
@@ -249,7 +248,7 @@ impl Tree {
             × (slice_get (root_positions self.now.forest) (root - 1) ≡ Some p.now)) }
         ensures none { IsNone result ↔ (¬ Contains (root_positions self.now.forest) p.now) }
     {
-        match self.roots.get_index_of(p) {
+        match self.roots.place(p) {
             Some(place) => Some(place as u32 + 1),
             None => None,
         }
@@ -353,10 +352,9 @@ impl Tree {
         ensures leaf { IfSome result (λ found.
             IsSomeAnd (node_at found.0 self.now.forest) (IsOpenLeaf found.1 (T.taken taken.now))) }
     {
-        let roots = self.roots.values();
         pick_from(
             &self.rows,
-            roots.as_slice(),
+            &self.roots,
             self.front,
             &self.stretches,
             taken,
@@ -365,7 +363,7 @@ impl Tree {
 }
 
 /// How many roots stand before the first that is unsettled, where at least `front` do.
-fn front_of(rows: &[NodeRow], roots: &IndexMap<Position, usize>, front: usize) -> usize
+fn front_of(rows: &[NodeRow], roots: &PositionRows<usize>, front: usize) -> usize
     requires linked { AreLinked rows.now }
     requires fits { (k : ℕ) → k < length rows.now → Fits rows.now k }
     requires roots { values_of roots.now.entries ≡ roots_from 0 rows.now }
@@ -373,7 +371,7 @@ fn front_of(rows: &[NodeRow], roots: &IndexMap<Position, usize>, front: usize) -
         ≤ settled_front (nodes (forest_of rows.now (values_of roots.now.entries))) }
     ensures { result ≡ settled_front (nodes (forest_of rows.now (values_of roots.now.entries))) }
 {
-    settled_front(rows, roots.values().as_slice(), front)
+    settled_front(rows, roots, front)
 }
 
 /// The row at the end of the way up from a row.
@@ -392,7 +390,7 @@ fn top_of(rows: &[NodeRow], from: usize) -> usize
 /// Notes the root above a row where it is settled.
 fn note_above(
     rows: &[NodeRow],
-    roots: &IndexMap<Position, usize>,
+    roots: &PositionRows<usize>,
     stretches: &mut Stretches,
     at: usize,
 )
@@ -408,10 +406,10 @@ fn note_above(
     ensures room { note_room stretches.new ≡ note_room stretches.old }
 {
     let position = rows[top_of(rows, at)].position;
-    let Some(place) = roots.get_index_of(&position) else {
+    let Some(place) = roots.place(&position) else {
         return;
     };
-    if is_settled(rows, roots.values().as_slice()[place]) {
+    if is_settled(rows, row_of(roots, place)) {
         stretches.note(place);
     }
 }
@@ -420,7 +418,7 @@ fn note_above(
 /// that is unsettled, where at least `front` do.
 fn follow(
     rows: &[NodeRow],
-    roots: &IndexMap<Position, usize>,
+    roots: &PositionRows<usize>,
     stretches: &mut Stretches,
     front: usize,
     at: usize,

@@ -1,10 +1,11 @@
-use Rattle.std.proofs.Common.{◌∙◌}
-use Rattle.indexmap.proofs.CallerLemmas.{insert_entry-new}
-use Rattle.draughts_board.specs.Board.{same_board}
-use Rattle.proof_tree.proofs.RootLemmas.{absent-none}
+use Rattle.std.proofs.Common.{◌≡◌, ◌++◌, ◌∷◌, [], Bool, cond, not, ap, ◌∙◌}
+use Rattle.std.specs.Map.{keys_of}
+use Rattle.proof_tree.proofs.SoundForests.{none_any}
 use Rattle.proof_tree.proofs.roots.add.Goals as goal
 
 pub returns-clause-entries : goal.returns-clause-entries
 returns-clause-entries c =
-    c.in-Ok.ensures.entries
-    ∙ insert_entry-new same_board c.args.roots.now c.args.p.now c.args.row (absent-none c.args.p.now c.args.roots.now.entries c.requires.absent)
+    let old = c.args.roots.now.entries in
+    c.in-Ok.ensures.rows
+    ∙ ap (λ (b : Bool). cond b (old ++ (c.args.p.now, c.args.row) ∷ []) old)
+    (c.in-Ok.ensures.new ∙ ap not (none_any (keys_of old) c.args.p.now c.requires.absent))

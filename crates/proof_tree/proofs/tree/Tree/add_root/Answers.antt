@@ -3,7 +3,6 @@ use Rattle.std.proofs.lemmas.List.{length_push}
 use Rattle.std.specs.Prelude.{Contains}
 use Rattle.std.specs.Map.{values_of}
 use Rattle.std.specs.Vec.{vec_capacity}
-use Rattle.indexmap.specs.IndexMap.{spare}
 use Rattle.draughts_board.specs.Board.{Board}
 use Rattle.proof_tree.specs.declared.rows.NodeRow.{NodeRow}
 use Rattle.proof_tree.specs.Forest.{nodes}
@@ -41,12 +40,12 @@ module _ (c : goal.After-follow-arg-2-1) where
 
   -- the rows with the new root
   next : IsNext (forest_of c.self.inside.rows.items (values_of c.self.inside.roots.entries)) c.push_root.new.rows.items c.add.new.roots.entries
-      (vec_capacity c.push_root.new.rows) (spare c.add.new.roots) (c.self.inside.spare - 1) c.self.inside.front
+      (vec_capacity c.push_root.new.rows) c.add.new.roots.spare (c.self.inside.spare - 1) c.self.inside.front
   next =
       next-added c.self.inside.rows.items c.self.inside.roots.entries _ _ c.self.inside.spare c.self.invariant.tree c.args.self.now c.self.view_is
       c.self.inside.front c.self.invariant.settled c.args.root c.requires.room c.requires.few c.push_root.ensures.lawful c.requires.absent
       c.push_root.new.rows.items c.add.new.roots.entries c.len-number.result c.push_root.ensures.items c.add.ensures.entries number
-      (vec_capacity c.push_root.new.rows) (spare c.add.new.roots) c.push_root.ensures.room c.add.ensures.room
+      (vec_capacity c.push_root.new.rows) c.add.new.roots.spare c.push_root.ensures.room c.add.ensures.room
 
 pub follow-self-inside-requires-clause-linked : goal.follow-self-inside-requires-clause-linked
 follow-self-inside-requires-clause-linked c =
@@ -80,7 +79,7 @@ invariant_of-self c =
     let next = next-added c.self.inside.rows.items c.self.inside.roots.entries _ _ c.self.inside.spare c.self.invariant.tree c.args.self.now c.self.view_is
     c.self.inside.front c.self.invariant.settled c.args.root c.requires.room c.requires.few c.push_root.ensures.lawful c.requires.absent
     c.push_root.new.rows.items c.add.new.roots.entries c.len-number.result c.push_root.ensures.items c.add.ensures.entries (number_now c)
-    (vec_capacity c.push_root.new.rows) (spare c.add.new.roots) c.push_root.ensures.room c.add.ensures.room in
+    (vec_capacity c.push_root.new.rows) c.add.new.roots.spare c.push_root.ensures.room c.add.ensures.room in
     record {
       tree = next.tree;
       settled = c.follow-self-inside.ensures.front ∙ ap (λ (xs : List NodeRow). settled_front (nodes (forest_of xs (values_of c.add.new.roots.entries)))) c.deref.ensures.value;
@@ -102,4 +101,4 @@ returns-clause-tree c =
 
 pub returns-clause-place : goal.returns-clause-place
 returns-clause-place c =
-    c.len.ensures.len ∙ sym (length-roots c.push_root.new.rows.items c.add.new.roots.entries)
+    c.len.ensures.value ∙ sym (length-roots c.push_root.new.rows.items c.add.new.roots.entries)

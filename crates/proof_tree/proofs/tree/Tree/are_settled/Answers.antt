@@ -12,7 +12,7 @@ pub returns : goal.returns
 returns c =
     let rows = c.self.inside.rows.items in
     let entries = c.self.inside.roots.entries in
-    let many = c.len.ensures.len ∙ sym (length-roots rows entries) in
+    let many = c.len.ensures.value ∙ sym (length-roots rows entries) in
     (λ i. eqb (c.self.invariant.settled i) (many i))
     ∙ front_all (nodes (forest_of rows (values_of entries)))
     ∙ ap (λ (h : TreeState). list_all (λ root. is_some (value_of root)) (nodes h.forest)) c.self.view_is

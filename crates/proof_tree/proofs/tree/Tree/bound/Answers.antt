@@ -2,7 +2,6 @@ use Rattle.std.proofs.Common.{◌≡◌, ◌<◌, ◌≤◌, ◌∙◌, ℕ, Lis
 use Rattle.std.proofs.lemmas.List.{with_items_is}
 use Rattle.std.specs.Map.{values_of}
 use Rattle.std.specs.Vec.{with_items}
-use Rattle.indexmap.specs.IndexMap.{spare}
 use Rattle.proof_numbers.specs.Facts.{known}
 use Rattle.proof_numbers.specs.Known.{joined, IsConsistent}
 use Rattle.proof_tree.specs.declared.rows.NodeRow.{NodeRow}
@@ -35,7 +34,7 @@ module _ (c : goal.After-follow-arg-2-1) where
 
   -- the rows with the facts
   next : IsNext (forest_of c.self.inside.rows.items (values_of c.self.inside.roots.entries)) c.learn.new.rows c.self.inside.roots.entries
-      c.self.inside.rows.cap (spare c.self.inside.roots) c.self.inside.spare c.self.inside.front
+      c.self.inside.rows.cap c.self.inside.roots.spare c.self.inside.spare c.self.inside.front
   next =
       next-learnt c.self.inside.rows.items c.self.inside.roots.entries _ _ c.self.inside.spare c.self.invariant.tree c.args.self.now c.self.view_is
       c.self.inside.front c.self.invariant.settled c.args.n c.requires.there (known c.args.facts.now) c.requires.agree c.deref_mut.result.now c.learn.new.rows
@@ -78,7 +77,7 @@ invariant_of-self c =
     c.self.inside.front c.self.invariant.settled c.args.n c.requires.there (known c.args.facts.now) c.requires.agree c.deref_mut.result.now c.learn.new.rows
     c.deref_mut.ensures.value c.number-row.result c.number-row.ensures c.learn.ensures.links c.learn.ensures.own c.learn.ensures.fits in
     record {
-      tree = subst (λ (xs : List NodeRow). IsTree xs c.self.inside.roots.entries c.self.inside.rows.cap (spare c.self.inside.roots) c.self.inside.spare) (sym (written c)) next.tree;
+      tree = subst (λ (xs : List NodeRow). IsTree xs c.self.inside.roots.entries c.self.inside.rows.cap c.self.inside.roots.spare c.self.inside.spare) (sym (written c)) next.tree;
       settled = c.follow-self-inside.ensures.front ∙ ap (λ (xs : List NodeRow). settled_front (nodes (forest_of xs (values_of c.self.inside.roots.entries)))) c.deref.ensures.value;
       noted = subst (λ (xs : List NodeRow). AreNoted (nodes (forest_of xs (values_of c.self.inside.roots.entries))) c.follow-self-inside.new.stretches.ends.items c.follow-self-inside.new.stretches.starts.items) c.deref.ensures.value c.follow-self-inside.ensures.noted;
       note_room = let r = c.self.invariant.note_room in omega (arith, r, c.follow-self-inside.ensures.room);

@@ -1,7 +1,6 @@
 use Rattle.std.proofs.Common.{◌≡◌, ◌≤◌, ◌-◌, ℕ, List, length, arith, refl, sym, ap, subst, ◌∙◌}
 use Rattle.std.specs.Map.{values_of}
 use Rattle.std.specs.Vec.{vec_capacity}
-use Rattle.indexmap.specs.IndexMap.{spare}
 use Rattle.proof_tree.specs.declared.rows.NodeRow.{NodeRow}
 use Rattle.proof_tree.specs.declared.rows.Mark.TheVariants.{Unexpanded}
 use Rattle.proof_tree.specs.Forest.{nodes, node_at}
@@ -23,7 +22,7 @@ expand-requires-clause-leaf c =
 
 -- the rows with the children
 next : (c : goal.After-follow-arg-2-1) → IsNext (forest_of c.self.inside.rows.items (values_of c.self.inside.roots.entries)) c.expand.new.rows.items c.self.inside.roots.entries
-    (vec_capacity c.expand.new.rows) (spare c.self.inside.roots) (c.self.inside.spare - length c.args.children.now) c.self.inside.front
+    (vec_capacity c.expand.new.rows) c.self.inside.roots.spare (c.self.inside.spare - length c.args.children.now) c.self.inside.front
 next c =
     next-expanded c.self.inside.rows.items c.self.inside.roots.entries _ _ c.self.inside.spare c.self.invariant.tree c.args.self.now c.self.view_is
     c.self.inside.front c.self.invariant.settled c.args.n c.requires.there c.args.children.now c.expand.new.rows.items

@@ -14,15 +14,15 @@ returns-in-Some-clause-found c =
       omega arith,
       ap (slice_get (root_positions c.args.self.now.forest)) back
           ∙ ap (λ (ps : List Board). slice_get ps place) (positions-are c.self.inside.rows.items c.self.inside.roots.entries _ _ c.self.inside.spare c.self.invariant.tree c.args.self.now c.self.view_is)
-          ∙ found-there c.args.p.now (keys_of c.self.inside.roots.entries) place (sym c.in-Some.ensures.index),
+          ∙ found-there c.args.p.now (keys_of c.self.inside.roots.entries) place (sym c.in-Some.ensures),
     )
 
 pub returns-in-Some-clause-none : goal.returns-in-Some-clause-none
 returns-in-Some-clause-none c =
     subst (λ (ps : List Board). IsNone (Some c.in-Some.place) ↔ (¬ Contains ps c.args.p.now)) (sym (positions-are c.self.inside.rows.items c.self.inside.roots.entries _ _ c.self.inside.spare c.self.invariant.tree c.args.self.now c.self.view_is))
-    (none-iff c.args.p.now c.self.inside.roots.entries (Some c.in-Some.place) c.in-Some.ensures.found)
+    (none-iff c.args.p.now c.self.inside.roots.entries (Some c.in-Some.place) c.in-Some.ensures)
 
 pub returns-in-None-clause-none : goal.returns-in-None-clause-none
 returns-in-None-clause-none c =
     subst (λ (ps : List Board). IsNone {T = ℕ} None ↔ (¬ Contains ps c.args.p.now)) (sym (positions-are c.self.inside.rows.items c.self.inside.roots.entries _ _ c.self.inside.spare c.self.invariant.tree c.args.self.now c.self.view_is))
-    (none-iff c.args.p.now c.self.inside.roots.entries None c.in-None.ensures.found)
+    (none-iff c.args.p.now c.self.inside.roots.entries None c.in-None.ensures)

@@ -4,7 +4,7 @@ use Rattle.proof_tree.proofs.tree.Tree.roots.Goals as goal
 
 pub returns-clause-value : goal.returns-clause-value
 returns-clause-value c =
-    let e = c.len.ensures.len in
+    let e = c.len.ensures.value in
     let m = roots-many c.self.inside.rows.items c.self.inside.roots.entries _ _ c.self.inside.spare c.self.invariant.tree c.args.self.now c.self.view_is in
     omega (arith, e, m)
 
