@@ -18,6 +18,10 @@ found-there p ps i e =
     let h = position-Some (same_board p) ps i p e in
     slice_get-get_or ps i p h.0 ∙ ap Some (sym (equal_boards p (get_or ps i p) h.1))
 
+-- a place that is found is one of the list's
+pub place-inside : (p : Board) (es : List (Board × ℕ)) (i : ℕ) → Some i ≡ position (same_board p) (keys_of es) → i < length es
+place-inside p es i e = row_inside es i p (row_found es i p (sym e))
+
 module _ (p : Board) (es : List (Board × ℕ)) where
   first : ℕ
   first = position_or_len (same_board p) (keys_of es)

@@ -352,13 +352,7 @@ impl Tree {
         ensures leaf { IfSome result (λ found.
             IsSomeAnd (node_at found.0 self.now.forest) (IsOpenLeaf found.1 (T.taken taken.now))) }
     {
-        pick_from(
-            &self.rows,
-            &self.roots,
-            self.front,
-            &self.stretches,
-            taken,
-        )
+        pick_from(&self.rows, &self.roots, self.front, &self.stretches, taken)
     }
 }
 
@@ -388,12 +382,7 @@ fn top_of(rows: &[NodeRow], from: usize) -> usize
 }
 
 /// Notes the root above a row where it is settled.
-fn note_above(
-    rows: &[NodeRow],
-    roots: &PositionRows<usize>,
-    stretches: &mut Stretches,
-    at: usize,
-)
+fn note_above(rows: &[NodeRow], roots: &PositionRows<usize>, stretches: &mut Stretches, at: usize)
     requires inside { at < length rows.now }
     requires linked { AreLinked rows.now }
     requires fits { (k : ℕ) → k < length rows.now → Fits rows.now k }

@@ -1,4 +1,4 @@
-use Rattle.std.proofs.Common.{rules, ◌≡◌, ◌<◌, ℕ, true, false, is_some, length, map, get_or, sym, ap, arith, ◌∙◌}
+use Rattle.std.proofs.Common.{rules, ◌≡◌, ◌<◌, ℕ, true, false, is_some, length, map, sym, ap, arith, ◌∙◌}
 use Rattle.std.proofs.lemmas.List.{get_or-map, length-map}
 use Rattle.std.specs.Map.{values_of}
 use Rattle.draughts_board.specs.Board.{Board}
@@ -11,7 +11,7 @@ pub returns-then-not-is_settled : goal.returns-then-not-is_settled
 returns-then-not-is_settled c =
     let f = node_in (nodes_from 0 c.args.rows.now) in
     let tops = values_of c.args.roots.now.entries in
-    let inside : c.loop-i.i < length c.args.roots.now.entries = c.loop-i-test.true in
+    let inside : c.loop-i.i < length c.args.roots.now.entries = omega (arith, c.loop-i-test.true, c.len-i-end.ensures.value) in
     let all = length-map c.args.roots.now.entries (λ (e : Board × ℕ). e.1) in
     let many = length-map tops f in
     let here = get_or-map f tops c.loop-i.i 0 blank_node (omega (arith, inside, all)) in
@@ -23,7 +23,7 @@ pub loop-i-preserved : goal.loop-i-preserved
 loop-i-preserved c =
     let f = node_in (nodes_from 0 c.args.rows.now) in
     let tops = values_of c.args.roots.now.entries in
-    let inside : c.loop-i.i < length c.args.roots.now.entries = c.loop-i-test.true in
+    let inside : c.loop-i.i < length c.args.roots.now.entries = omega (arith, c.loop-i-test.true, c.len-i-end.ensures.value) in
     let all = length-map c.args.roots.now.entries (λ (e : Board × ℕ). e.1) in
     let many = length-map tops f in
     let here = get_or-map f tops c.loop-i.i 0 blank_node (omega (arith, inside, all)) in
@@ -41,4 +41,4 @@ returns c =
     let many = length-map tops f in
     let most = front_within (map f tops) in
     let at = c.loop-i.invariant in
-    omega (arith, past, many, all, most, at)
+    omega (arith, past, c.len-i-end.ensures.value, c.len.ensures.value, many, all, most, at)

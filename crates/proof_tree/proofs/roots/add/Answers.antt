@@ -1,4 +1,4 @@
-use Rattle.std.proofs.Common.{◌≡◌, ◌++◌, ◌∷◌, [], Bool, cond, not, ap, ◌∙◌}
+use Rattle.std.proofs.Common.{◌++◌, ◌∷◌, [], Bool, cond, not, ap, ◌∙◌}
 use Rattle.std.specs.Map.{keys_of}
 use Rattle.proof_tree.proofs.SoundForests.{none_any}
 use Rattle.proof_tree.proofs.roots.add.Goals as goal
