@@ -90,6 +90,20 @@ place_moved rows slots moved nodes moved_nodes same same_nodes p look none tells
 
 -- ---- the index with what it needs to grow
 
+-- an index with the same table and tree
+pub same_index : {E : Type 0} (rows : List (Board × E)) (a b : Index) → a.slots.items ≡ b.slots.items → a.nodes.items ≡ b.nodes.items → a.room ≡ b.room
+    → IsIndexOf rows a → IsIndexOf rows b
+same_index rows a b slots nodes room index = record {
+  indexed = λ r p row. subst (λ (x : List Slot). IsIndexed x b.nodes.items p r) slots (subst (λ (x : List Node). IsIndexed a.slots.items x p r) nodes (index.indexed r p row));
+  long = λ short. (
+    (index.long (subst (λ (x : List Slot). length x < 8) (sym slots) short)).0,
+    sym room ∙ (index.long (subst (λ (x : List Slot). length x < 8) (sym slots) short)).1,
+  );
+  rows_few = subst (λ (x : ℕ). length rows + x < 2 ^ 32 - 1) room index.rows_few;
+  nodes_few = subst (λ (x : ℕ). length b.nodes.items + x < 2 ^ 32 - 1) room
+      (subst (λ (x : List Node). length x + a.room < 2 ^ 32 - 1) nodes index.nodes_few);
+}
+
 pub index_of_none : {E : Type 0} (index : Index) → index.nodes.items ≡ [] → index.room ≡ 0 → IsIndexOf {E = E} [] index
 index_of_none index nodes room = record {
   indexed = none_indexed index.slots.items index.nodes.items;
