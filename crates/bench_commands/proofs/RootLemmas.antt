@@ -3,8 +3,8 @@ use Rattle.std.proofs.Common.{◌≡◌, ℕ, ◌+◌, ◌<◌, Bool, true, fals
 use Rattle.std.specs.Prelude.{Contains}
 use Rattle.std.specs.Cmp.{both_ways}
 use Rattle.std.specs.List.{list_any}
-use Rattle.indexmap.specs.IndexSet.{insert_key}
 use Rattle.std.proofs.lemmas.List.{append-nil, take_more, map-append}
+use Rattle.distinct_positions.specs.Distinct.{with_position}
 use Rattle.draughts_board.specs.Board.{Board, same_board}
 use Rattle.draughts_board.specs.Same.{same_board-Decides}
 use Rattle.draughts_board.specs.Rules.{first_places}
@@ -27,11 +27,11 @@ first_places_more seen now openings i o l at before more =
     ∙ ap first_places (sym (map-append (λ (x : Opening). x.position) (take i openings) (o ∷ [])))
     ∙ ap roots_of_openings (ap (λ q. take i openings ++ q ∷ []) at ∙ sym (take_more openings i o l))
 
--- the same as the set of keys tells it
-pub first_places_inserted : (seen now : List Board) (openings : List Opening) (i : ℕ) (o : Opening) → i < length openings → o ≡ get_or openings i o
-    → seen ≡ roots_of_openings (take i openings) → now ≡ insert_key same_board seen o.position
+-- the same as a position that is added
+pub first_places_added : (seen now : List Board) (openings : List Opening) (i : ℕ) (o : Opening) → i < length openings → o ≡ get_or openings i o
+    → seen ≡ roots_of_openings (take i openings) → now ≡ with_position seen o.position
     → now ≡ roots_of_openings (take (i + 1) openings)
-first_places_inserted seen now openings i o l at before more =
+first_places_added seen now openings i o l at before more =
     first_places_more seen now openings i o l at before (more ∙ inserted seen o.position)
   where
     turned : (p q : Board) → same_board p q ≡ same_board q p
@@ -47,7 +47,7 @@ first_places_inserted seen now openings i o l at before more =
     pick true bs p = sym (append-nil bs)
     pick false bs p = refl
 
-    inserted : (bs : List Board) (p : Board) → insert_key same_board bs p ≡ bs ++ cond (list_any (λ y. same_board y p) bs) [] (p ∷ [])
+    inserted : (bs : List Board) (p : Board) → with_position bs p ≡ bs ++ cond (list_any (λ y. same_board y p) bs) [] (p ∷ [])
     inserted bs p = ap (λ t. cond t bs (bs ++ p ∷ [])) (any p bs) ∙ pick (list_any (λ y. same_board y p) bs) bs p
 
 -- each opening's position is that of a root

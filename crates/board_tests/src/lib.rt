@@ -1,9 +1,11 @@
-//! Tests of the public calls of the board, its rules, its two generators, indices, numbers, leases
-//! and rows of positions.
+//! Tests of the public calls of the board, its rules, its two generators, indices, numbers, leases,
+//! rows of positions and distinct positions.
 //!
 //! Each crate that is tested has a file here. Both generators resolve the same written moves.
 #![tactic(auto)]
 
+#[cfg(test)]
+mod distinct;
 #[cfg(test)]
 mod generated;
 #[cfg(test)]

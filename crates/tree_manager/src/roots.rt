@@ -15,8 +15,8 @@ ghost use Rattle.proof_tree.specs.declared.tree.TheConstants.{MOST_ROOTS};
 use bench_core::Bench;
 use bench_disk::Disk;
 use disk_journal::Journal;
+use distinct_positions::DistinctPositions;
 use draughts_board::Position;
-use indexmap::IndexSet;
 use proof_tree::Tree;
 use std::alloc::{AllocError, Global};
 use strategy_certificate::Oracle;
@@ -26,15 +26,15 @@ pub(crate) fn new_roots(
     alloc: Global,
     tree: &Tree,
     positions: &[Position],
-) -> Result<IndexSet<Position>, AllocError>
-    ensures all { IfOk result (λ added. root_positions tree.now.forest ++ added.keys
+) -> Result<DistinctPositions, AllocError>
+    ensures all { IfOk result (λ added. root_positions tree.now.forest ++ added
         ≡ with_roots (root_positions tree.now.forest) positions.now) }
-    ensures new { IfOk result (λ added. AreNewRoots (root_positions tree.now.forest) added.keys) }
+    ensures new { IfOk result (λ added. AreNewRoots (root_positions tree.now.forest) added) }
 {
-    let mut added = IndexSet::new(alloc);
+    let mut added = DistinctPositions::new(alloc);
     for p in positions {
         if tree.find_root(p).is_none() {
-            added.insert(*p)?;
+            added.add(*p)?;
         }
     }
     Ok(added)

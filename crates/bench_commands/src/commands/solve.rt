@@ -13,8 +13,8 @@ ghost use Rattle.bench_commands.specs.Steps.{AcceptsBytes, AnswersBytes, AreRoot
 use bench_core::Settings;
 use bench_disk::Disk;
 use bench_edges::Options;
+use distinct_positions::DistinctPositions;
 use draughts_board::Position;
-use indexmap::IndexSet;
 use journal_runs::{Account, Plan};
 use opening_report::{Refusal, Written};
 use pdn_openings::{Opening, openings};
@@ -25,20 +25,20 @@ use std::thread::Threads;
 use worker_gate::Gate;
 
 /// The distinct positions of the openings, each at its first place.
-fn distinct_positions(alloc: Global, openings: &[Opening]) -> Result<IndexSet<Position>, AllocError>
-    ensures { IfOk result (λ positions. positions.keys ≡ roots_of_openings openings.now) }
+fn distinct_positions(alloc: Global, openings: &[Opening]) -> Result<DistinctPositions, AllocError>
+    ensures { IfOk result (λ positions. positions ≡ roots_of_openings openings.now) }
 {
-    let mut positions = IndexSet::new(alloc);
+    let mut positions = DistinctPositions::new(alloc);
     for opening in openings {
-        positions.insert_full(opening.position)?;
+        positions.add(opening.position)?;
     }
     Ok(positions)
 }
 
 /// The distinct positions of the openings of the games of a text, each at its first place.
-fn roots_in(alloc: Global, options: &Options, text: &[u8]) -> Result<IndexSet<Position>, Refusal>
+fn roots_in(alloc: Global, options: &Options, text: &[u8]) -> Result<DistinctPositions, Refusal>
     ensures read { IfOk result (λ positions.
-        AreRootsIn options.now.plies text.now positions.keys) }
+        AreRootsIn options.now.plies text.now positions) }
     ensures refused { IfErr result (IsAnswerFault (commands.Solve options.now) text.now) }
     ensures accepted { IfErr result (IsAnswerFaultOnly (commands.Solve options.now) text.now) }
 {

@@ -5,5 +5,5 @@ use Rattle.tree_manager.proofs.roots.new_roots.Given as goal
 
 abbrev pub invariant-loop-p : goal.invariant-loop-p
 invariant-loop-p l =
-    (root_positions l.tree.forest ++ l.added.keys ≡ with_roots (root_positions l.tree.forest) (take l.p-index l.positions))
-    × AreNewRoots (root_positions l.tree.forest) l.added.keys
+    (root_positions l.tree.forest ++ l.added ≡ with_roots (root_positions l.tree.forest) (take l.p-index l.positions))
+    × AreNewRoots (root_positions l.tree.forest) l.added

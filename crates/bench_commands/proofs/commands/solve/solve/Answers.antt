@@ -8,8 +8,8 @@ returns-in-Ok-clause-says g c = run_says _ c.run_by.result.1 (λ output. output.
 
 pub returns-in-Ok-clause-accepted : goal.returns-in-Ok-clause-accepted
 returns-in-Ok-clause-accepted g c =
-    let same : c.as_slice.result.now ≡ c.in-Ok.positions.keys = search rules in
-    run_all_accepts g.D.Disk c.args.options.now c.args.text.now c.in-Ok.positions.keys c.as_slice.result.now c.args.disk c.run_by.result.0 c.run_by.result.1
+    let same : c.as_slice.result.now ≡ c.in-Ok.positions = search rules in
+    run_all_accepts g.D.Disk c.args.options.now c.args.text.now c.in-Ok.positions c.as_slice.result.now c.args.disk c.run_by.result.0 c.run_by.result.1
     c.in-Ok.ensures.read same c.run_by.ensures.refused
 
 pub returns-in-Err-clause-refused : goal.returns-in-Err-clause-refused

@@ -21,10 +21,10 @@ pub commit_parts-requires-clause-within : goal.commit_parts-requires-clause-with
 commit_parts-requires-clause-within g c =
     let unfailed : c.self.inside.journal.failed ≡ false = cc (c.if-is_failed.false, c.is_failed.ensures) in
     let added : List Board = c.as_slice.result.now in
-    let again : c.as_slice-2.result.now ≡ added = c.as_slice-2.ensures.keys ∙ sym c.as_slice.ensures.keys in
+    let again : c.as_slice-2.result.now ≡ added = c.as_slice-2.ensures ∙ sym c.as_slice.ensures in
     let marks : c.push_puts.new.marks ≡ c.self.inside.marks ++ map (λ (p : Board). mark.Put) added =
     c.push_puts.ensures ∙ ap (λ (ps : List Board). c.self.inside.marks ++ map (λ (p : Board). mark.Put) ps) again in
-    let count : c.len-count.result ≡ length added = c.len-count.ensures.len ∙ sym (ap length c.as_slice.ensures.keys) in
+    let count : c.len-count.result ≡ length added = c.len-count.ensures ∙ sym (ap length c.as_slice.ensures) in
     let room : length c.self.inside.marks + (c.self.inside.due + length added + length added) ≤ most_entries =
     omega (arith, c.in_ok-reserve.ensures.ok, count) in
     kept_roots g.D.Disk
@@ -35,12 +35,12 @@ pub returns-in-Ok-clause-begun : goal.returns-in-Ok-clause-begun
 returns-in-Ok-clause-begun g c =
     let unfailed : c.self.inside.journal.failed ≡ false = cc (c.if-is_failed.false, c.is_failed.ensures) in
     let added : List Board = c.as_slice.result.now in
-    let again : c.as_slice-2.result.now ≡ added = c.as_slice-2.ensures.keys ∙ sym c.as_slice.ensures.keys in
+    let again : c.as_slice-2.result.now ≡ added = c.as_slice-2.ensures ∙ sym c.as_slice.ensures in
     let marks : c.push_puts.new.marks ≡ c.self.inside.marks ++ map (λ (p : Board). mark.Put) added =
     c.push_puts.ensures ∙ ap (λ (ps : List Board). c.self.inside.marks ++ map (λ (p : Board). mark.Put) ps) again in
     let all : root_positions c.self.inside.bench.state.forest ++ added ≡ with_roots (root_positions c.self.inside.bench.state.forest) c.args.positions.now =
-    subst (λ (ps : List Board). root_positions c.self.inside.bench.state.forest ++ ps ≡ with_roots (root_positions c.self.inside.bench.state.forest) c.args.positions.now) (sym c.as_slice.ensures.keys)
-    (subst (λ (f : Forest). root_positions f ++ c.in_ok-added.added.keys ≡ with_roots (root_positions f) c.args.positions.now) c.tree.ensures.forest c.in_ok-added.ensures.all) in
+    subst (λ (ps : List Board). root_positions c.self.inside.bench.state.forest ++ ps ≡ with_roots (root_positions c.self.inside.bench.state.forest) c.args.positions.now) (sym c.as_slice.ensures)
+    (subst (λ (f : Forest). root_positions f ++ c.in_ok-added.added ≡ with_roots (root_positions f) c.args.positions.now) c.tree.ensures.forest c.in_ok-added.ensures.all) in
     let mid = are_beginning c.self.inside.marks c.push_puts.new.marks c.self.inside.bench c.stage_roots.new.bench c.self.inside.journal c.stage_roots.new.journal c.args.positions.now added
     c.self.invariant.within.filled marks c.in_ok-stage_roots.ensures.bench (ap (λ (l : Log g.row.D.Denot). l.disk) c.in_ok-stage_roots.ensures.journal.2) (sym c.self.invariant.within.failed ∙ unfailed) all in
     subst (λ (s : SessionState g.row.D.Denot). HasBegun s c.args.positions.now c.in-Ok.receipt.moment (state_of (parts_of c.commit_parts.new.marks c.commit_parts.new.due c.commit_parts.new.bench c.commit_parts.new.journal))) c.self.view_is
@@ -53,12 +53,12 @@ pub returns-clause-refused : goal.returns-clause-refused
 returns-clause-refused g c =
     let unfailed : c.self.inside.journal.failed ≡ false = cc (c.if-is_failed.false, c.is_failed.ensures) in
     let added : List Board = c.as_slice.result.now in
-    let again : c.as_slice-2.result.now ≡ added = c.as_slice-2.ensures.keys ∙ sym c.as_slice.ensures.keys in
+    let again : c.as_slice-2.result.now ≡ added = c.as_slice-2.ensures ∙ sym c.as_slice.ensures in
     let marks : c.push_puts.new.marks ≡ c.self.inside.marks ++ map (λ (p : Board). mark.Put) added =
     c.push_puts.ensures ∙ ap (λ (ps : List Board). c.self.inside.marks ++ map (λ (p : Board). mark.Put) ps) again in
     let all : root_positions c.self.inside.bench.state.forest ++ added ≡ with_roots (root_positions c.self.inside.bench.state.forest) c.args.positions.now =
-    subst (λ (ps : List Board). root_positions c.self.inside.bench.state.forest ++ ps ≡ with_roots (root_positions c.self.inside.bench.state.forest) c.args.positions.now) (sym c.as_slice.ensures.keys)
-    (subst (λ (f : Forest). root_positions f ++ c.in_ok-added.added.keys ≡ with_roots (root_positions f) c.args.positions.now) c.tree.ensures.forest c.in_ok-added.ensures.all) in
+    subst (λ (ps : List Board). root_positions c.self.inside.bench.state.forest ++ ps ≡ with_roots (root_positions c.self.inside.bench.state.forest) c.args.positions.now) (sym c.as_slice.ensures)
+    (subst (λ (f : Forest). root_positions f ++ c.in_ok-added.added ≡ with_roots (root_positions f) c.args.positions.now) c.tree.ensures.forest c.in_ok-added.ensures.all) in
     let mid = are_beginning c.self.inside.marks c.push_puts.new.marks c.self.inside.bench c.stage_roots.new.bench c.self.inside.journal c.stage_roots.new.journal c.args.positions.now added
     c.self.invariant.within.filled marks c.in_ok-stage_roots.ensures.bench (ap (λ (l : Log g.row.D.Denot). l.disk) c.in_ok-stage_roots.ensures.journal.2) (sym c.self.invariant.within.failed ∙ unfailed) all in
     subst (λ (s : SessionState g.row.D.Denot). (is_failed s.line ≡ false) × (BeginsRoots s c.args.positions.now (entry.Broken (g.D.Disk.faults (state_of (parts_of c.commit_parts.new.marks c.commit_parts.new.due c.commit_parts.new.bench c.commit_parts.new.journal)).disk) ∷ []) (state_of (parts_of c.commit_parts.new.marks c.commit_parts.new.due c.commit_parts.new.bench c.commit_parts.new.journal)) × (((state_of (parts_of c.commit_parts.new.marks c.commit_parts.new.due c.commit_parts.new.bench c.commit_parts.new.journal)).core.state.forest ≡ s.core.state.forest) × Rose (g.D.Disk.faults s.disk) (g.D.Disk.faults (state_of (parts_of c.commit_parts.new.marks c.commit_parts.new.due c.commit_parts.new.bench c.commit_parts.new.journal)).disk)))) c.self.view_is
