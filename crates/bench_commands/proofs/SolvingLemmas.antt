@@ -3,8 +3,6 @@ use Rattle.std.proofs.Common.{◌≡◌, ℕ, ◌+◌, ◌<◌, ◌≤◌, ◌^�
 use Rattle.std.specs.Prelude.{◌≢◌, Contains, IfOk, IfSome, Result, Ok, Err, true}
 use Rattle.std.proofs.lemmas.Bool.{true≢false}
 use Rattle.bench_disk.specs.declared.disk.Disk.{Ghosts}
-use Rattle.bench_edges.specs.Words.{Says}
-use Rattle.std.specs.Bool.{OnFalse}
 use Rattle.bench_edges.specs.declared.status.Status.{Status}
 use Rattle.bench_edges.specs.declared.status.Status.TheVariants.{Unsolved}
 use Rattle.bench_edges.specs.declared.words.Command.{Command}
@@ -12,23 +10,15 @@ use Rattle.bench_edges.specs.declared.words.Command.TheVariants.{Solve, Report, 
 use Rattle.bench_edges.specs.declared.words.Options.{Options}
 use Rattle.draughts_board.specs.Board.{Board}
 use Rattle.capture_positions.specs.Walk.{openings_from}
-use Rattle.pdn_text.specs.Signs.{pdn_wants_memory as is_pdn_memory}
 use Rattle.pdn_text.specs.declared.game.Game.{Game}
-use Rattle.pdn_text.specs.declared.refusal.PdnRefusal.{PdnRefusal}
-use Rattle.pdn_text.specs.declared.refusal.PdnRefusal.TheVariants as pdn
 use Rattle.pdn_text.proofs.OneReading.{one_reading}
-use Rattle.pdn_openings.specs.Faults.{opening_wants_memory as is_opening_memory}
 use Rattle.pdn_openings.specs.Openings.{AreOpenings}
 use Rattle.pdn_openings.specs.declared.opening.Opening.{Opening}
-use Rattle.pdn_openings.specs.declared.refusal.OpeningRefusal.{OpeningRefusal}
-use Rattle.pdn_openings.specs.declared.refusal.OpeningRefusal.TheVariants as opening
 use Rattle.pdn_openings.proofs.Determined.{one_list}
 use Rattle.proof_tree.specs.Forest.{Forest}
 use Rattle.journal_runs.specs.Ample.{IsAmple}
 use Rattle.journal_runs.specs.Journals.{ReportsTruth, Resumes}
 use Rattle.tree_manager.proofs.ExactLemmas.{files_read_as_one_list}
-use Rattle.opening_report.specs.Conversions.{of_pdn, of_openings}
-use Rattle.opening_report.specs.declared.refusals.Refusal.TheVariants as refusal
 use Rattle.opening_report.specs.declared.roots.Root.{Root}
 use Rattle.opening_report.specs.Report.{report_of}
 use Rattle.opening_report.proofs.ReportLemmas.{report-is_true}
@@ -51,33 +41,6 @@ use Rattle.bench_commands.proofs.WritingLemmas.{output_whole}
 pub one_list_of : (plies : ℕ) (text : List ℕ) (a b : List Opening) → OpeningsOf plies text a → OpeningsOf plies text b → a ≡ b
 one_list_of plies text a b p q =
     one_list plies p.0 a b p.1.1 (subst (λ (games : List Game). AreOpenings plies games b) (one_reading text q.0 p.0 q.1.0 p.1.0) q.1.1)
-
-pub same_games : (a b : List Game) → ◌≡◌ {A = Result (List Game) PdnRefusal} (Ok a) (Ok b) → a ≡ b
-same_games a b h = cc
-
-no_games : (games : List Game) (r : PdnRefusal) → ◌≡◌ {A = Result (List Game) PdnRefusal} (Err r) (Ok games) → ⊥
-no_games games r h = cc
-
-no_openings : (openings : List Opening) (r : OpeningRefusal) → ◌≡◌ {A = Result (List Opening) OpeningRefusal} (Err r) (Ok openings) → ⊥
-no_openings openings r h = cc
-
--- a text that is read is refused for want of memory alone, and so are games that have openings
-pub pdn_only : (games : List Game) (r : PdnRefusal) → OnFalse (is_pdn_memory r) (◌≡◌ {A = Result (List Game) PdnRefusal} (Err r) (Ok games)) → of_pdn r ≡ refusal.Memory
-pdn_only games (pdn.BadByte at) h = absurd (no_games games (pdn.BadByte at) h)
-pdn_only games (pdn.OpenTag at) h = absurd (no_games games (pdn.OpenTag at) h)
-pdn_only games (pdn.OpenComment at) h = absurd (no_games games (pdn.OpenComment at) h)
-pdn_only games (pdn.OpenVariation at) h = absurd (no_games games (pdn.OpenVariation at) h)
-pdn_only games (pdn.BadMove at) h = absurd (no_games games (pdn.BadMove at) h)
-pdn_only games pdn.TooManyGames h = absurd (no_games games pdn.TooManyGames h)
-pdn_only games (pdn.Memory error) h = refl
-
-pub openings_only : (openings : List Opening) (r : OpeningRefusal) → OnFalse (is_opening_memory r) (◌≡◌ {A = Result (List Opening) OpeningRefusal} (Err r) (Ok openings))
-    → of_openings r ≡ refusal.Memory
-openings_only openings (opening.OtherGame game) h = absurd (no_openings openings (opening.OtherGame game) h)
-openings_only openings (opening.Fen game fault) h = absurd (no_openings openings (opening.Fen game fault) h)
-openings_only openings (opening.Illegal game ply at) h = absurd (no_openings openings (opening.Illegal game ply at) h)
-openings_only openings (opening.Ambiguous game ply at) h = absurd (no_openings openings (opening.Ambiguous game ply at) h)
-openings_only openings (opening.Memory error) h = refl
 
 -- ---- the report says what is true, and each opening's position once
 
@@ -102,9 +65,6 @@ run_says positions (Ok x) text settled h = report_says positions (text x) (settl
 run_says positions (Err e) text settled h = tt
 
 -- ---- the openings of the source of a run
-
-pub said_once : {E : Type 0} (words : List (List ℕ)) (command other : Command) → ((c : Command) → Says words c → ◌≡◌ {A = Result Command E} (Ok command) (Ok c)) → Says words other → command ≡ other
-said_once words command other each says = let e = each other says in cc
 
 -- a good source of openings, and a journal that has room for their roots, are not refused
 pub openings_accepted : {D : Type 0} (g : Ghosts D) (options : Options) (source : Option (List ℕ)) (old : D) (status : Status) → Accepts g (Solve options) source old status

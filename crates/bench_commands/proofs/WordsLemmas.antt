@@ -1,5 +1,6 @@
 -- A run by its words: that of the command which they say, or one that is refused by them.
 use Rattle.std.proofs.Common.{◌≡◌, ◌≢◌, ◌⊎◌, ℕ, inl, inr, List, Option, None, Some, refl, sym, ◌∙◌, ap, subst}
+use Rattle.std.specs.Prelude.{Result, Ok, Err, IfOk, IfErr}
 use Rattle.bench_disk.specs.declared.disk.Disk.{Ghosts}
 use Rattle.bench_edges.specs.Words.{Says, IsRefusedAt}
 use Rattle.bench_edges.specs.declared.sink.Sink.{Ghosts as SinkGhosts}
@@ -8,6 +9,7 @@ use Rattle.bench_edges.specs.declared.status.Status.{Status}
 use Rattle.bench_edges.specs.declared.status.Status.TheVariants.{Unsolved, Words, Read}
 use Rattle.bench_edges.specs.declared.words.Command.{Command}
 use Rattle.bench_edges.specs.declared.words.Command.TheVariants.{Solve, Report, Certify, Verify, Learn, MakeTable, TableCheck, Generate}
+use Rattle.bench_edges.specs.declared.words.WordsRefusal.{WordsRefusal}
 use Rattle.capture_positions.specs.Walk.{openings_from}
 use Rattle.journal_lessons.specs.Conversions.{of_lesson}
 use Rattle.opening_report.specs.Refusals.{refusal_text}
@@ -19,7 +21,7 @@ use Rattle.bench_commands.specs.Accepted.{Accepts, HasAmpleBudget, HasAsked, Has
 use Rattle.bench_commands.specs.Bench.{Does, HoldsOpenings, IsCommandRefusal, IsRefusalByWords, IsRefused, ReadsSource, TakesAtMost, WritesOnly}
 use Rattle.bench_commands.specs.Commands.{source_limit}
 use Rattle.bench_commands.specs.Disks.{LeavesDisk}
-use Rattle.bench_commands.specs.Runs.{HandsOut, RunsCommand, RunsWords}
+use Rattle.bench_commands.specs.Runs.{HandsOut, IsReadingOf, RunsCommand, RunsWords}
 use Rattle.bench_commands.specs.Steps.{IsLineOf}
 use Rattle.bench_commands.specs.declared.commands.generate.TheConstants.{GENERATE_DEPTH, GENERATE_PIECES}
 use Rattle.bench_commands.proofs.NewJournalLemmas.{new_has_ample_budget, new_has_room}
@@ -27,6 +29,20 @@ use Rattle.bench_commands.proofs.RefusalLemmas.{certificates_accepted, lessons_a
 use Rattle.bench_commands.proofs.ReachedLemmas.{reached_solves}
 use Rattle.bench_commands.proofs.SolvingLemmas.{ample_generates, ample_solves, openings_accepted}
 use Rattle.bench_commands.proofs.WritingLemmas.{line_values}
+
+-- ---- what was read of the words
+
+module _ (words : List (List ℕ)) (said : Result Command WordsRefusal) where
+  pub says_read : (command : Command) → said ≡ Ok command → IsReadingOf words said → Says words command
+  says_read command is reading = subst (λ (r : Result Command WordsRefusal). IfOk r (Says words)) is reading.says
+
+  pub once_read : (command : Command) → said ≡ Ok command → IsReadingOf words said → (other : Command) → Says words other → command ≡ other
+  once_read command is reading other says =
+      let e = reading.each_command other says in
+      cc
+
+  pub refused_read : (refused : WordsRefusal) → said ≡ Err refused → IsReadingOf words said → IsRefusedAt words refused.at
+  refused_read refused is reading = subst (λ (r : Result Command WordsRefusal). IfErr r (λ w. IsRefusedAt words w.at)) is reading.refused
 
 -- ---- the words say a command
 

@@ -10,11 +10,12 @@ use Rattle.journal_looks.specs.Looks.{IsTrueReport}
 use Rattle.journal_runs.specs.Journals.{CountsRoots}
 use Rattle.strategy_certificate.specs.Certificates.{IsGood}
 use Rattle.opening_report.specs.declared.refusals.Refusal.{Refusal}
+use Rattle.program_edges.specs.Games.{HasGamesFault}
 use Rattle.program_edges.specs.declared.sources.TheConstants.{MOST_GAMES_BYTES}
 use Rattle.bench_commands.specs.declared.commands.table_check.TheConstants.{MOST_TABLE_BYTES}
 use Rattle.bench_commands.specs.declared.commands.verify.TheConstants.{MOST_CERTIFICATE_BYTES}
 use Rattle.bench_commands.specs.Learning.{IsLearntOf}
-use Rattle.bench_commands.specs.Solving.{IsReportOn, HasGamesFault}
+use Rattle.bench_commands.specs.Solving.{IsReportOn}
 use Rattle.bench_commands.specs.Tables.{AreTableBytes, IsSoundOf, HasTableFault}
 use Rattle.bench_commands.specs.Verifying.{IsVerifiedOf, HasCertificateFault}
 

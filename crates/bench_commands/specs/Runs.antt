@@ -1,11 +1,11 @@
 -- The clauses of a run, each said once: of a run by its command, of one by its words, which are those
 -- of `bench`, and of how it ended.
-use Rattle.std.specs.Prelude.{◌≡◌, ◌≢◌, ◌⊎◌, ◌↔◌, ℕ, ◌≤◌, List, [], length, Option, None, Some, IfSome}
+use Rattle.std.specs.Prelude.{◌≡◌, ◌≢◌, ◌⊎◌, ◌↔◌, ℕ, ◌≤◌, List, [], length, Option, None, Some, IfSome, Result, Ok, IfOk, IfErr}
 use Rattle.std.specs.Io.KnownBytes.{IsAtEnd}
 use Rattle.bench_disk.specs.declared.disk.Disk.{Ghosts}
 use Rattle.shared_words.specs.Counts.{Rose}
 use Rattle.bench_disk.specs.Disk.{IsHonest}
-use Rattle.bench_edges.specs.Words.{Says}
+use Rattle.bench_edges.specs.Words.{IsRefusedAt, Says}
 use Rattle.bench_edges.specs.declared.sink.Sink.{Ghosts as SinkGhosts}
 use Rattle.bench_edges.specs.declared.source.Source.{Ghosts as SourceGhosts}
 use Rattle.bench_edges.specs.declared.status.Status.{Status}
@@ -13,6 +13,7 @@ use Rattle.bench_edges.specs.declared.status.Status.TheVariants.{Unsolved, Words
 use Rattle.bench_edges.specs.declared.words.Command.{Command}
 use Rattle.bench_edges.specs.declared.words.Command.TheVariants.{Solve, Report, Certify, Verify, Learn, MakeTable, TableCheck, Generate}
 use Rattle.bench_edges.specs.declared.words.Options.{Options}
+use Rattle.bench_edges.specs.declared.words.WordsRefusal.{WordsRefusal}
 use Rattle.bench_records.specs.declared.records.BenchRecord.{BenchRecord}
 use Rattle.capture_positions.specs.Walk.{openings_from}
 use Rattle.certificate_text.specs.Text.{ReadsAs}
@@ -81,6 +82,14 @@ module _ {D : Type 0} (g : Ghosts D) where
     pub front : TakesAtMost command source rest
 
 -- ---- by the words
+
+-- What `read_words` makes of a command line: the one command that it says, or the place at which it
+-- is refused.
+pub record IsReadingOf (command_line : List (List ℕ)) (said : Result Command WordsRefusal)
+    : Type 0 where
+  pub says : IfOk said (Says command_line)
+  pub each_command : (command : Command) → Says command_line command → said ≡ Ok command
+  pub refused : IfErr said (λ refusal. IsRefusedAt command_line refusal.at)
 
 module _ {S K D : Type 0} (s : SourceGhosts S) (k : SinkGhosts K) (g : Ghosts D) where
   -- A run by the words of this command line, with this status: the clauses of `bench`, in its order.
@@ -167,8 +176,3 @@ pub record HandsOut {D : Type 0} (IsCause : Refusal → Type 0) (old new : D)
       → (why : IsRefused IsCause old new before after written_before written_after status)
       × (handed ≡ Some why.refusal)
   pub reported : Reports status → handed ≡ None
-
--- the command that the words say, and none where they say none
-abbrev pub IsCommandOf : List (List ℕ) → Option Command → Type 0
-IsCommandOf words None = (command : Command) → ¬ Says words command
-IsCommandOf words (Some command) = Says words command

@@ -1,18 +1,13 @@
 -- What `solve` makes of a text of games: its openings, the roots among them, and the report.
-use Rattle.std.specs.Prelude.{◌≡◌, ℕ, ◌⊎◌, Bool, List, map}
+use Rattle.std.specs.Prelude.{ℕ, Bool, List, map}
 use Rattle.draughts_board.specs.Board.{Board}
 use Rattle.draughts_board.specs.Rules.{first_places}
 use Rattle.bench_edges.specs.declared.words.Options.{Options}
-use Rattle.pdn_text.specs.Pdn.{Reads, Refused}
+use Rattle.pdn_text.specs.Pdn.{Reads}
 use Rattle.pdn_text.specs.declared.game.Game.{Game}
-use Rattle.pdn_text.specs.declared.refusal.PdnRefusal.{PdnRefusal}
 use Rattle.pdn_openings.specs.Openings.{AreOpenings}
-use Rattle.pdn_openings.specs.Faults.{OpeningFaultStandsFirst}
 use Rattle.pdn_openings.specs.declared.opening.Opening.{Opening}
-use Rattle.pdn_openings.specs.declared.refusal.OpeningRefusal.{OpeningRefusal}
 use Rattle.journal_runs.specs.Journals.{ReportsTruth}
-use Rattle.opening_report.specs.Conversions.{of_pdn, of_openings}
-use Rattle.opening_report.specs.declared.refusals.Refusal.{Refusal}
 
 -- ---- openings and roots
 
@@ -37,14 +32,3 @@ pub record IsReportOn (options : Options) (source text : List ℕ) (settled : Bo
   pub openings : List Opening
   pub read : OpeningsOf options.plies source openings
   pub reported : ReportsTruth (roots_of_openings openings) text settled
-
--- ---- what is wrong
-
--- The source has no openings, and this is why: the fault that stands first in its text, or that of
--- the first game with one.
-abbrev pub HasGamesFault : ℕ → List ℕ → Refusal → Type 0
-HasGamesFault plies source r =
-    ((fault : PdnRefusal) × ((r ≡ of_pdn fault) × Refused source fault))
-    ⊎ ((games : List Game) × (Reads source games
-    × ((fault : OpeningRefusal) × ((r ≡ of_openings fault)
-    × OpeningFaultStandsFirst plies games fault))))

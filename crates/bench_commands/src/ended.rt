@@ -1,13 +1,11 @@
 //! How a run ended.
-use bench_edges::{Command, Status};
+use bench_edges::Status;
 use opening_report::Refusal;
 
 /// How a run ended, and what a person may be told of it.
 #[derive(Clone, Copy, Debug, PartialEq, Eq)]
 pub struct Ended {
     pub status: Status,
-    /// The command that the words say; none where they say none.
-    pub command: Option<Command>,
     /// Why it was refused; none where it came to what it has to write.
     pub refusal: Option<Refusal>,
 }

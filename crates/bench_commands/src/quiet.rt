@@ -1,5 +1,5 @@
 //! The commands that do not search: they take no threads, and every call returns.
-ghost use Rattle.std.specs.Prelude.{◌≡◌, None, Some};
+ghost use Rattle.std.specs.Prelude.{◌≡◌, None};
 ghost use Rattle.bench_edges.specs.Words.{IsWithinLimits};
 ghost use Rattle.bench_commands.specs.Bench.{IsCommandRefusal};
 ghost use Rattle.bench_commands.specs.Commands.{Searches, source_limit};
@@ -63,7 +63,6 @@ pub(crate) fn run_quiet<S: Source, K: Sink, D: Disk>(
         (S.faults source.old) (S.faults source.new) disk result.1)
         disk result.1 (K.taken sink.old) (K.taken sink.new)
         (K.faults sink.old) (K.faults sink.new) result.0.status result.0.refusal }
-    ensures command { result.0.command ≡ Some command }
     ensures unread { source_limit command ≡ None → source.new ≡ source.old }
 {
     let limit = source_limit(command);
@@ -72,17 +71,12 @@ pub(crate) fn run_quiet<S: Source, K: Sink, D: Disk>(
             let (disk, answer) = quiet_bytes(alloc, command, &bytes, disk);
             hand_back(limit, bytes, source);
             let (status, refusal) = write_answer(answer, sink);
-            let ended = Ended {
-                status,
-                command: Some(command),
-                refusal,
-            };
+            let ended = Ended { status, refusal };
             (ended, disk)
         }
         Err(refusal) => {
             let ended = Ended {
                 status: refuse(&refusal, sink),
-                command: Some(command),
                 refusal: Some(refusal),
             };
             (ended, disk)

@@ -1,16 +1,16 @@
-//! What a run does by its words, and how it ended.
-ghost use Rattle.std.specs.Prelude.{◌≡◌, None, Some};
-ghost use Rattle.bench_edges.specs.Words.{IsWithinLimits, texts};
+//! What a run does by its words, which were read before, and how it ended.
+ghost use Rattle.std.specs.Prelude.{◌≡◌, ℕ, List, None, IfOk};
+ghost use Rattle.bench_edges.specs.Words.{IsWithinLimits};
 ghost use Rattle.bench_commands.specs.Bench.{IsCommandRefusal, IsRefusalByWords};
 ghost use Rattle.bench_commands.specs.Commands.{source_limit};
-ghost use Rattle.bench_commands.specs.Runs.{HandsOut, IsCommandOf, RunsCommand, RunsWords};
+ghost use Rattle.bench_commands.specs.Runs.{HandsOut, IsReadingOf, RunsCommand, RunsWords};
 
 use crate::by_command::searches;
 use crate::ended::Ended;
 use crate::quiet::run_quiet;
 use crate::searching::run_search;
 use bench_disk::Disk;
-use bench_edges::{Command, Sink, Source, read_words};
+use bench_edges::{Command, Sink, Source, WordsRefusal};
 use opening_report::Refusal;
 use program_edges::refuse;
 use std::alloc::Global;
@@ -39,7 +39,6 @@ fn run_command<R: Threads + Wait + Sync, S: Source, K: Sink, D: Disk + Send, G: 
         (S.faults source.old) (S.faults source.new) disk result.1)
         disk result.1 (K.taken sink.old) (K.taken sink.new)
         (K.faults sink.old) (K.faults sink.new) result.0.status result.0.refusal }
-    ensures command { result.0.command ≡ Some command }
     ensures unread { source_limit command ≡ None → source.new ≡ source.old }
 {
     if searches(command) {
@@ -49,33 +48,37 @@ fn run_command<R: Threads + Wait + Sync, S: Source, K: Sink, D: Disk + Send, G: 
     }
 }
 
-/// Does what the words say, on the journal of the disk, and hands out how the run ended, and the
-/// disk. It is [`bench`], but that it says of a refused run why it was refused.
+/// Does what words say, by what [`read_words`] made of them, on the journal of the disk, and hands
+/// out how the run ended, and the disk. It is [`bench`], but that it says of a refused run why it was
+/// refused.
+///
+/// [`bench`]: crate::bench
 pub fn run<R: Threads + Wait + Sync, S: Source, K: Sink, D: Disk + Send, G: Gate + Sync>(
     rt: &R,
     alloc: Global,
-    words: &[&str],
+    said: Result<Command, WordsRefusal>,
     source: &mut S,
     sink: &mut K,
     disk: D,
     gate: &G,
 ) -> (Ended, D)
-    ensures runs { RunsWords S.Source K.Sink D.Disk (texts words.now)
+    requires { IfOk said IsWithinLimits }
+    ensures runs { (words : List (List ℕ)) → IsReadingOf words said
+        → RunsWords S.Source K.Sink D.Disk words
         source.old source.new sink.old sink.new disk result.1 result.0.status }
-    ensures ended { HandsOut (IsRefusalByWords D.Disk
-        (texts words.now) (S.left source.old) (S.left source.new)
+    ensures ended { (words : List (List ℕ)) → IsReadingOf words said
+        → HandsOut (IsRefusalByWords D.Disk
+        words (S.left source.old) (S.left source.new)
         (S.faults source.old) (S.faults source.new) disk result.1)
         disk result.1 (K.taken sink.old) (K.taken sink.new)
         (K.faults sink.old) (K.faults sink.new) result.0.status result.0.refusal }
-    ensures command { IsCommandOf (texts words.now) result.0.command }
 {
-    match read_words(words) {
+    match said {
         Ok(command) => run_command(rt, alloc, command, source, sink, disk, gate),
         Err(refused) => {
             let refusal = Refusal::from(refused);
             let ended = Ended {
                 status: refuse(&refusal, sink),
-                command: None,
                 refusal: Some(refusal),
             };
             (ended, disk)

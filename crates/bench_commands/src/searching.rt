@@ -1,5 +1,5 @@
 //! The commands that search: workers share the session on the journal.
-ghost use Rattle.std.specs.Prelude.{◌≡◌, None, Some};
+ghost use Rattle.std.specs.Prelude.{◌≡◌, None};
 ghost use Rattle.bench_edges.specs.Words.{IsWithinLimits};
 ghost use Rattle.bench_commands.specs.Bench.{IsCommandRefusal};
 ghost use Rattle.bench_commands.specs.Commands.{Searches, source_limit};
@@ -68,7 +68,6 @@ pub(crate) fn run_search<
         (S.faults source.old) (S.faults source.new) disk result.1)
         disk result.1 (K.taken sink.old) (K.taken sink.new)
         (K.faults sink.old) (K.faults sink.new) result.0.status result.0.refusal }
-    ensures command { result.0.command ≡ Some command }
     ensures unread { source_limit command ≡ None → source.new ≡ source.old }
 {
     let limit = source_limit(command);
@@ -77,17 +76,12 @@ pub(crate) fn run_search<
             let (disk, answer) = search_bytes(rt, alloc, command, &bytes, disk, gate);
             hand_back(limit, bytes, source);
             let (status, refusal) = write_answer(answer, sink);
-            let ended = Ended {
-                status,
-                command: Some(command),
-                refusal,
-            };
+            let ended = Ended { status, refusal };
             (ended, disk)
         }
         Err(refusal) => {
             let ended = Ended {
                 status: refuse(&refusal, sink),
-                command: Some(command),
                 refusal: Some(refusal),
             };
             (ended, disk)

@@ -30,7 +30,7 @@ use crate::commands::generate::{GENERATE_DEPTH, GENERATE_PIECES};
 use crate::commands::verify::MOST_CERTIFICATE_BYTES;
 use crate::running::run;
 use bench_disk::Disk;
-use bench_edges::{Command, Sink, Source, Status};
+use bench_edges::{Command, Sink, Source, Status, read_words};
 use program_edges::MOST_GAMES_BYTES;
 use std::alloc::Global;
 use std::sync::Wait;
@@ -179,6 +179,7 @@ pub fn bench<R: Threads + Wait + Sync, S: Source, K: Sink, D: Disk + Send, G: Ga
         → source_limit command ≡ None → source.new ≡ source.old }
     ensures unread_by_words { result.0 ≡ Status.Words → source.new ≡ source.old }
 {
-    let (ended, disk) = run(rt, alloc, words, source, sink, disk, gate);
+    let said = read_words(words);
+    let (ended, disk) = run(rt, alloc, said, source, sink, disk, gate);
     (ended.status, disk)
 }

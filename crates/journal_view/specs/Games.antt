@@ -1,43 +1,22 @@
 -- The games on standard input, for a request that shows which of them lead to a root.
 use Rattle.std.specs.Prelude.{◌≡◌, ◌⊎◌, ℕ, List, Option, Some, None, IfSome, IsSomeAnd, unwrap_or}
 use Rattle.opened_games.specs.Opened.{Opened}
-use Rattle.opening_report.specs.Conversions.{of_openings, of_pdn}
 use Rattle.opening_report.specs.declared.refusals.Refusal.{Refusal}
 use Rattle.opening_report.specs.declared.refusals.Refusal.TheVariants as refusal
-use Rattle.pdn_openings.specs.Faults.{OpeningFaultStandsFirst}
-use Rattle.pdn_openings.specs.Openings.{AreOpenings}
-use Rattle.pdn_openings.specs.declared.refusal.OpeningRefusal.{OpeningRefusal}
-use Rattle.pdn_text.specs.Pdn.{Reads, Refused}
-use Rattle.pdn_text.specs.declared.game.Game.{Game}
-use Rattle.pdn_text.specs.declared.refusal.PdnRefusal.{PdnRefusal}
+use Rattle.program_edges.specs.Games.{HasGamesFault, OpensGames}
 use Rattle.program_edges.specs.Sources.{IsCutShort, IsInput}
 use Rattle.program_edges.specs.declared.sources.TheConstants.{MOST_GAMES_BYTES}
 use Rattle.view_words.specs.declared.requests.Request.{Request}
 use Rattle.view_words.specs.declared.requests.Request.TheVariants.{Roots, Line, Tree, Page, Records}
 use Rattle.view_words.specs.declared.requests.TheConstants.{MOST_PLAYED}
 
--- of a text
-
--- The games of the text, with their openings after `plies` plies.
-pub record OpensGames (plies : ℕ) (text : List ℕ) (opened : Opened) : Type 0 where
-  pub read : Reads text opened.games
-  pub opens : AreOpenings plies opened.games opened.openings
-
--- The text has no openings, and this is why: the fault that stands first in it, or that of the first game
--- with one.
-abbrev pub HasGamesFault : ℕ → List ℕ → Refusal → Type 0
-HasGamesFault plies text r =
-    ((fault : PdnRefusal) × ((r ≡ of_pdn fault) × Refused text fault))
-    ⊎ ((games : List Game) × (Reads text games
-    × ((fault : OpeningRefusal) × ((r ≡ of_openings fault)
-    × OpeningFaultStandsFirst plies games fault))))
-
 -- ---- of a source
 
 -- the games of a source, which was read to its end
 abbrev pub OpensSource : ℕ → Option (List ℕ) → Opened → Type 0
 OpensSource plies source opened =
-    (text : List ℕ) × (IsInput (Some MOST_GAMES_BYTES) source text × OpensGames plies text opened)
+    (text : List ℕ) × (IsInput (Some MOST_GAMES_BYTES) source text
+    × OpensGames plies text opened.games opened.openings)
 
 -- The source was cut short; or it was read, and memory ran out or its text has no openings.
 abbrev pub IsRefusedSource : ℕ → Option (List ℕ) → Option (List ℕ) → ℕ → ℕ → Refusal → Type 0

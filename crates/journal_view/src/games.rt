@@ -1,26 +1,25 @@
 //! The games on standard input.
 ghost use Rattle.std.specs.Prelude.{◌≡◌, ◌⊎◌, None, ℕ, List, IfErr, IfOk};
 ghost use Rattle.opening_report.specs.declared.refusals.Refusal.TheVariants as refusals;
-ghost use Rattle.journal_view.specs.Games.{HasGames, HasGamesFault, HasNoGames, IsRefusedSource, OpensGames, OpensSource, played};
+ghost use Rattle.journal_view.specs.Games.{HasGames, HasNoGames, IsRefusedSource, OpensSource, played};
+ghost use Rattle.program_edges.specs.Games.{HasGamesFault, OpensGames};
 
 use bench_edges::Source;
 use opened_games::OpenedGames;
 use opening_report::Refusal;
-use pdn_openings::openings;
-use pdn_text::read_games;
-use program_edges::{MOST_GAMES_BYTES, hand_back, read_source};
+use program_edges::{MOST_GAMES_BYTES, hand_back, read_openings, read_source};
 use std::alloc::Global;
 use view_words::{MOST_PLAYED, Request};
 
 /// The games of a text with their openings after this number of plies.
 fn opened_in(alloc: Global, plies: u32, text: &[u8]) -> Result<OpenedGames, Refusal>
-    ensures opened { IfOk result (OpensGames plies text.now) }
+    ensures opened { IfOk result (λ opened.
+        OpensGames plies text.now opened.games opened.openings) }
     ensures refused { IfErr result (λ r.
         (r ≡ refusals.Memory) ⊎ HasGamesFault plies text.now r) }
 {
-    let games = read_games(alloc, text)?;
-    let found = openings(alloc, &games, plies)?;
-    Ok(OpenedGames::of(alloc, games, found)?)
+    let found = read_openings(alloc, plies, text)?;
+    Ok(OpenedGames::of(alloc, found.games, found.openings)?)
 }
 
 /// The games of a source with their openings after this number of plies. The bytes that were read go back

@@ -3,12 +3,15 @@
 //! The program reads games, works on their openings on a journal that keeps what is found, and
 //! writes what the certificates found there show of their values. [`run`] does all of it, over any
 //! source, any sink and any disk, and promises what it writes and what it leaves; `main` only gives
-//! it the words, standard input, standard output and the journal's file, tells a person of how the
-//! run ended, and answers `--help` and `--version` itself.
+//! it what was read of the words, standard input, standard output and the journal's file, tells a
+//! person of how the run ended, and answers `--help` and `--version` itself.
 //!
 //! Proved: the clauses of [`bench_commands::bench`], in `docs/PROVED.md`, which [`run`] promises as one
 //! record.
 #![tactic(auto)]
+
+ghost use Rattle.std.specs.Prelude.{IfOk};
+ghost use Rattle.bench_edges.specs.Words.{IsWithinLimits};
 
 mod clearing_sink;
 mod deeper;
@@ -22,9 +25,9 @@ mod usage;
 
 use bench_commands::run;
 use bench_disk::{Access, FileDisk};
-use bench_edges::{Command, StdSink, StdSource, read_words};
+use bench_edges::{Command, StdSink, StdSource, WordsRefusal, read_words};
 use clearing_sink::ClearingSink;
-use program_edges::{KeepingSink, KeepingSource, PathDisk, Standards, args, print, told, words_of};
+use program_edges::{KeepingSource, PathDisk, Standards, args, print, told, words_of};
 use progress::ProgressGate;
 use std::io::{self, IsTerminal};
 use std::process::ExitCode;
@@ -36,37 +39,31 @@ use usage::{USAGE, VERSION};
 /// The word of a journal that is named by none.
 const NO_PATH: &str = "-";
 
-/// Runs on the journal of a disk, from standard input to standard output, tells of it on standard
-/// error, and gives the exit status.
+/// Runs by what was read of the words on the journal of a disk, from standard input to standard
+/// output, tells of it on standard error, and gives the exit status.
 fn run_on<R: Threads + Wait + Sync>(
     threads: &R,
     rt: &HostRuntime,
     words: &[&str],
+    said: Result<Command, WordsRefusal>,
     disk: PathDisk<FileDisk<&HostRuntime>>,
-) -> u8 {
-    let gate = ProgressGate::new(rt, words);
+) -> u8
+    requires { IfOk said IsWithinLimits }
+{
+    let command = said.ok();
+    let gate = ProgressGate::new(rt, path_of(words), command);
     let mut source = KeepingSource::new(StdSource::new(rt.reader()));
-    let out = ClearingSink::new(StdSink::new(io::writer(rt)), &gate);
-    let mut sink = KeepingSink::new(rt.alloc(), out);
-    let command = command_of(words);
+    let mut sink = ClearingSink::new(StdSink::new(io::writer(rt)), &gate);
     if looks(command) || (writes(command) && !rt.stdin().is_terminal()) {
         gate.reads(looks(command));
     }
-    let (ended, disk) = run(
-        threads,
-        rt.alloc(),
-        words,
-        &mut source,
-        &mut sink,
-        disk,
-        &gate,
-    );
+    let (ended, disk) = run(threads, rt.alloc(), said, &mut source, &mut sink, disk, &gate);
     gate.clear();
-    tell_of_disk(rt, words, &disk);
+    tell_of_disk(rt, path_of(words), &disk);
     let heard = Heard {
+        command,
         cause: disk.cause(),
         source: source.kept(),
-        written: sink.kept(),
         unsolved: gate.unsolved(),
     };
     tell_of(rt, words, &ended, &heard);
@@ -86,21 +83,22 @@ fn looks(command: Option<Command>) -> bool {
     matches!(command, Some(Command::Report | Command::Certify(_)))
 }
 
-/// The command that the words say; none where they say none.
-fn command_of(words: &[&str]) -> Option<Command> {
-    read_words(words).ok()
+/// The journal's path, which the first word names. No word stands for a journal in memory, as `-`
+/// does.
+fn path_of<'a>(words: &[&'a str]) -> &'a str {
+    words.first().copied().unwrap_or(NO_PATH)
 }
 
-/// Runs on the journal that the first word names, and gives the exit status. No word stands for a
-/// journal in memory, as `-` does.
+/// Reads the words, runs as they say, and gives the exit status.
 fn run_words<R: Threads + Wait + Sync>(
     threads: &R,
     rt: &HostRuntime,
     words: &[&str],
 ) -> Result<u8, u8> {
     let standards = Standards::take(rt);
-    let path = words.first().copied().unwrap_or(NO_PATH);
-    let command = command_of(words);
+    let path = path_of(words);
+    let said = read_words(words);
+    let command = said.ok();
     if writes(command) && standards.has_other_run(rt, path) {
         tell_of_other_run(rt, path);
     }
@@ -110,7 +108,7 @@ fn run_words<R: Threads + Wait + Sync>(
         Access::Writes
     };
     let disk = standards.disk_of(rt, path, access)?;
-    Ok(run_on(threads, rt, words, disk))
+    Ok(run_on(threads, rt, words, said, disk))
 }
 
 /// Tells of the program, or runs as the words of the command line say, and gives the exit status.

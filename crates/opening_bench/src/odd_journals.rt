@@ -1,5 +1,4 @@
 //! Journals whose name looks like an option.
-use crate::NO_PATH;
 use bench_edges::Command;
 use std::alloc::{AllocError, Global};
 use terminal_text::{quote, say, shown};
@@ -17,13 +16,13 @@ fn uses_journal(command: Option<Command>) -> bool {
     }
 }
 
-/// The text on a journal that is named by a first word like an option; empty where it is not.
+/// The text on a journal whose path is a word like an option; empty where it is not.
 pub(crate) fn journal_text(
     alloc: Global,
-    words: &[&str],
+    path: &str,
     command: Option<Command>,
 ) -> Result<Vec<u8>, AllocError> {
-    let name = words.first().copied().unwrap_or(NO_PATH).as_bytes();
+    let name = path.as_bytes();
     let mut text = Vec::new(alloc);
     if uses_journal(command) && name.starts_with(b"-") && name.len() > 1 {
         say(&mut text, "The journal is the file `")?;

@@ -1,10 +1,11 @@
 //! Progress for a person who waits, and what is noted of a run for what is told behind it.
 use crate::NO_PATH;
+use crate::deeper::deeper_text;
 use crate::progress_lines::{Pace, Progress, found_text, progress_line};
 use crate::shares::shares_of;
 use crate::unsolved::unsolved_text;
 use bench_core::Bench;
-use bench_edges::{Command, Options, read_words};
+use bench_edges::{Command, Options};
 use lease_table::Lease;
 use proof_tree::Tree;
 use std::alloc::{AllocError, Global};
@@ -12,6 +13,7 @@ use std::io::{IsTerminal, Write};
 use std::sync::OnceLock;
 use std::sync::atomic::{AtomicU64, Ordering};
 use std::time::Instant;
+use terminal_text::say;
 use tree_manager::RootCounts;
 use worker_gate::Gate;
 
@@ -100,10 +102,10 @@ pub(crate) struct ProgressGate<'a> {
     unsolved: OnceLock<Vec<u8>>,
 }
 
-/// The options of `solve`, where the words say it.
-fn options_of(words: &[&str]) -> Option<Options> {
-    match read_words(words) {
-        Ok(Command::Solve(options)) => Some(options),
+/// The options of `solve`, where that is the command.
+fn options_of(command: Option<Command>) -> Option<Options> {
+    match command {
+        Some(Command::Solve(options)) => Some(options),
         _ => None,
     }
 }
@@ -121,10 +123,14 @@ fn room_for(alloc: Global, options: &Options) -> Vec<AtomicU64> {
 }
 
 impl<'a> ProgressGate<'a> {
-    /// A gate that no search has passed, of a run by these words.
-    pub(crate) fn new(rt: &'a HostRuntime, words: &[&str]) -> ProgressGate<'a> {
+    /// A gate that no search has passed, of a run of a command on the journal at a path.
+    pub(crate) fn new(
+        rt: &'a HostRuntime,
+        path: &str,
+        command: Option<Command>,
+    ) -> ProgressGate<'a> {
         let is_terminal = rt.stderr().is_terminal();
-        let options = options_of(words);
+        let options = options_of(command);
         ProgressGate {
             rt,
             is_terminal,
@@ -144,7 +150,7 @@ impl<'a> ProgressGate<'a> {
                 Some(options) => room_for(rt.alloc(), options),
                 None => Vec::new(rt.alloc()),
             },
-            in_memory: words.first().copied().unwrap_or(NO_PATH) == NO_PATH,
+            in_memory: path == NO_PATH,
             unsolved: OnceLock::new(),
         }
     }
@@ -204,12 +210,14 @@ impl<'a> ProgressGate<'a> {
         }
     }
 
-    /// The text on the roots of a bench that have no value.
-    fn text_on(&self, bench: &Bench, table: u8) -> Result<Vec<u8>, AllocError> {
+    /// The text on the roots of a bench that have no value, behind a run with these options.
+    fn text_on(&self, bench: &Bench, options: &Options) -> Result<Vec<u8>, AllocError> {
         let alloc = self.rt.alloc();
         let begun = self.begun.load(Ordering::SeqCst);
-        let shares = shares_of(alloc, bench, table, &self.nodes, begun)?;
-        unsolved_text(alloc, &shares, self.in_memory)
+        let shares = shares_of(alloc, bench, options.pieces, &self.nodes, begun)?;
+        let mut text = unsolved_text(alloc, &shares, self.in_memory)?;
+        say(&mut text, deeper_text(options.depth, &shares.roots))?;
+        Ok(text)
     }
 }
 
@@ -269,7 +277,7 @@ impl Gate for ProgressGate<'_> {
         if let Some(options) = &self.options
             && options.budget > 0
             && !bench.tree().are_settled()
-            && let Ok(text) = self.text_on(bench, options.pieces)
+            && let Ok(text) = self.text_on(bench, options)
         {
             let _ = self.unsolved.try_set(text);
         }

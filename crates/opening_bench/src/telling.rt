@@ -1,7 +1,6 @@
 //! What a person at a terminal is told on standard error, behind what the run itself wrote.
-use crate::NO_PATH;
-use crate::deeper::deeper_text;
 use crate::odd_journals::journal_text;
+use crate::path_of;
 use bench_commands::Ended;
 use bench_disk::FileDisk;
 use bench_edges::{Command, MOST_PLIES, Options, Status};
@@ -15,12 +14,12 @@ use std::io::{ErrorKind, IsTerminal};
 /// What a run leaves of which a person is told.
 #[derive(Clone, Copy)]
 pub(crate) struct Heard<'a> {
+    /// The command that the words say; none where they say none.
+    pub(crate) command: Option<Command>,
     /// What the system said of the journal's file when it last refused a call.
     pub(crate) cause: Option<ErrorKind>,
     /// What the run read; empty where that did not come to its end.
     pub(crate) source: &'a [u8],
-    /// What it wrote.
-    pub(crate) written: &'a [u8],
     /// What there is to say of roots without a value.
     pub(crate) unsolved: &'a [u8],
 }
@@ -58,11 +57,6 @@ fn leaves_source(refusal: Refusal) -> bool {
     matches!(refusal, Refusal::TooLong | Refusal::Read | Refusal::Memory)
 }
 
-/// The journal's path.
-fn path_of<'a>(words: &[&'a str]) -> &'a str {
-    words.first().copied().unwrap_or(NO_PATH)
-}
-
 /// What can be done about a refusal: where the disk failed, that is told by what the system said.
 fn advice_text(
     alloc: Global,
@@ -84,11 +78,10 @@ fn refusal_text(
     alloc: Global,
     words: &[&str],
     refusal: Refusal,
-    command: Option<Command>,
     heard: &Heard<'_>,
 ) -> Result<Vec<u8>, AllocError> {
     let mut text = advice_text(alloc, words, &refusal, heard)?;
-    if let Some(Command::Solve(options)) = command
+    if let Some(Command::Solve(options)) = heard.command
         && !leaves_source(refusal)
     {
         let warnings = warned_text(alloc, &options, heard.source)?;
@@ -97,18 +90,16 @@ fn refusal_text(
     Ok(text)
 }
 
-/// What is told of games that were read: warnings, what there is to say of roots without a value, and
-/// which depth tries more where roots are unsolved in the report.
+/// What is told of games that were read: warnings, and what there is to say of roots without a value.
 fn solved_text(alloc: Global, options: &Options, heard: &Heard<'_>) -> Result<Vec<u8>, AllocError> {
     let mut text = warned_text(alloc, options, heard.source)?;
     text.extend_from_slice(heard.unsolved)?;
-    text.extend_from_slice(&deeper_text(alloc, options, heard.written)?)?;
     Ok(text)
 }
 
-/// The text for a person on a run that ended so: what can be done about a refusal; warnings, where
-/// games were read, what is told of roots without a value, and which depth tries more; how to keep a
-/// table that went to a terminal.
+/// The text for a person on a run that ended so: what can be done about a refusal; where games were
+/// read, warnings and what is told of roots without a value; how to keep a table that went to a
+/// terminal.
 fn text_for(
     alloc: Global,
     words: &[&str],
@@ -117,9 +108,9 @@ fn text_for(
     is_terminal: bool,
 ) -> Result<Vec<u8>, AllocError> {
     if let Some(refusal) = ended.refusal {
-        return refusal_text(alloc, words, refusal, ended.command, heard);
+        return refusal_text(alloc, words, refusal, heard);
     }
-    match (ended.status, ended.command) {
+    match (ended.status, heard.command) {
         (Status::Done | Status::Unsolved, Some(Command::Solve(options))) => solved_text(
             alloc, &options, heard,
         ),
@@ -133,7 +124,7 @@ fn text_for(
 /// Tells it on standard error: nothing else, and nothing where memory is wanting or standard error
 /// fails.
 pub(crate) fn tell_of(rt: &HostRuntime, words: &[&str], ended: &Ended, heard: &Heard<'_>) {
-    if let Ok(text) = journal_text(rt.alloc(), words, ended.command) {
+    if let Ok(text) = journal_text(rt.alloc(), path_of(words), heard.command) {
         tell(rt, &text);
     }
     let is_terminal = rt.stdout().is_terminal();
@@ -145,11 +136,11 @@ pub(crate) fn tell_of(rt: &HostRuntime, words: &[&str], ended: &Ended, heard: &H
 /// Tells of a journal whose file was only looked at, and is not there.
 pub(crate) fn tell_of_disk(
     rt: &HostRuntime,
-    words: &[&str],
+    path: &str,
     disk: &PathDisk<FileDisk<&HostRuntime>>,
 ) {
     if disk.is_missing()
-        && let Ok(text) = missing_text(rt.alloc(), path_of(words))
+        && let Ok(text) = missing_text(rt.alloc(), path)
     {
         tell(rt, &text);
     }

@@ -1,5 +1,6 @@
 pub mod Answers
 pub mod Below
+pub mod Games
 pub mod PathDisk
 pub mod Sources
 pub mod Statuses

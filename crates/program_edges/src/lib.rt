@@ -10,14 +10,15 @@
 //! keeps the clauses of `Disk`, and stands over the file at exactly that path, or over memory for
 //! `-`. A source is read whole and up to its limit. What is written is the whole output with the
 //! status that it has, or one line of a refusal with its status; where the sink fails, a front of
-//! it. A [`KeepingSink`] takes what the sink below it takes.
+//! it. Games are those that the bytes of a source say, each with its opening, or a fault of theirs
+//! stands.
 //!
 //! Tests: report_tests/src/answers.rt, report_tests/src/path_disks.rt
 #![tactic(auto)]
 
 mod answers;
 mod command_line;
-mod keeping_sink;
+mod games;
 mod keeping_source;
 mod path_disk;
 mod refused;
@@ -27,7 +28,7 @@ mod standards;
 
 pub use answers::{refuse, write_answer};
 pub use command_line::{NO_WORDS, args, told, words_of};
-pub use keeping_sink::KeepingSink;
+pub use games::{OpenedText, read_openings};
 pub use keeping_source::KeepingSource;
 pub use path_disk::PathDisk;
 pub use refused::Refused;

@@ -17,8 +17,8 @@ use distinct_positions::DistinctPositions;
 use draughts_board::Position;
 use journal_runs::{Account, Plan};
 use opening_report::{Refusal, Written};
-use pdn_openings::{Opening, openings};
-use pdn_text::read_games;
+use pdn_openings::Opening;
+use program_edges::read_openings;
 use std::alloc::{AllocError, Global};
 use std::sync::Wait;
 use std::thread::Threads;
@@ -42,9 +42,8 @@ fn roots_in(alloc: Global, options: &Options, text: &[u8]) -> Result<DistinctPos
     ensures refused { IfErr result (IsAnswerFault (commands.Solve options.now) text.now) }
     ensures accepted { IfErr result (IsAnswerFaultOnly (commands.Solve options.now) text.now) }
 {
-    let games = read_games(alloc, text)?;
-    let found = openings(alloc, &games, options.plies as u32)?;
-    Ok(distinct_positions(alloc, &found)?)
+    let found = read_openings(alloc, options.plies as u32, text)?;
+    Ok(distinct_positions(alloc, &found.openings)?)
 }
 
 /// Runs on the journal of the disk by a plan, with these positions.
