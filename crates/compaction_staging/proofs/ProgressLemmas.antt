@@ -24,6 +24,7 @@ use Rattle.bench_core.proofs.GrownForests.{IsGrown, sound_of, grown_with, grown_
 use Rattle.proof_tree.specs.Sound.{IsSoundForest, occurrences, root_positions}
 use Rattle.proof_tree.proofs.EachNode.{missing_occurs}
 use Rattle.std.proofs.lemmas.Bool.Decides.{nat_tests}
+use Rattle.record_reading.proofs.Readings.{taken_at}
 use Rattle.compaction_staging.specs.Shown.{ShowsValue}
 use Rattle.std.proofs.lemmas.List.{length-map}
 use Rattle.journal_compaction.proofs.Lists.{got_right}
@@ -79,14 +80,6 @@ pub cut_at : {X : Type 0} (xs : List X) (i : ℕ) (x : X) → slice_get xs i ≡
 cut_at [] i x e = absurd cc
 cut_at (y ∷ xs) zero x e = (let same : y ≡ x = cc in ap (λ z. z ∷ xs) same)
 cut_at (y ∷ xs) (suc i) x e = ap (λ l. y ∷ l) (cut_at xs i x e)
-
-pub taken_at : {X : Type 0} (xs : List X) (i : ℕ) (x : X) → slice_get xs i ≡ Some x → take i xs ++ x ∷ [] ≡ take (i + 1) xs
-taken_at xs i x e = by xs i x e ∙ ap (λ n. take n xs) (let z : suc i ≡ i + 1 = omega arith in z)
-  where
-    by : {X : Type 0} (xs : List X) (i : ℕ) (x : X) → slice_get xs i ≡ Some x → take i xs ++ x ∷ [] ≡ take (suc i) xs
-    by [] i x e = absurd cc
-    by (y ∷ xs) zero x e = (let same : y ≡ x = cc in ap (λ z. z ∷ []) (sym same))
-    by (y ∷ xs) (suc i) x e = ap (λ l. y ∷ l) (by xs i x e)
 
 module _ (k : ℕ) (roots : Forest) (records : List BenchRecord) (i : ℕ) (forest : IsForestOf k records roots) (names : List (Option ℕ)) (next begun : ℕ) (named : List Board) (staged : List (List ℕ))
     (s : IsStaged k roots records i names next begun named staged) where

@@ -1,12 +1,12 @@
 //! Staging the records of a shorter list.
-ghost use Rattle.std.specs.Prelude.{◌≡◌, ◌+◌, ◌++◌, ◌∷◌, [], ℕ, List, Some, None, OnOk, IfOk, slice_get, true, false};
+ghost use Rattle.std.specs.Prelude.{◌≡◌, ◌+◌, ◌++◌, ◌∷◌, [], ℕ, List, Some, None, OnOk, slice_get, true, false};
 ghost use Rattle.draughts_board.specs.Draughts.{draughts};
 ghost use Rattle.draughts_board.specs.Game.{is_at_sight};
 ghost use Rattle.draughts_board.specs.declared.pieces.Value.{Value};
 ghost use Rattle.journal_compaction.specs.Compactions.{end_in};
 ghost use Rattle.bench_records.specs.declared.records.BenchRecord.{BenchRecord as Record};
 ghost use Rattle.bench_records.specs.declared.records.BenchRecord.TheVariants as records;
-ghost use Rattle.bench_records.specs.Texts.{IsTextFor, ShowsEnough};
+ghost use Rattle.bench_records.specs.Texts.{ShowsEnough};
 ghost use Rattle.bench_core.specs.Growing.{IsForestOf};
 ghost use Rattle.tree_manager.specs.Receipts.{SpellsRecords};
 ghost use Rattle.tree_manager.specs.Replaying.{payload_texts};
@@ -16,12 +16,11 @@ use crate::naming::{Naming, push_named, push_unnamed};
 use crate::showing::shown_by;
 use bench_core::Bench;
 use bench_disk::Disk;
-use bench_records::{
-    BenchRecord, CertificateList, Named, RecordRefusal, decode, kind_of, sheet_of,
-};
+use bench_records::{BenchRecord, CertificateList, Named, kind_of, sheet_of};
 use disk_journal::{Journal, Payload};
 use draughts_board::Position;
 use leaf_search::is_undecided;
+use record_reading::read_next;
 use std::alloc::{AllocError, Global};
 use strategy_certificate::Oracle;
 
@@ -275,28 +274,6 @@ fn stage_expand<B: Disk>(
     }
 }
 
-/// The record of which these bytes are the text, of tables of `pieces` pieces and behind these
-/// positions.
-fn decoded(
-    alloc: Global,
-    bytes: &[u8],
-    pieces: u8,
-    named: &Named,
-) -> Result<BenchRecord, AllocError>
-    requires { (r : Record) × IsTextFor pieces named.now r bytes.now }
-    ensures good { IfOk result (λ r. IsTextFor pieces named.now r bytes.now) }
-    ensures only { IfOk result (λ r. (s : Record) → IsTextFor pieces named.now s bytes.now →
-        r ≡ s) }
-{
-    match decode(alloc, bytes, pieces, named) {
-        Ok(record) => Ok(record),
-        Err(RecordRefusal::Memory(error)) => Err(error),
-        Err(RecordRefusal::BadKind) => unreachable!(),
-        Err(RecordRefusal::BadField(_)) => unreachable!(),
-        Err(RecordRefusal::Trailing(_)) => unreachable!(),
-    }
-}
-
 /// Stages what stands for the record at a place of a bench.
 fn stage_record<B: Disk, O: Oracle>(
     alloc: Global,
@@ -355,8 +332,7 @@ pub fn stage_compacted<B: Disk, O: Oracle>(
         named: Named::new(alloc),
     };
     for i in 0..payloads.len() {
-        let next = decoded(alloc, &payloads[i].bytes, pieces, &known)?;
-        known.add(&next)?;
+        let next = read_next(alloc, &payloads[i].bytes, pieces, &mut known)?;
         stage_record(alloc, bench, i, next, oracle, &mut naming, journal)?;
     }
     Ok(())

@@ -14,7 +14,7 @@ use Rattle.tree_manager.specs.Receipts.{ReadsRecords, SpellsRecords}
 use Rattle.journal_compaction.specs.Compactions.{IsCompaction}
 use Rattle.journal_compaction.proofs.Compacted.{compactions_are_lawful, compactions_keep_numbers}
 use Rattle.compaction_staging.specs.Progress.{IsCompactStaged}
-use Rattle.compaction_staging.proofs.LoopLemmas.{as_many}
+use Rattle.record_reading.proofs.Readings.{as_many}
 use Rattle.journal_shortening.specs.Outcomes.{IsShorter, LeavesNoneOrShorter, StandsForFile}
 use Rattle.journal_shortening.specs.Written.{IsWritten, ReadsNoneOr, WritesNoneOrOne}
 use Rattle.journal_shortening.specs.declared.sizes.Sizes.{Sizes}

@@ -57,7 +57,15 @@ fn run_on<R: Threads + Wait + Sync>(
     if looks(command) || (writes(command) && !rt.stdin().is_terminal()) {
         gate.reads(looks(command));
     }
-    let (ended, disk) = run(threads, rt.alloc(), said, &mut source, &mut sink, disk, &gate);
+    let (ended, disk) = run(
+        threads,
+        rt.alloc(),
+        said,
+        &mut source,
+        &mut sink,
+        disk,
+        &gate,
+    );
     gate.clear();
     tell_of_disk(rt, path_of(words), &disk);
     let heard = Heard {

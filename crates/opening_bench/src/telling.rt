@@ -134,11 +134,7 @@ pub(crate) fn tell_of(rt: &HostRuntime, words: &[&str], ended: &Ended, heard: &H
 }
 
 /// Tells of a journal whose file was only looked at, and is not there.
-pub(crate) fn tell_of_disk(
-    rt: &HostRuntime,
-    path: &str,
-    disk: &PathDisk<FileDisk<&HostRuntime>>,
-) {
+pub(crate) fn tell_of_disk(rt: &HostRuntime, path: &str, disk: &PathDisk<FileDisk<&HostRuntime>>) {
     if disk.is_missing()
         && let Ok(text) = missing_text(rt.alloc(), path)
     {

@@ -50,7 +50,7 @@ pub not_refused : (refusal : RecordRefusal) (r : BenchRecord) → record_wants_m
 not_refused refusal r e h =
     let is : ◌≡◌ {A = Result BenchRecord RecordRefusal} (Err refusal) (Ok r) = subst (λ b. OnFalse b (◌≡◌ {A = Result BenchRecord RecordRefusal} (Err refusal) (Ok r))) e h in cc
 
-taken_at : {X : Type 0} (xs : List X) (i : ℕ) (x : X) → slice_get xs i ≡ Some x → take i xs ++ x ∷ [] ≡ take (i + 1) xs
+pub taken_at : {X : Type 0} (xs : List X) (i : ℕ) (x : X) → slice_get xs i ≡ Some x → take i xs ++ x ∷ [] ≡ take (i + 1) xs
 taken_at xs i x e = by xs i x e ∙ ap (λ n. take n xs) (let z : suc i ≡ i + 1 = omega arith in z)
   where
     by : {X : Type 0} (xs : List X) (i : ℕ) (x : X) → slice_get xs i ≡ Some x → take i xs ++ x ∷ [] ≡ take (suc i) xs
@@ -59,14 +59,14 @@ taken_at xs i x e = by xs i x e ∙ ap (λ n. take n xs) (let z : suc i ≡ i + 
     by (y ∷ xs) (suc i) x e = ap (λ l. y ∷ l) (by xs i x e)
 
 -- one record more names its positions
-named_push : (made : List BenchRecord) (r : BenchRecord) (named : List Board) → named ≡ named_in [] made → named_by named (record_sheet r) ≡ named_in [] (made ++ r ∷ [])
+pub named_push : (made : List BenchRecord) (r : BenchRecord) (named : List Board) → named ≡ named_in [] made → named_by named (record_sheet r) ≡ named_in [] (made ++ r ∷ [])
 named_push made r named is = ap (λ l. named_by l (record_sheet r)) is ∙ sym (named_in_then [] made (r ∷ []))
 
 pub known_more : (records : List BenchRecord) (i : ℕ) (r : BenchRecord) (known known' : List Board) → slice_get records i ≡ Some r → known ≡ named_in [] (take i records) → known' ≡ named_by known (record_sheet r)
     → known' ≡ named_in [] (take (i + 1) records)
 known_more records i r known known' at is more = more ∙ (named_push (take i records) r known is ∙ ap (named_in []) (taken_at records i r at))
 
-as_many : (k : ℕ) (before records : List BenchRecord) (payloads : List (List ℕ)) → SpellsRecords k before records payloads → length records ≡ length payloads
+pub as_many : (k : ℕ) (before records : List BenchRecord) (payloads : List (List ℕ)) → SpellsRecords k before records payloads → length records ≡ length payloads
 as_many k before [] [] s = refl
 as_many k before [] (p ∷ ps) s = absurd s
 as_many k before (r ∷ rs) [] s = absurd s

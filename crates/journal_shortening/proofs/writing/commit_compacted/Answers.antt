@@ -6,7 +6,7 @@ use Rattle.disk_journal.specs.Format.{HasPayloads, StandsForEither}
 use Rattle.disk_journal.specs.declared.payload.Payload.{Payload}
 use Rattle.proof_tree.specs.Forest.{Forest, nodes}
 use Rattle.tree_manager.specs.Replaying.{payload_texts}
-use Rattle.compaction_staging.proofs.LoopLemmas.{as_many}
+use Rattle.record_reading.proofs.Readings.{as_many}
 use Rattle.journal_shortening.proofs.OutcomeLemmas.{is_written}
 use Rattle.journal_shortening.proofs.writing.commit_compacted.Goals as goal
 
