@@ -15,6 +15,7 @@ ghost use Rattle.bench_edges.specs.Words.{IsWithinLimits};
 
 mod clearing_sink;
 mod deeper;
+mod journal_use;
 mod odd_journals;
 mod progress;
 mod progress_lines;
@@ -27,6 +28,7 @@ use bench_commands::run;
 use bench_disk::{Access, FileDisk};
 use bench_edges::{Command, StdSink, StdSource, WordsRefusal, read_words};
 use clearing_sink::ClearingSink;
+use journal_use::{JournalUse, use_by};
 use program_edges::{KeepingSource, PathDisk, Standards, args, print, told, words_of};
 use progress::ProgressGate;
 use std::io::{self, IsTerminal};
@@ -54,9 +56,7 @@ fn run_on<R: Threads + Wait + Sync>(
     let gate = ProgressGate::new(rt, path_of(words), command);
     let mut source = KeepingSource::new(StdSource::new(rt.reader()));
     let mut sink = ClearingSink::new(StdSink::new(io::writer(rt)), &gate);
-    if looks(command) || (writes(command) && !rt.stdin().is_terminal()) {
-        gate.reads(looks(command));
-    }
+    gate.reads(use_by(command), rt.stdin().is_terminal());
     let (ended, disk) = run(
         threads,
         rt.alloc(),
@@ -78,19 +78,6 @@ fn run_on<R: Threads + Wait + Sync>(
     ended.status.number()
 }
 
-/// The command writes to its journal.
-fn writes(command: Option<Command>) -> bool {
-    matches!(
-        command,
-        Some(Command::Solve(_) | Command::Learn | Command::Generate { .. })
-    )
-}
-
-/// The command looks at its journal, and writes nothing to it.
-fn looks(command: Option<Command>) -> bool {
-    matches!(command, Some(Command::Report | Command::Certify(_)))
-}
-
 /// The journal's path, which the first word names. No word stands for a journal in memory, as `-`
 /// does.
 fn path_of<'a>(words: &[&'a str]) -> &'a str {
@@ -106,14 +93,13 @@ fn run_words<R: Threads + Wait + Sync>(
     let standards = Standards::take(rt);
     let path = path_of(words);
     let said = read_words(words);
-    let command = said.ok();
-    if writes(command) && standards.has_other_run(rt, path) {
+    let journal = use_by(said.ok());
+    if journal == JournalUse::Writes && standards.has_other_run(rt, path) {
         tell_of_other_run(rt, path);
     }
-    let access = if looks(command) {
-        Access::Looks
-    } else {
-        Access::Writes
+    let access = match journal {
+        JournalUse::Looks => Access::Looks,
+        JournalUse::Writes | JournalUse::Nothing => Access::Writes,
     };
     let disk = standards.disk_of(rt, path, access)?;
     Ok(run_on(threads, rt, words, said, disk))

@@ -1,6 +1,7 @@
 //! Progress for a person who waits, and what is noted of a run for what is told behind it.
 use crate::NO_PATH;
 use crate::deeper::deeper_text;
+use crate::journal_use::JournalUse;
 use crate::progress_lines::{Pace, Progress, found_text, progress_line};
 use crate::shares::shares_of;
 use crate::unsolved::unsolved_text;
@@ -181,10 +182,16 @@ impl<'a> ProgressGate<'a> {
         }
     }
 
-    /// Shows at a terminal that a command is at its journal: it only looks at it, or searches then.
-    pub(crate) fn reads(&self, only_looks: bool) {
+    /// Shows at a terminal that a command is at its journal, once it begins: one that looks begins at once, and one that writes when
+    /// its source was read, which nobody may be typing.
+    pub(crate) fn reads(&self, journal: JournalUse, is_typed: bool) {
+        let text = match journal {
+            JournalUse::Looks => LOOKING,
+            JournalUse::Writes if !is_typed => READING,
+            JournalUse::Writes | JournalUse::Nothing => return,
+        };
         if self.is_terminal && !self.in_memory {
-            self.rewrite(if only_looks { LOOKING } else { READING });
+            self.rewrite(text);
         }
     }
 
