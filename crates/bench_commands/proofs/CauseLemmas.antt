@@ -8,7 +8,7 @@ use Rattle.bench_disk.specs.Disk.{IsHonest}
 use Rattle.bench_edges.specs.declared.status.Status.{Status}
 use Rattle.bench_edges.specs.declared.status.Status.TheVariants.{Words, Input, Disk, Journal, Memory, Read}
 use Rattle.bench_edges.specs.declared.words.Command.{Command}
-use Rattle.bench_edges.specs.declared.words.Command.TheVariants.{Solve, Report, Certify, Verify, Learn, MakeTable, TableCheck, Generate}
+use Rattle.bench_edges.specs.declared.words.Command.TheVariants.{Solve, Report, Certify, Verify, Learn, TableCheck, Generate}
 use Rattle.draughts_board.specs.Board.{Board}
 use Rattle.capture_positions.specs.Walk.{openings_from}
 use Rattle.certificate_checker.specs.declared.refusals.CheckRefusal.{CheckRefusal}
@@ -115,15 +115,12 @@ module _ (A B : Type 0) where
   fault_blames : (command : Command) (bytes : List ℕ) (r : Refusal) → HasFault command bytes r → Blames A B (status_of r)
   fault_blames (Solve options) bytes r (inl h) = by_refusal r (of_pdn h.0) h.1.0 (pdn_blames h.0)
   fault_blames (Solve options) bytes r (inr h) = by_refusal r (of_openings h.1.1.0) h.1.1.1.0 (openings_blame h.1.1.0)
-  fault_blames Report bytes r h = absurd h
-  fault_blames (Certify root) bytes r h = absurd h
   fault_blames Verify bytes r (inl h) = by_refusal r (of_text h.0) h.1.0 (text_blames h.0)
   fault_blames Verify bytes r (inr h) = by_refusal r (of_check h.1.1.0) h.1.1.1.0 (check_blames h.1.1.0)
   fault_blames Learn bytes r (inl h) = by_refusal r (of_text h.0) h.1.0 (text_blames h.0)
   fault_blames Learn bytes r (inr h) = by_refusal r (of_check h.1.1.0) h.1.1.1.0 (check_blames h.1.1.0)
-  fault_blames (MakeTable pieces) bytes r h = absurd h
   fault_blames TableCheck bytes r h = by_refusal r (of_table h.0) h.1.0 (table_blames h.0)
-  fault_blames (Generate seed count) bytes r h = absurd h
+  fault_blames command bytes r h = absurd h
 
   -- ---- a disk that refuses
 
@@ -151,13 +148,10 @@ module _ (A B : Type 0) where
 -- a command with a fault of its source reads one
 fault_reads : (command : Command) (bytes : List ℕ) (r : Refusal) → HasFault command bytes r → ReadsSource command
 fault_reads (Solve options) bytes r h = refl
-fault_reads Report bytes r h = absurd h
-fault_reads (Certify root) bytes r h = absurd h
 fault_reads Verify bytes r h = refl
 fault_reads Learn bytes r h = refl
-fault_reads (MakeTable pieces) bytes r h = absurd h
 fault_reads TableCheck bytes r h = refl
-fault_reads (Generate seed count) bytes r h = absurd h
+fault_reads command bytes r h = absurd h
 
 cut_blames : (B : Type 0) (command : Command) (source rest : Option (List ℕ)) (before after : ℕ) (r : Refusal) → IsCutShort (source_limit command) source rest before after r
     → Blames (Rose before after) B (status_of r)
@@ -176,11 +170,9 @@ module _ {D : Type 0} (g : Ghosts D) where
   disk_fault_blames A (Solve options) bytes old new r h = refused_run_blames A options.pieces _ old new r h.1.1
   disk_fault_blames A Report bytes old new r h = by_refusal A (Rose (g.faults old) (g.faults new)) r (of_look h.fault) h.is (look_blames A (Rose (g.faults old) (g.faults new)) h.fault h.disk)
   disk_fault_blames A (Certify root) bytes old new r h = by_refusal A (Rose (g.faults old) (g.faults new)) r (of_look h.fault) h.is (look_blames A (Rose (g.faults old) (g.faults new)) h.fault h.disk)
-  disk_fault_blames A Verify bytes old new r h = absurd h
   disk_fault_blames A Learn bytes old new r (c, (spelled, (good, h))) = by_refusal A (Rose (g.faults old) (g.faults new)) r (of_lesson h.fault) h.is (lesson_blames A (Rose (g.faults old) (g.faults new)) h.fault h.disk)
-  disk_fault_blames A (MakeTable pieces) bytes old new r h = absurd h
-  disk_fault_blames A TableCheck bytes old new r h = absurd h
   disk_fault_blames A (Generate seed count) bytes old new r h = refused_run_blames A GENERATE_PIECES (openings_from seed count) old new r h
+  disk_fault_blames A command bytes old new r h = absurd h
 
   -- what the status of a refused command shows
   pub command_blames : (command : Command) (source rest : Option (List ℕ)) (before after : ℕ) (old new : D) (r : Refusal)

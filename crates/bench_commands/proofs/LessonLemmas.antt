@@ -2,7 +2,7 @@
 use Rattle.std.proofs.Common.{◌≡◌, ◌<◌, ◌≤◌, ℕ, inl, inr, List, Option, None, Some, length, refl, sym, subst, arith}
 use Rattle.std.specs.Prelude.{IfSome}
 use Rattle.bench_edges.specs.declared.words.Command.{Command}
-use Rattle.bench_edges.specs.declared.words.Command.TheVariants.{Solve, Report, Certify, Verify, Learn, MakeTable, TableCheck, Generate}
+use Rattle.bench_edges.specs.declared.words.Command.TheVariants.{Learn}
 use Rattle.journal_lessons.specs.declared.refusals.LearnRefusal.{LearnRefusal}
 use Rattle.opening_report.specs.declared.refusals.Refusal.{Refusal}
 use Rattle.opening_report.specs.declared.refusals.Refusal.TheVariants as refusal
@@ -23,13 +23,7 @@ module _ (file : List ℕ) (P : LearnRefusal → Type 0) where
   pub bytes_teach : (command : Command) (source : Option (List ℕ)) (bytes : List ℕ) → IsInput (source_limit command) source bytes → ((cause : LearnRefusal) → HasLessonCause command bytes file cause → P cause)
       → Teaches command source file P
   bytes_teach Learn source bytes input each = told_teaches source bytes (input.same refl) each
-  bytes_teach (Solve options) source bytes input each = no_lesson (Solve options) source (λ told cause stands. stands)
-  bytes_teach Report source bytes input each = no_lesson Report source (λ told cause stands. stands)
-  bytes_teach (Certify root) source bytes input each = no_lesson (Certify root) source (λ told cause stands. stands)
-  bytes_teach Verify source bytes input each = no_lesson Verify source (λ told cause stands. stands)
-  bytes_teach (MakeTable pieces) source bytes input each = no_lesson (MakeTable pieces) source (λ told cause stands. stands)
-  bytes_teach TableCheck source bytes input each = no_lesson TableCheck source (λ told cause stands. stands)
-  bytes_teach (Generate seed count) source bytes input each = no_lesson (Generate seed count) source (λ told cause stands. stands)
+  bytes_teach command source bytes input each = no_lesson command source (λ told cause stands. stands)
 
   -- of a source of which the reading is cut short: it was not too long
   cut_teaches : (source rest : Option (List ℕ)) (before after : ℕ) (r : Refusal) → IsCutShort (source_limit Learn) source rest before after r
@@ -45,10 +39,4 @@ module _ (file : List ℕ) (P : LearnRefusal → Type 0) where
   pub cut_teach : (command : Command) (source rest : Option (List ℕ)) (before after : ℕ) (r : Refusal) → IsCutShort (source_limit command) source rest before after r
       → (r ≡ refusal.Memory → (cause : LearnRefusal) → P cause) → (r ≡ refusal.Read → (cause : LearnRefusal) → P cause) → Teaches command source file P
   cut_teach Learn source rest before after r cut memory read = cut_teaches source rest before after r cut memory read
-  cut_teach (Solve options) source rest before after r cut memory read = no_lesson (Solve options) source (λ told cause stands. stands)
-  cut_teach Report source rest before after r cut memory read = no_lesson Report source (λ told cause stands. stands)
-  cut_teach (Certify root) source rest before after r cut memory read = no_lesson (Certify root) source (λ told cause stands. stands)
-  cut_teach Verify source rest before after r cut memory read = no_lesson Verify source (λ told cause stands. stands)
-  cut_teach (MakeTable pieces) source rest before after r cut memory read = no_lesson (MakeTable pieces) source (λ told cause stands. stands)
-  cut_teach TableCheck source rest before after r cut memory read = no_lesson TableCheck source (λ told cause stands. stands)
-  cut_teach (Generate seed count) source rest before after r cut memory read = no_lesson (Generate seed count) source (λ told cause stands. stands)
+  cut_teach command source rest before after r cut memory read = no_lesson command source (λ told cause stands. stands)

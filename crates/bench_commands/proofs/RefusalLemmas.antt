@@ -4,7 +4,7 @@ use Rattle.std.specs.Prelude.{IfSome, IsSome}
 use Rattle.bench_disk.specs.declared.disk.Disk.{Ghosts}
 use Rattle.bench_edges.specs.declared.status.Status.{Status}
 use Rattle.bench_edges.specs.declared.words.Command.{Command}
-use Rattle.bench_edges.specs.declared.words.Command.TheVariants.{Solve, Report, Certify, Verify, Learn, MakeTable, TableCheck, Generate}
+use Rattle.bench_edges.specs.declared.words.Command.TheVariants.{Solve, Verify, Learn, TableCheck}
 use Rattle.certificate_text.specs.Text.{ReadsAs}
 use Rattle.certificate_text.proofs.Exact.{one_certificate_read}
 use Rattle.endgame_table.specs.Bytes.{bytes_of}
@@ -25,13 +25,10 @@ use Rattle.bench_commands.proofs.TableLemmas.{table_is_short}
 -- a command reads a source, or no bytes are good for it
 read_or_none : (command : Command) → IsSome (source_limit command) ⊎ ((told : List ℕ) → IsGoodFor command told → ⊥)
 read_or_none (Solve options) = inl refl
-read_or_none Report = inr (λ told good. good)
-read_or_none (Certify root) = inr (λ told good. good)
 read_or_none Verify = inl refl
 read_or_none Learn = inl refl
-read_or_none (MakeTable pieces) = inr (λ told good. good)
 read_or_none TableCheck = inl refl
-read_or_none (Generate seed count) = inr (λ told good. good)
+read_or_none command = inr (λ told good. good)
 
 module _ {D : Type 0} (g : Ghosts D) where
   accept_by : (command : Command) (source : Option (List ℕ)) (bytes : List ℕ) (old : D) (r : Refusal) → IsInput (source_limit command) source bytes → AcceptsBytes g command bytes old r

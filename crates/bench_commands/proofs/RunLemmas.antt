@@ -8,7 +8,7 @@ use Rattle.bench_edges.specs.KnownBytes.{ConsumesAtMost}
 use Rattle.bench_edges.specs.declared.status.Status.{Status}
 use Rattle.bench_edges.specs.declared.status.Status.TheVariants.{Done, Unsolved, Read, Write}
 use Rattle.bench_edges.specs.declared.words.Command.{Command}
-use Rattle.bench_edges.specs.declared.words.Command.TheVariants.{Solve, Report, Certify, Verify, Learn, MakeTable, TableCheck, Generate}
+use Rattle.bench_edges.specs.declared.words.Command.TheVariants.{Solve, Report, Certify, Learn, Generate}
 use Rattle.bench_disk.specs.Disk.{IsHonest}
 use Rattle.journal_lessons.specs.Conversions.{of_lesson}
 use Rattle.journal_looks.specs.Conversions.{of_look}
@@ -130,14 +130,8 @@ module _ {D : Type 0} (g : Ghosts D) where
   left_learnt (Some told) bytes old new same (inr keeps) = subst (λ (t : List ℕ). LeavesDisk g Learn (Some t) old new) same (inr keeps)
 
   left_told : (command : Command) (source : Option (List ℕ)) (bytes : List ℕ) (old new : D) → IsInput (source_limit command) source bytes → LeavesDisk g command (Some bytes) old new → LeavesDisk g command source old new
-  left_told (Solve options) source bytes old new input h = h
-  left_told Report source bytes old new input h = h
-  left_told (Certify root) source bytes old new input h = h
-  left_told Verify source bytes old new input h = h
   left_told Learn source bytes old new input h = left_learnt source bytes old new (input.same refl) h
-  left_told (MakeTable pieces) source bytes old new input h = h
-  left_told TableCheck source bytes old new input h = h
-  left_told (Generate seed count) source bytes old new input h = h
+  left_told command source bytes old new input h = h
 
 -- a refusal behind the source leaves none of it
 refused_end : {D : Type 0} (g : Ghosts D)

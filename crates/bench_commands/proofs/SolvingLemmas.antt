@@ -6,7 +6,7 @@ use Rattle.bench_disk.specs.declared.disk.Disk.{Ghosts}
 use Rattle.bench_edges.specs.declared.status.Status.{Status}
 use Rattle.bench_edges.specs.declared.status.Status.TheVariants.{Unsolved}
 use Rattle.bench_edges.specs.declared.words.Command.{Command}
-use Rattle.bench_edges.specs.declared.words.Command.TheVariants.{Solve, Report, Certify, Verify, Learn, MakeTable, TableCheck, Generate}
+use Rattle.bench_edges.specs.declared.words.Command.TheVariants.{Solve, Generate}
 use Rattle.bench_edges.specs.declared.words.Options.{Options}
 use Rattle.draughts_board.specs.Board.{Board}
 use Rattle.capture_positions.specs.Walk.{openings_from}
@@ -124,13 +124,7 @@ answers_hold (Solve options) source input text settled is_input answers = λ oth
     let same : options ≡ other = cc in
     subst (λ (o : Options). IfSome source (λ told. (openings : List Opening) → OpeningsOf o.plies told openings → (opening : Opening) → Contains openings opening → StandsInOneLine text opening.position))
     same (of_source options source input text settled (is_input.same refl) answers)
-answers_hold Report source input text settled is_input answers = λ options said. absurd cc
-answers_hold (Certify root) source input text settled is_input answers = λ options said. absurd cc
-answers_hold Verify source input text settled is_input answers = λ options said. absurd cc
-answers_hold Learn source input text settled is_input answers = λ options said. absurd cc
-answers_hold (MakeTable pieces) source input text settled is_input answers = λ options said. absurd cc
-answers_hold TableCheck source input text settled is_input answers = λ options said. absurd cc
-answers_hold (Generate seed count) source input text settled is_input answers = λ options said. absurd cc
+answers_hold command source input text settled is_input answers = λ options said. absurd cc
 
 pub output_holds : (command : Command) (source : Option (List ℕ)) (input text : List ℕ) (settled : Bool) (before after : Option (List ℕ)) (status : Status) → Finishes status
     → IsInput (source_limit command) source input → Answers command input text settled → TakesOutput status text settled before after

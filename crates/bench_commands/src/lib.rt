@@ -13,7 +13,6 @@
 //! bench_tests/src/table_tests.rt
 #![tactic(auto)]
 
-mod by_command;
 mod commands;
 mod ended;
 pub mod examples;

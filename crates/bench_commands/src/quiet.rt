@@ -6,10 +6,10 @@ ghost use Rattle.bench_commands.specs.Commands.{Searches, source_limit};
 ghost use Rattle.bench_commands.specs.Runs.{HandsOut, RunsCommand};
 ghost use Rattle.bench_commands.specs.Steps.{IsAnswer};
 
-use crate::by_command::source_limit;
 use crate::commands::certify::certify;
 use crate::commands::learn::learn;
 use crate::commands::report::report;
+use crate::commands::source_limit;
 use crate::commands::table::table;
 use crate::commands::table_check::table_check;
 use crate::commands::verify::verify;

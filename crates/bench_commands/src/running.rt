@@ -5,7 +5,7 @@ ghost use Rattle.bench_commands.specs.Bench.{IsCommandRefusal, IsRefusalByWords}
 ghost use Rattle.bench_commands.specs.Commands.{source_limit};
 ghost use Rattle.bench_commands.specs.Runs.{HandsOut, IsReadingOf, RunsCommand, RunsWords};
 
-use crate::by_command::searches;
+use crate::commands::searches;
 use crate::ended::Ended;
 use crate::quiet::run_quiet;
 use crate::searching::run_search;

@@ -6,9 +6,9 @@ ghost use Rattle.bench_commands.specs.Commands.{Searches, source_limit};
 ghost use Rattle.bench_commands.specs.Runs.{HandsOut, RunsCommand};
 ghost use Rattle.bench_commands.specs.Steps.{IsAnswer};
 
-use crate::by_command::source_limit;
 use crate::commands::generate::generate;
 use crate::commands::solve::solve;
+use crate::commands::source_limit;
 use crate::ended::Ended;
 use bench_disk::Disk;
 use bench_edges::{Command, Sink, Source};

@@ -1,4 +1,6 @@
 //! Words that are no command: what is meant, and what may be written.
+ghost use Rattle.std.specs.Prelude.{◌<◌};
+
 use bench_edges::{
     COMMAND_NAMES, LEAST_COUNT, LEAST_PIECES, LEAST_ROOT, MOST_COUNT, MOST_PIECES, MOST_ROOT,
     MOST_SEED, SOLVE_OPTIONS, SolveOption,
@@ -81,18 +83,44 @@ fn say_nearest(
     say(text, " is meant. ")
 }
 
+/// What stands before the name at a place in a list of `count` names: `last` before the last of them.
+fn before(place: usize, count: usize, last: &'static str) -> &'static str
+    requires { place < count }
+{
+    if place == 0 {
+        ""
+    } else if place + 1 == count {
+        last
+    } else {
+        ", "
+    }
+}
+
 /// Appends these names, as `a, b and c`.
 fn say_names(text: &mut Vec<u8>, names: &[&'static str]) -> Result<(), AllocError> {
     for place in 0..names.len() {
-        let before = if place == 0 {
-            ""
-        } else if place + 1 == names.len() {
-            " and "
-        } else {
-            ", "
-        };
-        say(text, before)?;
+        say(text, before(place, names.len(), " and "))?;
         say(text, names[place])?;
+    }
+    Ok(())
+}
+
+/// What has to stand behind the name of a command.
+fn arguments(command: &str) -> &'static str {
+    match command {
+        "certify" => " N",
+        "table" => " K",
+        "generate" => " SEED COUNT",
+        _ => "",
+    }
+}
+
+/// Appends these commands with what has to stand behind each, as `a, b N or c`.
+fn say_commands(text: &mut Vec<u8>, names: &[&'static str]) -> Result<(), AllocError> {
+    for place in 0..names.len() {
+        say(text, before(place, names.len(), " or "))?;
+        say(text, names[place])?;
+        say(text, arguments(names[place]))?;
     }
     Ok(())
 }
@@ -102,8 +130,12 @@ fn say_form(text: &mut Vec<u8>) -> Result<(), AllocError> {
     say(
         text,
         "The words are: opening_bench JOURNAL COMMAND, where JOURNAL is a file, or `-` for a \
-            journal in memory, and COMMAND is solve, report, certify N, verify, learn, \
-            table K, table-check or generate SEED COUNT. Games are read from standard input:\n  opening_bench games.journal solve \
+            journal in memory, and COMMAND is ",
+    )?;
+    say_commands(text, &COMMAND_NAMES)?;
+    say(
+        text,
+        ". Games are read from standard input:\n  opening_bench games.journal solve \
             < games.pdn\n`opening_bench --help` says more.\n",
     )
 }
