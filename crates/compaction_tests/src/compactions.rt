@@ -2,7 +2,7 @@
 //!
 //! Each function here is proved too, and dearly while it holds a disk: so a run answers plain values,
 //! and the tests compare those.
-use bench_disk::{FuseDisk, MemoryDisk};
+use bench_disk::MemoryDisk;
 use journal_looks::report;
 use journal_shortening::{Chosen, CompactRefusal, Sizes, choose, compact};
 use std::alloc::{AllocError, Global};
@@ -10,7 +10,7 @@ use std::test::Fail;
 
 /// Begin of W:W25:B10,17, and Expand of it and of the nodes after 25-21 and 25-22, each committed for
 /// itself. Positions have numbers.
-const EXPANDED: [u8; 110] = [
+pub(crate) const EXPANDED: [u8; 110] = [
     0x44, 0x52, 0x42, 0x45, 0x4e, 0x43, 0x48, 2, 1, 0, 0, 0, 0, 0, 0, 0, 26, 0, 0, 0, 22, 4, 0, 0,
     0, 0, 1, 0, 1, 2, 0, 0, 0, 0, 0, 1, 0, 0, 0, 0, 0, 0, 0, 1, 0, 0, 0, 0, 0, 0, 0, 13, 0, 0, 0,
     9, 3, 0, 0, 0, 0, 0, 0, 0, 0, 1, 0, 0, 0, 0, 0, 0, 0, 13, 0, 0, 0, 9, 3, 0, 0, 0, 0, 0, 0, 0,
@@ -26,7 +26,7 @@ const UNSOLVED: [u8; 40] = [
 /// In one frame: Begin of W:W16,23:B12 and of W:W25:B10,17, nodes 0 and 1, and Expand of both. The
 /// first has the children 2 to 4, and White wins at sight after 23-19. The second has the children 5
 /// and 6, after 25-21 and 25-22. Expand of node 5, behind which the second root has no value yet.
-const MIXED: [u8; 109] = [
+pub(crate) const MIXED: [u8; 109] = [
     0x44, 0x52, 0x42, 0x45, 0x4e, 0x43, 0x48, 2, 1, 0, 0, 0, 0, 0, 0, 0, 91, 0, 0, 0, 22, 4, 0, 0,
     0, 0, 1, 0, 0, 8, 0, 0, 0, 0, 0, 0, 64, 128, 0, 0, 0, 0, 0, 0, 0, 0, 22, 4, 0, 0, 0, 1, 1, 0,
     1, 2, 0, 0, 0, 0, 0, 1, 0, 0, 0, 0, 0, 0, 0, 0, 0, 0, 9, 3, 0, 0, 0, 0, 0, 0, 0, 0, 0, 0, 0, 9,
@@ -60,7 +60,7 @@ const CUT: &[u8] = b"DRBENCH\x02\x01\0\0";
 type Came = (Result<Sizes, CompactRefusal>, bool, bool);
 
 /// What the report on a disk is.
-fn reported(alloc: Global, disk: &mut MemoryDisk) -> Option<Vec<u8>> {
+pub(crate) fn reported(alloc: Global, disk: &mut MemoryDisk) -> Option<Vec<u8>> {
     match report(alloc, disk) {
         Ok(written) => Some(written.text),
         Err(_) => None,
@@ -220,66 +220,5 @@ fn chooses_the_new_journal_where_it_has_a_payload(rt: HostRuntime) -> Result<(),
     for (into, due) in CHOSEN {
         assert_eq!(rt; chosen(rt.alloc(), into)?, due);
     }
-    Ok(())
-}
-
-/// The report on no root, and on the root of `EXPANDED`.
-const REPORTS: [&str; 2] = [
-    "roots 0 settled 0 unsolved 0\n",
-    "root 1 W:W25:B10,17 black-wins\nroots 1 settled 1 unsolved 0\n",
-];
-
-/// A run that is stopped behind this number of calls of the new disk, and a crash: whether it was
-/// stopped, which journal counts then, and the report on the new one.
-fn crashed(
-    alloc: Global,
-    calls: u64,
-    choice: u64,
-) -> Result<(bool, Option<Chosen>, Option<Vec<u8>>), AllocError> {
-    let mut old = MemoryDisk::of(alloc, EXPANDED.to_vec(alloc)?)?;
-    let new = FuseDisk::new(MemoryDisk::new(alloc), calls);
-    let (new, is_stopped) = match compact(alloc, &mut old, new) {
-        Ok((new, _)) => (new, false),
-        Err((new, _)) => (new, true),
-    };
-    let mut image = new.into_inner().crash(choice)?;
-    let counts = choose(alloc, &mut old, &mut image).ok();
-    Ok((is_stopped, counts, reported(alloc, &mut image)))
-}
-
-/// Whether each image of such a run reads as no record, and then the old journal counts, or as all
-/// of them, and then the new one counts; and whether the run was stopped.
-fn leaves_none_or_all(alloc: Global, calls: u64) -> Result<(bool, bool), AllocError> {
-    let mut is_sound = true;
-    let mut is_stopped = false;
-    for choice in 0..3u64 {
-        let (stopped, counts, told) = crashed(alloc, calls, choice)?;
-        let due = match counts {
-            Some(Chosen::Old) => REPORTS[0],
-            Some(Chosen::New) => REPORTS[1],
-            None => "",
-        };
-        let is_due = match told {
-            Some(text) => text.as_slice() == due.as_bytes(),
-            None => false,
-        };
-        is_sound = is_sound && is_due && (stopped || due == REPORTS[1]);
-        is_stopped = stopped;
-    }
-    Ok((is_sound, is_stopped))
-}
-
-#[test]
-fn leaves_none_or_all_where_it_is_stopped(rt: HostRuntime) -> Result<(), Fail> {
-    let mut stops = 0u64;
-    for calls in 0..32u64 {
-        let (is_sound, is_stopped) = leaves_none_or_all(rt.alloc(), calls)?;
-        assert!(rt; is_sound, "{calls} calls");
-        if !is_stopped {
-            break;
-        }
-        stops = calls + 1;
-    }
-    assert!(rt; (4..32).contains(&stops), "{stops}");
     Ok(())
 }

@@ -6,3 +6,5 @@
 
 #[cfg(test)]
 mod compactions;
+#[cfg(test)]
+mod crashes;
