@@ -1,6 +1,5 @@
 -- Games by the positions that their openings lead to, and their lines.
 use Rattle.std.specs.Prelude.{ℕ, ◌-◌, List, [], ◌∷◌, ◌++◌, Option, Some, None, codes, decimal, filter, map, slice_get, Vec, if◌then◌else◌}
-use Rattle.std.specs.HashMap.{HashMap, get}
 use Rattle.std.specs.List.{flat_map}
 use Rattle.draughts_board.specs.Board.{Board, same_board}
 use Rattle.pdn_openings.specs.Beginning.{first_value}
@@ -12,14 +11,6 @@ use Rattle.terminal_text.specs.Shown.{quoted}
 pub record Opened : Type 0 where
   pub games : List Game
   pub openings : List Opening
-
--- the list at a position; an empty one where none stands
-abbrev pub items_of : {A : Type 0} → Option (Vec ℕ A) → List ℕ
-items_of None = []
-items_of (Some v) = v.items
-
-abbrev pub numbers_at : {A S : Type 0} → HashMap Board (Vec ℕ A) S → Board → List ℕ
-numbers_at m p = items_of (get same_board m p)
 
 -- the numbers of the games whose openings stand at the position, in order
 abbrev pub games_at : List Opening → Board → List ℕ

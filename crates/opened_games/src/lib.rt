@@ -1,7 +1,8 @@
 //! Games by the positions that their openings lead to.
 //!
 //! An [`OpenedGames`] has the games of a source and the openings of each, and writes which games lead to
-//! a position, as lines or as JSON. A position is looked up by its hash (`specs/Opened.antt`).
+//! a position, as lines or as JSON. Whoever chooses the games cannot make
+//! the look-up of a position slow (`PositionRows`).
 //!
 //! Proved: the numbers at a position are those of exactly the games whose openings stand there, in
 //! order, and what is written of them is their lines, or a list of JSON (`specs/Json.antt`).
@@ -10,6 +11,7 @@
 #![tactic(auto)]
 
 mod json;
+mod numbers;
 mod opened;
 mod texts;
 

@@ -1,26 +1,28 @@
 //! Games, and which of them lead to a position.
 use crate::json::push_json_list;
+use crate::numbers::Numbers;
 use crate::texts::push_games;
 use draughts_board::Position;
 use pdn_openings::Opening;
 use pdn_text::Game;
 use std::alloc::{AllocError, Global};
-use std::collections::HashMap;
 use std::marker::Model;
 
-/// Games with their openings, of which those at a position are looked up by its hash.
+/// Games with their openings. Those at a position are looked up, and nobody who chooses the games
+/// can make that slow.
 #[derive(Drop)]
 pub struct OpenedGames {
     games: Vec<Game>,
     openings: Vec<Opening>,
     // The numbers of the openings' games, by their positions.
-    numbers: HashMap<Position, Vec<u32>>,
+    numbers: Numbers,
 }
 
 impl Model for OpenedGames {
     ghost use Rattle.std.specs.Prelude.{◌≡◌};
     ghost use Rattle.draughts_board.specs.Board.{Board};
-    ghost use Rattle.opened_games.specs.Opened.{Opened, games_at, numbers_at};
+    ghost use Rattle.opened_games.specs.Numbers.{HaveLists, numbers_at};
+    ghost use Rattle.opened_games.specs.Opened.{Opened, games_at};
 
     ghost Value = { Opened };
 
@@ -29,64 +31,28 @@ impl Model for OpenedGames {
       openings = opened.openings.items;
     } };
 
-    ghost invariant = { λ opened. (p : Board) →
-        numbers_at opened.numbers p ≡ games_at opened.openings.items p };
+    ghost invariant = { λ opened.
+        HaveLists opened.numbers.positions.entries opened.numbers.lists.items
+        × ((p : Board) → numbers_at opened.numbers.positions.entries opened.numbers.lists.items p
+        ≡ games_at opened.openings.items p) };
 }
 
-ghost use Rattle.std.specs.Prelude.{◌≡◌, ◌++◌, [], IfOk, OnOk, if◌then◌else◌};
-ghost use Rattle.draughts_board.specs.Board.{Board, same_board};
-ghost use Rattle.opened_games.specs.Opened.{games_at, number_if, numbers_at};
-
-/// The numbers at a position, taken out.
-fn taken(alloc: Global, numbers: &mut HashMap<Position, Vec<u32>>, p: &Position) -> Vec<u32>
-    ensures taken { result.items ≡ numbers_at numbers.old p.now }
-    ensures rest { (q : Board) → numbers_at numbers.new q
-        ≡ (if same_board p.now q then [] else numbers_at numbers.old q) }
-{
-    match numbers.remove(p) {
-        Some(there) => there,
-        None => Vec::new(alloc),
-    }
-}
-
-/// Adds the number of an opening's game to those at its position.
-fn add_opening(
-    alloc: Global,
-    numbers: &mut HashMap<Position, Vec<u32>>,
-    opening: &Opening,
-) -> Result<(), AllocError>
-    ensures { OnOk result ((p : Board) → numbers_at numbers.new p
-        ≡ numbers_at numbers.old p ++ number_if opening.now p) }
-{
-    let mut there = taken(alloc, numbers, &opening.position);
-    there.push(opening.game)?;
-    numbers.insert(opening.position, there)?;
-    Ok(())
-}
+ghost use Rattle.std.specs.Prelude.{◌≡◌, IfOk};
+ghost use Rattle.draughts_board.specs.Board.{Board};
+ghost use Rattle.opened_games.specs.Numbers.{HaveLists, numbers_at};
+ghost use Rattle.opened_games.specs.Opened.{games_at};
 
 /// The numbers of the openings' games, by their positions.
-fn numbers_of(
-    alloc: Global,
-    openings: &[Opening],
-) -> Result<HashMap<Position, Vec<u32>>, AllocError>
-    ensures { IfOk result (λ numbers. (p : Board) →
-        numbers_at numbers p ≡ games_at openings.now p) }
+fn numbers_of(alloc: Global, openings: &[Opening]) -> Result<Numbers, AllocError>
+    ensures lists { IfOk result (λ numbers. HaveLists numbers.positions.entries numbers.lists.items) }
+    ensures numbers { IfOk result (λ numbers. (p : Board) →
+        numbers_at numbers.positions.entries numbers.lists.items p ≡ games_at openings.now p) }
 {
-    let mut numbers = HashMap::new(alloc);
+    let mut numbers = Numbers::new(alloc);
     for opening in openings {
-        add_opening(alloc, &mut numbers, opening)?;
+        numbers.add(alloc, opening.position, opening.game)?;
     }
     Ok(numbers)
-}
-
-/// The numbers at a position.
-fn numbers_there<'a>(numbers: &'a HashMap<Position, Vec<u32>>, p: &Position) -> &'a [u32]
-    ensures { result.now ≡ numbers_at numbers.now p.now }
-{
-    match numbers.get(p) {
-        Some(there) => there.as_slice(),
-        None => &[],
-    }
 }
 
 impl OpenedGames {
@@ -102,7 +68,7 @@ impl OpenedGames {
         OpenedGames {
             games: Vec::new(alloc),
             openings: Vec::new(alloc),
-            numbers: HashMap::new(alloc),
+            numbers: Numbers::new(alloc),
         }
     }
 
@@ -127,7 +93,7 @@ impl OpenedGames {
     pub fn push_games_at(&self, text: &mut Vec<u8>, p: &Position) -> Result<(), AllocError>
         ensures { OnOk result (text.new.items ≡ text.old.items ++ games_text self.now p.now) }
     {
-        push_games(text, &self.games, numbers_there(&self.numbers, p))
+        push_games(text, &self.games, self.numbers.at(p))
     }
 
     /// Appends the games that lead to the position as a list of JSON: of each an object with its number, its
@@ -136,7 +102,7 @@ impl OpenedGames {
         ensures { OnOk result (text.new.items ≡ text.old.items ++ json_games self.now p.now) }
     {
         text.push(b'[')?;
-        push_json_list(text, &self.games, numbers_there(&self.numbers, p))?;
+        push_json_list(text, &self.games, self.numbers.at(p))?;
         text.push(b']')?;
         Ok(())
     }
