@@ -54,7 +54,8 @@ impl Numbers {
         if is_new {
             self.lists.push(Vec::new(alloc))?;
         }
-        add_number(&mut self.lists, place, number)
+        add_number(&mut self.lists, place, number)?;
+        Ok(())
     }
 
     /// The list of a position; an empty one where it has none.

@@ -1,4 +1,4 @@
--- Numbers by position, and one opening more.
+-- Games whose openings stand at a position, and one opening more.
 use Rattle.std.proofs.Common.{◌≡◌, ◌<◌, ◌+◌, ℕ, List, [], ◌∷◌, ◌++◌, refl, sym, ◌∙◌, ap, subst, length, take, map, if◌then◌else◌}
 use Rattle.std.specs.Prelude.{Bool, true, false, filter, get_or}
 use Rattle.std.proofs.lemmas.List.{map-append}
