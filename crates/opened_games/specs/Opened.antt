@@ -1,5 +1,5 @@
 -- Games by the positions that their openings lead to, and their lines.
-use Rattle.std.specs.Prelude.{ℕ, ◌-◌, List, [], ◌∷◌, ◌++◌, Option, Some, None, codes, decimal, filter, map, slice_get, Vec, if◌then◌else◌}
+use Rattle.std.specs.Prelude.{ℕ, ◌-◌, List, [], ◌∷◌, ◌++◌, Option, Some, None, codes, decimal, filter, map, slice_get, if◌then◌else◌}
 use Rattle.std.specs.List.{flat_map}
 use Rattle.draughts_board.specs.Board.{Board, same_board}
 use Rattle.pdn_openings.specs.Beginning.{first_value}
