@@ -4,7 +4,9 @@
 //! It stands below `archive_games`, which cuts an archive into these words.
 //!
 //! Proved: each call ends, with no panic and no overflow; a move that is read has two to thirteen
-//! squares, and those are the numbers of its run. How words are understood is tested.
+//! squares, and those are the numbers of its run; which names of tags are strict and which tags they
+//! name, what a value is without escapes, and what looks like a FEN. How other words are understood is
+//! tested.
 //!
 //! Tests: archive_tests/src/words.rt
 #![tactic(auto)]

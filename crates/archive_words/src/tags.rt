@@ -1,5 +1,7 @@
 //! The texts of tags.
-ghost use Rattle.std.specs.Prelude.{◌≤◌, ◌<◌, length};
+ghost use Rattle.std.specs.Prelude.{◌≡◌, IfOk};
+ghost use Rattle.std.specs.List.{list_all};
+ghost use Rattle.archive_words.specs.Tags.{is_strict_byte, is_strict_name, is_word, tag_name, unescaped};
 
 use std::alloc::{AllocError, Global};
 
@@ -95,32 +97,54 @@ pub fn tag_text(text: &[u8]) -> Option<TagText<'_>> {
     })
 }
 
+/// A byte of a name of the strict profile.
+fn is_strict_byte(byte: u8) -> bool
+    ensures { result ≡ is_strict_byte byte }
+{
+    byte.is_ascii_alphanumeric() || byte == b'_'
+}
+
+/// All bytes are those of such a name.
+fn are_strict_bytes(bytes: &[u8]) -> bool
+    ensures { result ≡ list_all is_strict_byte bytes.now }
+{
+    bytes.iter().all(|b| is_strict_byte(*b))
+}
+
 /// The name is one of the strict profile: a letter A to Z, and then letters, digits and `_`.
-pub fn is_strict_name(name: &[u8]) -> bool {
-    match name {
-        [first, rest @ ..] => {
-            first.is_ascii_alphabetic() && rest.iter().all(|b| is_name_byte(*b) && *b < 128)
-        }
-        [] => false,
+pub fn is_strict_name(name: &[u8]) -> bool
+    ensures { result ≡ is_strict_name name.now }
+{
+    match name.first() {
+        Some(first) => first.is_ascii_alphabetic() && are_strict_bytes(name),
+        None => false,
     }
 }
 
+/// The text is this word. Capital and small letters are the same.
+fn is_word(text: &[u8], word: &[u8]) -> bool
+    ensures { result ≡ is_word text.now word.now }
+{
+    text.eq_ignore_ascii_case(word)
+}
+
 /// Which tag it is. Capital and small letters are the same.
-pub fn tag_name(name: &[u8]) -> TagName {
-    let is = |word: &[u8]| name.eq_ignore_ascii_case(word);
-    if is(b"Event") {
+pub fn tag_name(name: &[u8]) -> TagName
+    ensures { result ≡ tag_name name.now }
+{
+    if is_word(name, b"Event") {
         TagName::Event
-    } else if is(b"FEN") {
+    } else if is_word(name, b"FEN") {
         TagName::Fen
-    } else if is(b"Position") {
+    } else if is_word(name, b"Position") {
         TagName::Position
-    } else if is(b"SetUp") {
+    } else if is_word(name, b"SetUp") {
         TagName::SetUp
-    } else if is(b"GameType") {
+    } else if is_word(name, b"GameType") {
         TagName::GameType
-    } else if is(b"Variant") {
+    } else if is_word(name, b"Variant") {
         TagName::Variant
-    } else if is(b"Result") {
+    } else if is_word(name, b"Result") {
         TagName::Result
     } else {
         TagName::Other
@@ -128,7 +152,9 @@ pub fn tag_name(name: &[u8]) -> TagName {
 }
 
 /// Appends a value without its escapes: `\"` as `"`, `\\` as `\`.
-pub fn unescaped(alloc: Global, value: &[u8]) -> Result<Vec<u8>, AllocError> {
+pub fn unescaped(alloc: Global, value: &[u8]) -> Result<Vec<u8>, AllocError>
+    ensures { IfOk result (λ text. text.items ≡ unescaped value.now) }
+{
     let mut text = Vec::new(alloc);
     let mut is_escaped = false;
     for b in value {

@@ -33,6 +33,7 @@ pub struct Word {
 
 impl Word {
     ghost use Rattle.std.specs.Prelude.{◌≡◌, ◌==◌, ◌<◌, [], true, false, length};
+    ghost use Rattle.archive_words.specs.Words.{side_of};
 
     /// A word without letters.
     pub fn new() -> Word
@@ -78,11 +79,16 @@ impl Word {
     }
 
     /// The side whose letter it is, `b` or `w`.
-    pub fn side(&self) -> Option<Side> {
-        match self.letters.as_slice() {
-            b"b" => Some(Side::Black),
-            b"w" => Some(Side::White),
-            _ => None,
+    pub fn side(&self) -> Option<Side>
+        ensures { result ≡ side_of self.now.letters.items }
+    {
+        let letters = self.letters.as_slice();
+        if letters == b"b".as_slice() {
+            Some(Side::Black)
+        } else if letters == b"w".as_slice() {
+            Some(Side::White)
+        } else {
+            None
         }
     }
 
