@@ -1,8 +1,5 @@
 //! Games grouped by the position that they lead to.
-ghost use Rattle.std.specs.Prelude.{◌≡◌, [], IfOk, OnOk, unwrap_or};
-ghost use Rattle.std.specs.Map.{lookup};
-ghost use Rattle.draughts_board.specs.Board.{same_board};
-ghost use Rattle.indexmap.specs.IndexMap.{insert_entry};
+ghost use Rattle.std.specs.Prelude.{IfOk};
 ghost use Rattle.strict_games.specs.Groups.{IsGroupText};
 
 use crate::draft::Draft;
@@ -10,31 +7,39 @@ use crate::printing::{Layout, Score};
 use crate::ranges::listed;
 use crate::tags::TagRefusal;
 use draughts_board::Position;
-use indexmap::IndexMap;
-use shared_words::ItemList;
+use position_rows::PositionRows;
 use std::alloc::{AllocError, Global};
 use std::marker::Model;
 
 /// Games by the position that they lead to: the positions in the order in which they came first, each
-/// with the numbers of its games in the order in which they came.
+/// with the numbers of its games in the order in which they came. A position is looked up, not
+/// searched for, and nobody who chooses the positions can make that slow.
 #[derive(Drop)]
 pub struct OpeningGroups {
     alloc: Global,
-    groups: IndexMap<Position, ItemList<u32>>,
+    positions: PositionRows<()>,
+    /// The games of the position at the same place.
+    games: Vec<Vec<u32>>,
 }
 
 impl Model for OpeningGroups {
-    ghost use Rattle.std.specs.Prelude.{ℕ, List};
+    ghost use Rattle.std.specs.Prelude.{◌≡◌, ℕ, List, length, map};
+    ghost use Rattle.std.specs.List.{zip};
     ghost use Rattle.draughts_board.specs.Board.{Board};
+    ghost use Rattle.position_rows.specs.Rows.{positions_of};
     ghost use Rattle.strict_games.specs.Grouping.{Group};
 
     ghost Value = { List Group };
 
-    ghost view = { λ g. g.groups.entries };
+    ghost view = { λ g. zip (positions_of g.positions.entries) (map (λ games. games.items) g.games.items) };
+
+    ghost invariant = { λ g. length g.games.items ≡ length g.positions.entries };
 }
 
 impl OpeningGroups {
-    ghost use Rattle.std.specs.Prelude.{◌≡◌, ◌==◌, [], OnOk, MatchOption, None, Some, length, slice_get};
+    ghost use Rattle.std.specs.Prelude.{◌≡◌, ◌==◌, ◌∷◌, ◌++◌, [], false, OnOk, MatchOption, None, Some, length, map, slice_get};
+    ghost use Rattle.std.specs.List.{list_any};
+    ghost use Rattle.draughts_board.specs.Board.{same_board};
     ghost use Rattle.strict_games.specs.Grouping.{Group, grouped_with};
 
     /// No game.
@@ -43,7 +48,8 @@ impl OpeningGroups {
     {
         OpeningGroups {
             alloc,
-            groups: IndexMap::new(alloc),
+            positions: PositionRows::new(alloc),
+            games: Vec::new(alloc),
         }
     }
 
@@ -52,23 +58,39 @@ impl OpeningGroups {
     pub fn add(&mut self, position: Position, game: u32) -> Result<(), AllocError>
         ensures { OnOk result (self.new ≡ grouped_with self.old position game) }
     {
-        let mut games = take_out(self.alloc, &mut self.groups, position)?;
-        games.push(game)?;
-        put_back(&mut self.groups, position, games)
+        match self.positions.place(&position) {
+            Some(place) => {
+                self.games[place].push(game)?;
+                Ok(())
+            }
+            None => self.begin(position, game),
+        }
+    }
+
+    /// Begins a group behind the others with the first game of its position.
+    fn begin(&mut self, position: Position, game: u32) -> Result<(), AllocError>
+        requires { list_any (same_board position) (map (λ group. group.0) self.old) ≡ false }
+        ensures { OnOk result (self.new ≡ self.old ++ (position, game ∷ []) ∷ []) }
+    {
+        let games = vec![in self.alloc; game]?;
+        self.games.reserve(1)?;
+        self.positions.note(position, ())?;
+        self.games.push_reserved(games);
+        Ok(())
     }
 
     /// How many positions there are.
     pub fn len(&self) -> usize
         ensures { result ≡ length self.now }
     {
-        self.groups.len()
+        self.games.len()
     }
 
     /// There is no position.
     pub fn is_empty(&self) -> bool
         ensures { result ≡ (length self.now == 0) }
     {
-        self.groups.is_empty()
+        self.games.is_empty()
     }
 
     /// The position of this place, from 0, and the numbers of its games.
@@ -76,41 +98,9 @@ impl OpeningGroups {
         ensures { MatchOption result (slice_get self.now place ≡ None)
             (λ group. slice_get self.now place ≡ Some (group.0, group.1.now)) }
     {
-        let (position, games) = self.groups.get_index(place)?;
-        Some((*position, games.as_slice()))
-    }
-}
-
-/// Takes the games of a position out of its group, which is a new one where there was none.
-fn take_out(
-    alloc: Global,
-    groups: &mut IndexMap<Position, ItemList<u32>>,
-    position: Position,
-) -> Result<Vec<u32>, AllocError>
-    ensures left { OnOk result (groups.new.entries
-        ≡ insert_entry same_board groups.old.entries position []) }
-    ensures games { IfOk result (λ games. games.items
-        ≡ unwrap_or (lookup (same_board position) groups.old.entries) []) }
-{
-    match groups.insert(position, ItemList::from_vec(Vec::new(alloc))) {
-        Ok(Some(games)) => Ok(games.into_vec()),
-        Ok(None) => Ok(Vec::new(alloc)),
-        Err(_) => Err(AllocError),
-    }
-}
-
-/// Puts the games of a position into its group.
-fn put_back(
-    groups: &mut IndexMap<Position, ItemList<u32>>,
-    position: Position,
-    games: Vec<u32>,
-) -> Result<(), AllocError>
-    ensures { OnOk result (groups.new.entries
-        ≡ insert_entry same_board groups.old.entries position games.items) }
-{
-    match groups.insert(position, ItemList::from_vec(games)) {
-        Ok(_) => Ok(()),
-        Err(_) => Err(AllocError),
+        let row = self.positions.as_slice().get(place)?;
+        let games = self.games.get(place)?;
+        Some((row.0, games.as_slice()))
     }
 }
 
