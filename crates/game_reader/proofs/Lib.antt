@@ -3,3 +3,4 @@ pub mod Written
 pub mod Notes
 pub mod Reading
 pub mod Told
+pub mod SeenNumbers

@@ -1,19 +1,20 @@
 //! The games that were seen, to tell the same game twice.
 use draughts_board::Square;
 use fen_text::print_fen;
-use indexmap::IndexMap;
 use sha2::{Digest, Sha512};
 use std::alloc::{AllocError, Global};
+use std::collections::BTreeMap;
 use strict_games::{Draft, Score};
 
 /// For how many bytes there is room at once.
 const ROOM: usize = 512;
 
 /// The number of the first game with each text, by the first 128 bits of a SHA-512 of what the text
-/// says.
+/// says. They stand in a tree, in the order of these bits, so nobody who chooses the games can make a
+/// look-up slow.
 #[derive(Drop)]
 pub struct Seen {
-    games: IndexMap<(u64, u64), u64>,
+    games: BTreeMap<u128, u64>,
 }
 
 /// Appends the squares of a move, the last one with 64 added.
@@ -49,12 +50,9 @@ fn told_by(alloc: Global, draft: &Draft, score: Score) -> Result<Vec<u8>, AllocE
 }
 
 /// The first 128 bits of the SHA-512 of these bytes.
-fn key_of(bytes: &[u8]) -> (u64, u64) {
+fn key_of(bytes: &[u8]) -> u128 {
     let [a, b, c, d, e, f, g, h, i, j, k, l, m, n, o, p, ..] = Sha512::digest(bytes);
-    (
-        u64::from_be_bytes([a, b, c, d, e, f, g, h]),
-        u64::from_be_bytes([i, j, k, l, m, n, o, p]),
-    )
+    u128::from_be_bytes([a, b, c, d, e, f, g, h, i, j, k, l, m, n, o, p])
 }
 
 impl Seen {
@@ -66,7 +64,7 @@ impl Seen {
         ensures { result.games.entries ≡ [] }
     {
         Seen {
-            games: IndexMap::new(alloc),
+            games: BTreeMap::new(alloc),
         }
     }
 
