@@ -1,5 +1,5 @@
 -- Lines of notes, one behind the other.
-use Rattle.std.proofs.Common.{◌≡◌, ◌∙◌, ℕ, ◌≤◌, List, [], ◌∷◌, ◌++◌, length, Option, refl, sym, ap, subst, append-nil, append_assoc, zero-add, arith}
+use Rattle.std.proofs.Common.{◌≡◌, ◌∙◌, ℕ, ◌≤◌, List, [], ◌∷◌, ◌++◌, length, Option, None, Some, codes, refl, sym, ap, subst, append-nil, append_assoc, zero-add, arith}
 use Rattle.std.specs.List.{flat_map}
 use Rattle.std.proofs.KnownBytes.{Appends-trans}
 use Rattle.std.specs.Io.KnownBytes.{Appends}
@@ -7,8 +7,8 @@ use Rattle.std.proofs.lemmas.List.Concat.{flat_map-append}
 use Rattle.std.proofs.lemmas.List.Elements.{All-append, All-cons, All-nil, All-weaker}
 use Rattle.archive_records.specs.declared.game.ArchiveGame.{ArchiveGame}
 use Rattle.archive_records.specs.declared.notes.Note.{Note}
-use Rattle.game_reader.specs.Listing.{IsLineWithin, Lists, StillTells, TellsWithin}
-use Rattle.game_reader.specs.Telling.{IsNoteLine, counts_text}
+use Rattle.game_reader.specs.Listing.{IsLineWithin, Lists, SaysGame, StillTells, TellsWithin}
+use Rattle.game_reader.specs.Telling.{IsNoteLine, counts_text, game_text, text_of_game}
 use Rattle.game_reader.specs.Reading.{HasRead}
 use Rattle.game_reader.specs.declared.telling.Counts.{Counts}
 use Rattle.game_reader.proofs.Reading.{reads_more}
@@ -26,17 +26,25 @@ tells_more bytes old new first second = record {
 }
 
 -- one line
-pub tells_one : (bytes : ℕ) (game : Option ArchiveGame) (note : Note) (line : List ℕ) → note.place.byte ≤ bytes → IsNoteLine game note line → TellsWithin bytes line
+pub tells_one : (bytes : ℕ) (game : Option ArchiveGame) (note : Note) (line : List ℕ) → note.place.byte ≤ bytes → IsNoteLine (text_of_game game) note line → TellsWithin bytes line
 tells_one bytes game note line within is = record {
   lines = line ∷ [];
   each = All-cons (IsLineWithin bytes) line [] (record { game = game; note = note; within = within; is_line = is }) (All-nil (IsLineWithin bytes));
   joined = sym (append-nil line);
 }
 
+-- a text that says no game, and one that says this game
+pub says_none : (text : List ℕ) → text ≡ codes "" → SaysGame text
+says_none text is = (None, is)
+
+pub says_one : (game : ArchiveGame) (text : List ℕ) → text ≡ game_text game → SaysGame text
+says_one game text is = (Some game, is)
+
 -- one line more
-pub line_more : (game : Option ArchiveGame) (note : Note) (old new line : List ℕ) → IsNoteLine game note line → new ≡ old ++ line → StillTells note old new
-line_more game note old new line is pushed bytes within told =
-    subst (TellsWithin bytes) (sym pushed) (tells_more bytes old line told (tells_one bytes game note line within is))
+pub line_more : (of_game : List ℕ) (note : Note) (old new line : List ℕ) → SaysGame of_game → IsNoteLine of_game note line → new ≡ old ++ line → StillTells note old new
+line_more of_game note old new line says is pushed bytes within told =
+    let is_line : IsNoteLine (text_of_game says.0) note line = subst (λ (t : List ℕ). IsNoteLine t note line) says.1 is in
+    subst (TellsWithin bytes) (sym pushed) (tells_more bytes old line told (tells_one bytes says.0 note line within is_line))
 
 -- what is told within some bytes is told within more
 line_later : (bytes more : ℕ) → bytes ≤ more → (line : List ℕ) → IsLineWithin bytes line → IsLineWithin more line

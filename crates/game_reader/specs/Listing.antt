@@ -4,7 +4,7 @@ use Rattle.std.specs.Io.KnownBytes.{Appends, Consumes}
 use Rattle.std.specs.List.{flat_map}
 use Rattle.archive_records.specs.declared.game.ArchiveGame.{ArchiveGame}
 use Rattle.archive_records.specs.declared.notes.Note.{Note}
-use Rattle.game_reader.specs.Telling.{IsNoteLine, counts_text}
+use Rattle.game_reader.specs.Telling.{IsNoteLine, counts_text, text_of_game}
 use Rattle.game_reader.specs.declared.telling.Counts.{Counts}
 
 -- the line of a note at one of these bytes, or at their end
@@ -12,7 +12,11 @@ pub record IsLineWithin (bytes : ℕ) (line : List ℕ) : Type 0 where
   pub game : Option ArchiveGame
   pub note : Note
   pub within : note.place.byte ≤ bytes
-  pub is_line : IsNoteLine game note line
+  pub is_line : IsNoteLine (text_of_game game) note line
+
+-- the text says which game it is, or is empty
+abbrev pub SaysGame : List ℕ → Type 0
+SaysGame text = (game : Option ArchiveGame) × (text ≡ text_of_game game)
 
 -- such lines, one behind the other
 pub record TellsWithin (bytes : ℕ) (text : List ℕ) : Type 0 where

@@ -40,16 +40,16 @@ abbrev pub text_of_game : Option ArchiveGame → List ℕ
 text_of_game None = codes ""
 text_of_game (Some game) = game_text game
 
--- the front of a note's line: its place, the game and what becomes of it
-abbrev pub note_front : Option ArchiveGame → Note → List ℕ
-note_front game note =
+-- the front of a note's line: its place, which game it is, if it is one, and what becomes of it
+abbrev pub note_front : List ℕ → Note → List ℕ
+note_front of_game note =
     codes "line " ++ (decimal note.place.line ++ (codes ", column " ++ (decimal note.place.column
-    ++ (text_of_game game ++ word_of (weight_of note.kind)))))
+    ++ (of_game ++ word_of (weight_of note.kind)))))
 
 -- the line of a note: that front, and words
-abbrev pub IsNoteLine : Option ArchiveGame → Note → List ℕ → Type 0
-IsNoteLine game note line =
-    (words : List ℕ) × (line ≡ note_front game note ++ (words ++ codes "\n"))
+abbrev pub IsNoteLine : List ℕ → Note → List ℕ → Type 0
+IsNoteLine of_game note line =
+    (words : List ℕ) × (line ≡ note_front of_game note ++ (words ++ codes "\n"))
 
 -- the line that counts
 abbrev pub counts_text : Counts → List ℕ

@@ -1,11 +1,11 @@
 //! The lines of notes, each at a place of what was read.
 ghost use Rattle.std.specs.Prelude.{◌≡◌, ◌≤◌, ℕ, IfOk, OnOk};
 ghost use Rattle.archive_records.specs.Inside.{IsGameWithin};
-ghost use Rattle.game_reader.specs.Listing.{StillTells, TellsWithin};
+ghost use Rattle.game_reader.specs.Listing.{SaysGame, StillTells, TellsWithin};
 ghost use Rattle.game_reader.specs.Reading.{bytes_read};
 
 use crate::archive::Archive;
-use crate::telling::{Counts, say_note};
+use crate::telling::{Counts, game_text, say_note};
 use archive_games::{ArchiveGame, Note, Weight};
 use std::alloc::{AllocError, Global};
 
@@ -13,20 +13,22 @@ use std::alloc::{AllocError, Global};
 fn say_told(
     alloc: Global,
     lines: &mut Vec<u8>,
-    game: Option<&ArchiveGame>,
+    of_game: &[u8],
     note: &Note,
     tells_changes: bool,
 ) -> Result<(), AllocError>
+    requires { SaysGame of_game.now }
     ensures { OnOk result (StillTells note.now lines.old.items lines.new.items) }
 {
     if tells_changes || note.kind.weight() != Weight::Change {
-        say_note(alloc, lines, game, note)?;
+        say_note(alloc, lines, of_game, note)?;
     }
     Ok(())
 }
 
 /// The lines of the game's notes of this weight or more, in the order of their places; each note is
-/// counted.
+/// counted. Which game it is is made out once, and not among all its tags for each note.
+#[tactic(auto, using(crate::proofs::Told::says_one))]
 pub(crate) fn lines_of(
     alloc: Global,
     game: &mut ArchiveGame,
@@ -37,15 +39,17 @@ pub(crate) fn lines_of(
         → TellsWithin bytes lines.items) }
 {
     game.notes.sort_by_key(|note| note.place.byte)?;
+    let of_game = game_text(alloc, game)?;
     let mut lines = Vec::new(alloc);
     for note in game.notes.iter() {
         counts.note(note.kind);
-        say_told(alloc, &mut lines, Some(game), note, tells_changes)?;
+        say_told(alloc, &mut lines, &of_game, note, tells_changes)?;
     }
     Ok(lines)
 }
 
 /// The lines of the notes that stand behind the last game.
+#[tactic(auto, using(crate::proofs::Told::says_none))]
 pub(crate) fn last_lines(
     alloc: Global,
     archive: &mut Archive,
@@ -58,7 +62,7 @@ pub(crate) fn last_lines(
     let notes = archive.notes_left();
     for note in notes.iter() {
         counts.note(note.kind);
-        say_told(alloc, &mut lines, None, note, true)?;
+        say_told(alloc, &mut lines, b"", note, true)?;
     }
     Ok(lines)
 }

@@ -1,7 +1,7 @@
 //! What is told of an archive, a line for each note.
-ghost use Rattle.std.specs.Prelude.{◌≡◌, ◌++◌, ℕ, List, OnOk, option_copied};
+ghost use Rattle.std.specs.Prelude.{◌≡◌, ◌++◌, ℕ, List, IfOk, OnOk, option_copied};
 ghost use Rattle.archive_records.specs.Weights.{weight_of};
-ghost use Rattle.game_reader.specs.Telling.{IsNoteLine, counts_text, game_text, note_front, parts_text, tag_named, text_of_game, value_text, word_of};
+ghost use Rattle.game_reader.specs.Telling.{IsNoteLine, counts_text, game_text, note_front, parts_text, tag_named, value_text, word_of};
 
 use archive_games::{ArchiveGame, ArchiveTag, Note, NoteKind, Weight};
 use std::alloc::{AllocError, Global};
@@ -25,17 +25,19 @@ fn say_value(text: &mut Vec<u8>, game: &ArchiveGame, name: &[u8]) -> Result<(), 
     }
 }
 
-/// Appends which game it is: `, game 3 (Club, Ann - Bob)`.
-fn say_game(text: &mut Vec<u8>, game: &ArchiveGame) -> Result<(), AllocError>
-    ensures { OnOk result (text.new.items ≡ text.old.items ++ game_text game.now) }
+/// Which game it is: `, game 3 (Club, Ann - Bob)`.
+pub fn game_text(alloc: Global, game: &ArchiveGame) -> Result<Vec<u8>, AllocError>
+    ensures { IfOk result (λ text. text.items ≡ game_text game.now) }
 {
-    say_number(text, ", game ", game.number, " (")?;
-    say_value(text, game, b"Event")?;
-    say(text, ", ")?;
-    say_value(text, game, b"Black")?;
-    say(text, " - ")?;
-    say_value(text, game, b"White")?;
-    say(text, ")")
+    let mut text = Vec::new(alloc);
+    say_number(&mut text, ", game ", game.number, " (")?;
+    say_value(&mut text, game, b"Event")?;
+    say(&mut text, ", ")?;
+    say_value(&mut text, game, b"Black")?;
+    say(&mut text, " - ")?;
+    say_value(&mut text, game, b"White")?;
+    say(&mut text, ")")?;
+    Ok(text)
 }
 
 /// The word for what becomes of a game.
@@ -49,25 +51,13 @@ fn word_of(weight: Weight) -> &'static str
     }
 }
 
-/// Appends which game it is, if it is one.
-fn say_of_game(text: &mut Vec<u8>, game: Option<&ArchiveGame>) -> Result<(), AllocError>
-    ensures { OnOk result (text.new.items
-        ≡ text.old.items ++ text_of_game (option_copied game.entry)) }
-{
-    match game {
-        Some(game) => say_game(text, game),
-        None => Ok(()),
-    }
-}
-
 /// Appends the front of a note's line, up to the words of its kind.
-fn say_front(text: &mut Vec<u8>, game: Option<&ArchiveGame>, note: &Note) -> Result<(), AllocError>
-    ensures { OnOk result (text.new.items
-        ≡ text.old.items ++ note_front (option_copied game.entry) note.now) }
+fn say_front(text: &mut Vec<u8>, of_game: &[u8], note: &Note) -> Result<(), AllocError>
+    ensures { OnOk result (text.new.items ≡ text.old.items ++ note_front of_game.now note.now) }
 {
     say_number(text, "line ", note.place.line, "")?;
     say_number(text, ", column ", note.place.column, "")?;
-    say_of_game(text, game)?;
+    text.extend_from_slice(of_game)?;
     say(text, word_of(note.kind.weight()))
 }
 
@@ -80,18 +70,18 @@ fn say_kind(alloc: Global, text: &mut Vec<u8>, kind: NoteKind) -> Result<(), All
     Ok(())
 }
 
-/// Appends the line of a note: `line 2, column 9, game 3 (Club, Ann - Bob): left out: ..`. A note of
-/// no game has no game.
+/// Appends the line of a note: `line 2, column 9, game 3 (Club, Ann - Bob): left out: ..`. Which game
+/// it is stands in `of_game`, as [`game_text`] writes it; of no game that is empty.
 pub fn say_note(
     alloc: Global,
     text: &mut Vec<u8>,
-    game: Option<&ArchiveGame>,
+    of_game: &[u8],
     note: &Note,
 ) -> Result<(), AllocError>
-    ensures { OnOk result ((line : List ℕ) × (IsNoteLine (option_copied game.entry) note.now line
+    ensures { OnOk result ((line : List ℕ) × (IsNoteLine of_game.now note.now line
         × (text.new.items ≡ text.old.items ++ line))) }
 {
-    say_front(text, game, note)?;
+    say_front(text, of_game, note)?;
     say_kind(alloc, text, note.kind)?;
     say(text, "\n")?;
     Ok(())

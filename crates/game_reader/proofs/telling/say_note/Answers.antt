@@ -1,10 +1,10 @@
-use Rattle.std.proofs.Common.{◌++◌, ◌∙◌, List, ℕ, codes, option_copied, refl, ap, append_assoc}
+use Rattle.std.proofs.Common.{◌++◌, ◌∙◌, List, ℕ, codes, refl, ap, append_assoc}
 use Rattle.game_reader.specs.Telling.{note_front}
 use Rattle.game_reader.proofs.telling.say_note.Goals as goal
 
 pub returns : goal.returns
 returns c =
-    let front = note_front (option_copied c.args.game) c.args.note.now in
+    let front = note_front c.args.of_game.now c.args.note.now in
     let words = c.in_ok-say_kind.ensures.0 in (
       front ++ (words ++ codes "\n"),
       (
