@@ -1,3 +1,4 @@
 pub mod Inside
 pub mod Weights
 pub mod Unbegun
+pub mod Keeping

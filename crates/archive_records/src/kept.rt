@@ -1,9 +1,9 @@
 //! What has been read: the game that is open, and games that have ended.
-ghost use Rattle.std.specs.Prelude.{◌≡◌, ◌≤◌, ◌<◌, ◌==◌, ◌&&◌, All, IfSome, is_none, length, max, not, true, OnOk};
+ghost use Rattle.std.specs.Prelude.{◌≡◌, ◌≤◌, ◌<◌, ◌==◌, ◌&&◌, [], All, IfNone, IfSome, is_none, length, max, not, true, OnOk};
 ghost use Rattle.archive_records.specs.Inside.{IsGameWithin};
 
 use crate::game::{ArchiveGame, ArchiveMove, ArchiveTag, FoundPosition, FoundResult};
-use crate::notes::{Note, NoteKind, Weight};
+use crate::notes::{Note, NoteKind};
 use archive_text::Place;
 use archive_words::Outcome;
 use std::alloc::{AllocError, Global};
@@ -31,6 +31,7 @@ pub struct Kept {
 
 impl Kept {
     ghost use Rattle.archive_records.specs.Unbegun.{IsUnbegun};
+    ghost use Rattle.archive_records.specs.Keeping.{AreTaken, IsBegun, IsMoved, IsNoted, IsPlaced, IsTagged, IsTaken};
 
     /// No game yet.
     pub fn new(alloc: Global) -> Kept
@@ -105,9 +106,10 @@ impl Kept {
     /// are kept.
     pub fn note(&mut self, place: Place, kind: NoteKind) -> Result<(), AllocError>
         requires { place.byte ≤ self.old.reached }
-        ensures { self.new.reached ≡ self.old.reached }
+        ensures reached { self.new.reached ≡ self.old.reached }
+        ensures kept { OnOk result (IsNoted place kind self.old self.new) }
     {
-        let is_fault = kind.weight() == Weight::Fault;
+        let is_fault = kind.is_fault();
         if self.is_open && is_fault {
             self.draft.is_left_out = true;
         }
@@ -121,7 +123,8 @@ impl Kept {
     /// Begins a game, if none is open.
     pub fn begin(&mut self, place: Place)
         requires { place.byte ≤ self.old.reached }
-        ensures { self.new.reached ≡ self.old.reached }
+        ensures reached { self.new.reached ≡ self.old.reached }
+        ensures kept { IsBegun place self.old self.new }
     {
         if !self.is_open {
             self.is_open = true;
@@ -153,7 +156,8 @@ impl Kept {
     /// Keeps a tag.
     pub fn add_tag(&mut self, tag: ArchiveTag) -> Result<(), AllocError>
         requires { tag.place.byte ≤ self.old.reached }
-        ensures { self.new.reached ≡ self.old.reached }
+        ensures reached { self.new.reached ≡ self.old.reached }
+        ensures kept { OnOk result (IsTagged tag self.old self.new) }
     {
         self.draft.tags.push(tag)?;
         Ok(())
@@ -162,7 +166,8 @@ impl Kept {
     /// Keeps a move.
     pub fn add_move(&mut self, text: ArchiveMove) -> Result<(), AllocError>
         requires { text.place.byte ≤ self.old.reached }
-        ensures { self.new.reached ≡ self.old.reached }
+        ensures reached { self.new.reached ≡ self.old.reached }
+        ensures kept { OnOk result (IsMoved text self.old self.new) }
     {
         self.draft.moves.push(text)?;
         Ok(())
@@ -171,7 +176,8 @@ impl Kept {
     /// Keeps the position.
     pub fn set_position(&mut self, position: FoundPosition)
         requires { position.place.byte ≤ self.old.reached }
-        ensures { self.new.reached ≡ self.old.reached }
+        ensures reached { self.new.reached ≡ self.old.reached }
+        ensures kept { IsPlaced position self.old self.new }
     {
         self.draft.position = Some(position);
     }
@@ -229,6 +235,8 @@ impl Kept {
     pub fn next_ended(&mut self) -> Option<ArchiveGame>
         ensures reached { self.new.reached ≡ self.old.reached }
         ensures within { IfSome result (IsGameWithin self.old.reached) }
+        ensures taken { IfSome result (λ game. IsTaken game self.old self.new) }
+        ensures none { IfNone result (self.old.ended.items ≡ []) }
     {
         self.ended.pop_front()
     }
@@ -236,6 +244,7 @@ impl Kept {
     /// The notes behind the last game.
     pub fn take_notes(&mut self) -> Vec<Note>
         ensures reached { self.new.reached ≡ self.old.reached }
+        ensures taken { AreTaken result.items self.old self.new }
         ensures within { All (λ note. note.place.byte ≤ self.old.reached) result.items }
     {
         mem::replace(&mut self.draft.notes, Vec::new(self.alloc))

@@ -98,6 +98,7 @@ pub enum NoteKind {
 impl NoteKind {
     ghost use Rattle.std.specs.Prelude.{◌≡◌};
     ghost use Rattle.archive_records.specs.Weights.{weight_of};
+    ghost use Rattle.archive_records.specs.Keeping.{is_fault};
 
     /// How much it weighs.
     pub fn weight(self) -> Weight
@@ -121,6 +122,17 @@ impl NoteKind {
             NoteKind::BareFen => Weight::Change,
             NoteKind::ChangedFen => Weight::Change,
             _ => Weight::Doubt,
+        }
+    }
+
+    /// It is a fault.
+    pub fn is_fault(self) -> bool
+        ensures { result ≡ is_fault (weight_of self) }
+    {
+        match self.weight() {
+            Weight::Fault => true,
+            Weight::Doubt => false,
+            Weight::Change => false,
         }
     }
 }

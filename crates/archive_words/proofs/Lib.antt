@@ -1,1 +1,4 @@
 pub mod CleanFens
+pub mod FirstPlaces
+pub mod FoundTags
+pub mod Paths

@@ -1,5 +1,5 @@
 -- The texts of positions.
-use Rattle.std.specs.Prelude.{ℕ, Bool, ◌||◌, ◌&&◌, ◌==◌, not, List, count_by, nat_le, if◌then◌else◌}
+use Rattle.std.specs.Prelude.{ℕ, ◌+◌, Bool, true, false, ◌||◌, ◌&&◌, ◌==◌, not, List, [], ◌∷◌, ◌++◌, count_by, nat_le, if◌then◌else◌}
 use Rattle.std.specs.List.{list_all}
 use Rattle.std.specs.Char.{is_ascii_digit}
 
@@ -27,3 +27,24 @@ capital b = if b == 98 then 66 else if b == 119 then 87 else if b == 107 then 75
 -- no blank, full stop or quotation mark, and no small letter of a side or a king
 abbrev pub is_clean : ℕ → Bool
 is_clean b = not (is_left_out b) && capital b == b
+
+-- behind a blank a comma is wanted between two squares
+abbrev pub wants_comma : ℕ → ℕ → Bool
+wants_comma last b = is_ascii_digit last && not (b == 44) && not (b == 58) && not (b == 45)
+
+-- a byte as a capital letter, behind a comma if one is wanted
+abbrev pub with_comma : Bool → ℕ → List ℕ
+with_comma has_comma b = (if has_comma then 44 ∷ [] else []) ++ capital b ∷ []
+
+-- What is made of the bytes that follow, behind the byte that was taken last, a blank if one stood
+-- between, and so many colons. A third colon ends the position; counters stand behind it.
+abbrev pub cleaned_from : ℕ → Bool → ℕ → List ℕ → List ℕ
+cleaned_from last behind colons [] = []
+cleaned_from last behind colons (b ∷ rest) =
+    if is_left_out b then cleaned_from last true colons rest
+    else if b == 58 && colons == 2 then []
+    else with_comma (behind && wants_comma last b) b
+    ++ cleaned_from b false (if b == 58 then colons + 1 else colons) rest
+
+abbrev pub cleaned : List ℕ → List ℕ
+cleaned text = cleaned_from 58 false 0 text

@@ -1,7 +1,7 @@
 //! The texts of positions.
 ghost use Rattle.std.specs.Prelude.{◌≡◌, ◌≤◌, ◌++◌, ◌∷◌, [], true, IfOk, OnOk, count_by, if◌then◌else◌};
 ghost use Rattle.std.specs.List.{list_all};
-ghost use Rattle.archive_words.specs.Fens.{capital, is_clean, is_colon, is_fen_byte, is_left_out, is_like_fen};
+ghost use Rattle.archive_words.specs.Fens.{capital, cleaned, is_clean, is_colon, is_fen_byte, is_left_out, is_like_fen, wants_comma, with_comma};
 
 use std::alloc::{AllocError, Global};
 
@@ -69,7 +69,9 @@ fn is_left_out(byte: u8) -> bool
 }
 
 /// Behind a blank, a comma is wanted between the byte that stands last and this one.
-fn wants_comma(last: u8, byte: u8) -> bool {
+fn wants_comma(last: u8, byte: u8) -> bool
+    ensures { result ≡ wants_comma last byte }
+{
     last.is_ascii_digit() && byte != b',' && byte != b':' && byte != b'-'
 }
 
@@ -89,6 +91,7 @@ fn push_clean(fen: &mut Vec<u8>, has_comma: bool, byte: u8) -> Result<(), AllocE
 /// between two squares stand for a comma. What stands behind the third colon is left out: counters.
 #[tactic(auto, using(crate::proofs::CleanFens::clean_more, crate::proofs::CleanFens::colons_more))]
 pub fn clean_fen(alloc: Global, text: &[u8]) -> Result<Vec<u8>, AllocError>
+    ensures value { IfOk result (λ fen. fen.items ≡ cleaned text.now) }
     ensures clean { IfOk result (λ fen. list_all is_clean fen.items ≡ true) }
     ensures colons { IfOk result (λ fen. count_by is_colon fen.items ≤ 2) }
 {

@@ -3,10 +3,10 @@
 //!
 //! It stands below `archive_games`, which cuts an archive into these words.
 //!
-//! Proved: each call ends, with no panic and no overflow; a move that is read has two to thirteen
-//! squares, and those are the numbers of its run; which names of tags are strict and which tags they
-//! name, what a value is without escapes, and what looks like a FEN. How other words are understood is
-//! tested.
+//! Proved: each call ends, with no panic and no overflow, and answers what `specs/` says of its text:
+//! which move, number or result a run is, what a word says, which tag stands between brackets and what
+//! it names, and the FEN that is made of one. A move that is read has two to thirteen squares, and those
+//! are the numbers of its run. That a person reads these words so is tested.
 //!
 //! Tests: archive_tests/src/words.rt
 #![tactic(auto)]

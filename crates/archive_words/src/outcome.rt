@@ -20,6 +20,7 @@ pub enum Outcome {
 impl Outcome {
     ghost use Rattle.std.specs.Prelude.{◌≡◌, ◌&&◌, not};
     ghost use Rattle.archive_words.specs.Outcomes.{is_in_digits, is_same, outcome_of_tag, written};
+    ghost use Rattle.archive_words.specs.Runs.{outcome_of_score};
 
     /// The result in digits; `*` where words name the side, since archives differ in whose score
     /// stands first.
@@ -37,7 +38,9 @@ impl Outcome {
     }
 
     /// The outcome of a score in two numbers, if it is one.
-    pub(crate) fn of_score(first: u32, second: u32) -> Option<Outcome> {
+    pub(crate) fn of_score(first: u32, second: u32) -> Option<Outcome>
+        ensures { result ≡ outcome_of_score first second }
+    {
         match (first, second) {
             (1, 0) | (2, 0) => Some(Outcome::FirstWins),
             (0, 1) | (0, 2) => Some(Outcome::SecondWins),

@@ -1,5 +1,6 @@
 //! Moves and their numbers as most archives write them: `11-15 `, `12. `.
-ghost use Rattle.std.specs.Prelude.{◌≤◌, ◌<◌, IfSome, length};
+ghost use Rattle.std.specs.Prelude.{◌≡◌, ◌≤◌, ◌<◌, IfSome, MatchOption, None, Some, length};
+ghost use Rattle.archive_words.specs.Pairs.{join_at, number_at, pair_at, short_number};
 
 use crate::runs::Join;
 
@@ -15,7 +16,9 @@ pub struct Pair {
 
 /// The number of one digit or two at the front, and what stands behind them.
 fn short_number(text: &[u8]) -> Option<(u32, &[u8])>
-    ensures { IfSome result (λ found. (found.0 < 100) × (length found.1.now < length text.now)) }
+    ensures value { MatchOption result (short_number text.now ≡ None)
+        (λ found. short_number text.now ≡ Some (found.0, found.1.now)) }
+    ensures small { IfSome result (λ found. (found.0 < 100) × (length found.1.now < length text.now)) }
 {
     match text {
         [tens, ones, rest @ ..] if tens.is_ascii_digit() && ones.is_ascii_digit() => {
@@ -28,7 +31,9 @@ fn short_number(text: &[u8]) -> Option<(u32, &[u8])>
 
 /// The sign at the front that joins two numbers, `-` or `x`, and what stands behind it.
 fn join_at(text: &[u8]) -> Option<(Join, &[u8])>
-    ensures { IfSome result (λ found. length found.1.now < length text.now) }
+    ensures value { MatchOption result (join_at text.now ≡ None)
+        (λ found. join_at text.now ≡ Some (found.0, found.1.now)) }
+    ensures inside { IfSome result (λ found. length found.1.now < length text.now) }
 {
     match text {
         [b'-', rest @ ..] => Some((Join::Dash, rest)),
@@ -40,6 +45,7 @@ fn join_at(text: &[u8]) -> Option<(Join, &[u8])>
 /// The two numbers, of one digit or two each, that stand at the front with a `-` or an `x` between and
 /// a blank behind them.
 pub fn pair_at(text: &[u8]) -> Option<Pair>
+    ensures value { result ≡ pair_at text.now }
     ensures small { IfSome result (λ pair. (pair.first < 100) × (pair.second < 100)) }
     ensures some { IfSome result (λ pair. 0 < pair.len) }
     ensures inside { IfSome result (λ pair. pair.len ≤ length text.now) }
@@ -67,6 +73,7 @@ pub struct Numbered {
 
 /// The number of one digit or two, from 1, that stands at the front with a dot and a blank behind it.
 pub fn number_at(text: &[u8]) -> Option<Numbered>
+    ensures value { result ≡ number_at text.now }
     ensures range { IfSome result (λ found. (0 < found.number) × (found.number < 100)) }
     ensures some { IfSome result (λ found. 0 < found.len) }
     ensures inside { IfSome result (λ found. found.len ≤ length text.now) }

@@ -1,5 +1,7 @@
 //! Runs of numbers with signs between: `11-15`, `22x15`, `1/2-1/2`, `7`.
 ghost use Rattle.std.specs.Prelude.{◌≡◌, IfSome};
+ghost use Rattle.archive_words.specs.Runs.{is_half, is_square, path_of, score_of};
+ghost use Rattle.std.specs.Option.{is_some};
 
 use crate::outcome::Outcome;
 use arrayvec::ArrayVec;
@@ -52,7 +54,8 @@ pub struct Run {
 
 /// The square of this number.
 fn square_of(number: u32) -> Option<Square>
-    ensures { IfSome result (λ s. s ≡ number) }
+    ensures value { IfSome result (λ s. s ≡ number) }
+    ensures some { is_some result ≡ is_square number }
 {
     if number > 32 {
         return None;
@@ -62,12 +65,12 @@ fn square_of(number: u32) -> Option<Square>
 
 /// The move over these squares.
 fn path_of(numbers: &[u32]) -> Option<Move>
-    ensures { IfSome result (λ path. path ≡ numbers.now) }
+    ensures { result ≡ path_of numbers.now }
 {
     if let [from, to] = numbers {
         return Some(Move::direct(square_of(*from)?, square_of(*to)?));
     }
-    if numbers.is_empty() || numbers.len() > MOST_NUMBERS {
+    if numbers.len() < 2 || numbers.len() > MOST_NUMBERS {
         return None;
     }
     let first = square_of(numbers[0])?;
@@ -78,9 +81,30 @@ fn path_of(numbers: &[u32]) -> Option<Move>
     Move::of(&squares[..numbers.len()])
 }
 
+/// `1/2` and `1/2-1/2`.
+fn is_half(numbers: &[u32]) -> bool
+    ensures { result ≡ is_half numbers.now }
+{
+    match numbers {
+        [1, 2] => true,
+        [1, 2, 1, 2] => true,
+        _ => false,
+    }
+}
+
+/// The result that two numbers are, if they are one.
+fn score_of(numbers: &[u32]) -> Option<Outcome>
+    ensures { result ≡ score_of numbers.now }
+{
+    match numbers {
+        [first, second] => Outcome::of_score(*first, *second),
+        _ => None,
+    }
+}
+
 impl Run {
-    ghost use Rattle.std.specs.Prelude.{◌<◌, ◌==◌, ◌++◌, ◌∷◌, [], false, length};
-    ghost use Rattle.archive_words.specs.Runs.{IsNew, IsOver, joined_by};
+    ghost use Rattle.std.specs.Prelude.{◌<◌, ◌==◌, ◌||◌, ◌++◌, ◌∷◌, [], false, length};
+    ghost use Rattle.archive_words.specs.Runs.{IsNew, IsOver, joined_by, joined_meaning, lone_of, meaning_of};
 
     /// A run without numbers.
     pub fn new() -> Run
@@ -111,6 +135,7 @@ impl Run {
 
     /// The number that stands in it alone, if one does.
     pub fn lone(&self) -> Option<u32>
+        ensures value { result ≡ lone_of self.now }
         ensures some { IfSome result (λ number. self.now.numbers.items ≡ number ∷ []) }
         ensures closed { IfSome result (λ _. self.now.is_open ≡ false) }
     {
@@ -127,6 +152,8 @@ impl Run {
         ensures full { length self.old.numbers.items ≡ MOST_NUMBERS
             → self.new.numbers.items ≡ self.old.numbers.items }
         ensures closed { self.new.is_open ≡ false }
+        ensures long { self.new.is_long
+            ≡ (self.old.is_long || length self.old.numbers.items == MOST_NUMBERS) }
         ensures slash { self.new.has_slash ≡ self.old.has_slash }
         ensures clock { self.new.is_clock ≡ self.old.is_clock }
     {
@@ -174,18 +201,17 @@ impl Run {
 
     /// What two numbers or more are.
     fn joined(&self) -> Meaning
-        ensures { IsOver self.now.numbers.items result }
+        ensures { result ≡ joined_meaning self.now }
     {
         let numbers = self.numbers.as_slice();
         if self.has_slash {
-            return match numbers {
-                [1, 2] | [1, 2, 1, 2] => Meaning::Result(Outcome::Draw),
-                _ => Meaning::Clock,
+            return if is_half(numbers) {
+                Meaning::Result(Outcome::Draw)
+            } else {
+                Meaning::Clock
             };
         }
-        if let [first, second] = numbers
-            && let Some(outcome) = Outcome::of_score(*first, *second)
-        {
+        if let Some(outcome) = score_of(numbers) {
             return Meaning::Result(outcome);
         }
         match path_of(numbers) {
@@ -197,7 +223,8 @@ impl Run {
 
     /// What it is.
     pub fn meaning(&self) -> Meaning
-        ensures { IsOver self.now.numbers.items result }
+        ensures value { result ≡ meaning_of self.now }
+        ensures over { IsOver self.now.numbers.items result }
     {
         match self.numbers.as_slice() {
             [] => Meaning::Nothing,

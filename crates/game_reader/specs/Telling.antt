@@ -1,5 +1,5 @@
 -- What is told of an archive, line by line.
-use Rattle.std.specs.Prelude.{◌≡◌, ℕ, List, ◌++◌, codes, decimal, find, Option, Some, None}
+use Rattle.std.specs.Prelude.{◌≡◌, ℕ, List, ◌++◌, codes, decimal, find, take, Option, Some, None}
 use Rattle.std.specs.Str.{bytes_eq}
 use Rattle.archive_records.specs.Weights.{weight_of}
 use Rattle.archive_records.specs.declared.game.ArchiveGame.{ArchiveGame}
@@ -9,6 +9,7 @@ use Rattle.archive_records.specs.declared.notes.Weight.{Weight}
 use Rattle.archive_records.specs.declared.notes.Weight.TheVariants.{Fault, Doubt, Change}
 use Rattle.terminal_text.specs.Shown.{quoted}
 use Rattle.game_reader.specs.declared.telling.Counts.{Counts}
+use Rattle.game_reader.specs.declared.telling.TheConstants.{MOST_SHOWN}
 
 -- the word for what becomes of a game
 abbrev pub word_of : Weight → List ℕ
@@ -20,10 +21,10 @@ word_of Change = codes ": changed: "
 abbrev pub tag_named : ArchiveGame → List ℕ → Option ArchiveTag
 tag_named game name = find (λ tag. bytes_eq tag.name.items name) game.tags.items
 
--- the value of a tag as a terminal is given it; `?` if there is none
+-- the first bytes of the value of a tag, as a terminal is given them; `?` if there is none
 abbrev pub shown_value : Option ArchiveTag → List ℕ
 shown_value None = quoted (codes "?")
-shown_value (Some tag) = quoted tag.value.items
+shown_value (Some tag) = quoted (take MOST_SHOWN tag.value.items)
 
 abbrev pub value_text : ArchiveGame → List ℕ → List ℕ
 value_text game name = shown_value (tag_named game name)

@@ -1,11 +1,21 @@
 //! What is told of an archive, a line for each note.
-ghost use Rattle.std.specs.Prelude.{◌≡◌, ◌++◌, ℕ, List, IfOk, OnOk, option_copied};
+ghost use Rattle.std.specs.Prelude.{◌≡◌, ◌++◌, ℕ, List, IfOk, OnOk, option_copied, take};
 ghost use Rattle.archive_records.specs.Weights.{weight_of};
 ghost use Rattle.game_reader.specs.Telling.{IsNoteLine, counts_text, game_text, note_front, parts_text, tag_named, value_text, word_of};
 
 use archive_games::{ArchiveGame, ArchiveTag, Note, NoteKind, Weight};
 use std::alloc::{AllocError, Global};
 use terminal_text::{quote, say, say_number};
+
+/// How many bytes of a tag's value are told.
+const MOST_SHOWN: usize = 64;
+
+/// The first bytes of a value: as many as are told.
+fn shown(value: &[u8]) -> &[u8]
+    ensures { result.now ≡ take MOST_SHOWN value.now }
+{
+    value.get(..MOST_SHOWN).unwrap_or(value)
+}
 
 /// The first tag of this name, if the game has one.
 fn tag_named<'a>(game: &'a ArchiveGame, name: &[u8]) -> Option<&'a ArchiveTag>
@@ -14,13 +24,13 @@ fn tag_named<'a>(game: &'a ArchiveGame, name: &[u8]) -> Option<&'a ArchiveTag>
     game.tags.iter().find(|tag| tag.name.as_slice() == name)
 }
 
-/// Appends the value of the first tag of this name; `?` if the game has none. Bytes that are not
-/// printable ASCII are escaped.
+/// Appends the first bytes of the value of the first tag of this name; `?` if the game has none. Bytes
+/// that are not printable ASCII are escaped.
 fn say_value(text: &mut Vec<u8>, game: &ArchiveGame, name: &[u8]) -> Result<(), AllocError>
     ensures { OnOk result (text.new.items ≡ text.old.items ++ value_text game.now name.now) }
 {
     match tag_named(game, name) {
-        Some(tag) => quote(text, &tag.value),
+        Some(tag) => quote(text, shown(&tag.value)),
         None => quote(text, b"?"),
     }
 }
