@@ -36,15 +36,22 @@ wants_comma last b = is_ascii_digit last && not (b == 44) && not (b == 58) && no
 abbrev pub with_comma : Bool → ℕ → List ℕ
 with_comma has_comma b = (if has_comma then 44 ∷ [] else []) ++ capital b ∷ []
 
+-- a third colon ends the position; counters stand behind it
+abbrev pub ends_before : ℕ → ℕ → Bool
+ends_before b colons = b == 58 && colons == 2
+
+abbrev pub colons_with : ℕ → ℕ → ℕ
+colons_with b colons = if b == 58 then colons + 1 else colons
+
 -- What is made of the bytes that follow, behind the byte that was taken last, a blank if one stood
--- between, and so many colons. A third colon ends the position; counters stand behind it.
+-- between, and so many colons.
 abbrev pub cleaned_from : ℕ → Bool → ℕ → List ℕ → List ℕ
 cleaned_from last behind colons [] = []
 cleaned_from last behind colons (b ∷ rest) =
     if is_left_out b then cleaned_from last true colons rest
-    else if b == 58 && colons == 2 then []
+    else if ends_before b colons then []
     else with_comma (behind && wants_comma last b) b
-    ++ cleaned_from b false (if b == 58 then colons + 1 else colons) rest
+    ++ cleaned_from b false (colons_with b colons) rest
 
 abbrev pub cleaned : List ℕ → List ℕ
 cleaned text = cleaned_from 58 false 0 text

@@ -1,7 +1,7 @@
 //! The texts of positions.
-ghost use Rattle.std.specs.Prelude.{◌≡◌, ◌≤◌, ◌++◌, ◌∷◌, [], true, IfOk, OnOk, count_by, if◌then◌else◌};
+ghost use Rattle.std.specs.Prelude.{◌≡◌, ◌≤◌, ◌<◌, ◌&&◌, ◌++◌, ◌∷◌, [], true, IfOk, OnOk, count_by, if◌then◌else◌};
 ghost use Rattle.std.specs.List.{list_all};
-ghost use Rattle.archive_words.specs.Fens.{capital, cleaned, is_clean, is_colon, is_fen_byte, is_left_out, is_like_fen, wants_comma, with_comma};
+ghost use Rattle.archive_words.specs.Fens.{capital, cleaned, colons_with, ends_before, is_clean, is_colon, is_fen_byte, is_left_out, is_like_fen, wants_comma, with_comma};
 
 use std::alloc::{AllocError, Global};
 
@@ -75,6 +75,28 @@ fn wants_comma(last: u8, byte: u8) -> bool
     last.is_ascii_digit() && byte != b',' && byte != b':' && byte != b'-'
 }
 
+/// The position ends before this byte: a third colon, behind which counters stand.
+fn ends_before(byte: u8, colons: u8) -> bool
+    ensures { result ≡ ends_before byte colons }
+{
+    byte == b':' && colons == 2
+}
+
+/// How many colons there are with this byte.
+fn colons_with(byte: u8, colons: u8) -> u8
+    requires { colons < 3 }
+    ensures { result ≡ colons_with byte colons }
+{
+    if byte == b':' { colons + 1 } else { colons }
+}
+
+/// A comma is wanted before this byte.
+fn has_comma(is_behind_blank: bool, last: u8, byte: u8) -> bool
+    ensures { result ≡ (is_behind_blank && wants_comma last byte) }
+{
+    is_behind_blank && wants_comma(last, byte)
+}
+
 /// Appends a byte, as a capital letter, behind a comma if one is wanted.
 fn push_clean(fen: &mut Vec<u8>, has_comma: bool, byte: u8) -> Result<(), AllocError>
     ensures { OnOk result (fen.new.items
@@ -89,7 +111,7 @@ fn push_clean(fen: &mut Vec<u8>, has_comma: bool, byte: u8) -> Result<(), AllocE
 
 /// The FEN without blanks, counters, full stops, quotation marks and small letters. Blanks alone
 /// between two squares stand for a comma. What stands behind the third colon is left out: counters.
-#[tactic(auto, using(crate::proofs::CleanFens::clean_more, crate::proofs::CleanFens::colons_more))]
+#[tactic(auto, using(crate::proofs::CleanFens::clean_more, crate::proofs::CleanFens::colons_more, crate::proofs::CleanFens::value_more))]
 pub fn clean_fen(alloc: Global, text: &[u8]) -> Result<Vec<u8>, AllocError>
     ensures value { IfOk result (λ fen. fen.items ≡ cleaned text.now) }
     ensures clean { IfOk result (λ fen. list_all is_clean fen.items ≡ true) }
@@ -105,13 +127,11 @@ pub fn clean_fen(alloc: Global, text: &[u8]) -> Result<Vec<u8>, AllocError>
             is_behind_blank = true;
             continue;
         }
-        if byte == b':' {
-            if colons == 2 {
-                break;
-            }
-            colons += 1;
+        if ends_before(byte, colons) {
+            break;
         }
-        push_clean(&mut fen, is_behind_blank && wants_comma(last, byte), byte)?;
+        colons = colons_with(byte, colons);
+        push_clean(&mut fen, has_comma(is_behind_blank, last, byte), byte)?;
         last = byte;
         is_behind_blank = false;
     }
