@@ -5,7 +5,7 @@ use Rattle.std.specs.List.{list_all}
 use Rattle.std.proofs.lemmas.Bool.Decides.{nat_tests}
 use Rattle.std.proofs.lemmas.List.Folds.{list_all-append}
 use Rattle.std.proofs.lemmas.List.Sums.{sum_by-append}
-use Rattle.archive_words.specs.Fens.{capital, cleaned, cleaned_from, colons_with, ends_before, is_clean, is_colon, is_left_out, wants_comma, with_comma}
+use Rattle.archive_words.specs.Fens.{capital, cleaned_from, colons_with, ends_before, is_clean, is_colon, is_left_out, wants_comma, with_comma}
 
 capital_is_clean : (b : ℕ) → is_left_out b ≡ false → is_clean (capital b) ≡ true
 capital_is_clean b kept = grind (arith, nat_tests)

@@ -1,5 +1,5 @@
 -- A tag that begins with a name.
-use Rattle.std.proofs.Common.{◌≡◌, ℕ, Bool, true, false, List, Some, ap, drop, nat_eq, sym, take}
+use Rattle.std.proofs.Common.{◌≡◌, ℕ, Bool, false, List, Some, ap, drop, nat_eq, sym, take}
 use Rattle.std.specs.Prelude.{slice_index}
 use Rattle.std.specs.Char.{is_ascii_digit}
 use Rattle.archive_words.specs.Tags.{name_len, tag_at, value_behind}

@@ -1,5 +1,5 @@
 -- A path over squares.
-use Rattle.std.proofs.Common.{◌≡◌, ◌∙◌, ◌≤◌, ◌<◌, ◌⊎◌, inl, inr, ℕ, true, List, Option, None, Some, IfSome, arith, length, refl, sym, ap}
+use Rattle.std.proofs.Common.{◌≡◌, ◌∙◌, ◌≤◌, ◌<◌, ◌⊎◌, inl, inr, ℕ, true, List, Option, None, Some, IfSome, arith, length, refl, ap}
 use Rattle.std.specs.Prelude.{IsNone}
 use Rattle.std.specs.List.{list_all}
 use Rattle.std.proofs.lemmas.Bool.Decides.{nat_tests}

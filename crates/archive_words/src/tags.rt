@@ -66,7 +66,10 @@ fn blanks_at_end(text: &[u8]) -> usize
     ensures value { result ≡ position_or_len is_ink (reverse text.now) }
     ensures inside { result ≤ length text.now }
 {
-    text.iter().rev().position(|b| is_ink(*b)).unwrap_or(text.len())
+    text.iter()
+        .rev()
+        .position(|b| is_ink(*b))
+        .unwrap_or(text.len())
 }
 
 /// Without blanks at its front.

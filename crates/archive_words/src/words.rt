@@ -59,18 +59,14 @@ fn says_unfinished(word: &[u8]) -> bool
 fn says_black(word: &[u8]) -> bool
     ensures { result ≡ says_black word.now }
 {
-    word == b"black".as_slice()
-        || word == b"red".as_slice()
-        || word == b"schwarz".as_slice()
+    word == b"black".as_slice() || word == b"red".as_slice() || word == b"schwarz".as_slice()
 }
 
 /// A word for White.
 fn says_white(word: &[u8]) -> bool
     ensures { result ≡ says_white word.now }
 {
-    word == b"white".as_slice()
-        || word == b"weiss".as_slice()
-        || word == b"wei?".as_slice()
+    word == b"white".as_slice() || word == b"weiss".as_slice() || word == b"wei?".as_slice()
 }
 
 /// A word for winning.

@@ -1,5 +1,5 @@
 -- Paths of two squares that are alone between their ends.
-use Rattle.std.proofs.Common.{◌≡◌, ◌∙◌, ℕ, ◌+◌, ◌-◌, ◌*◌, ◌<◌, ◌≤◌, ◌==◌, Bool, true, false, cond, not, ◌&&◌, ◌||◌, List, [], ◌∷◌, length, Ok, refl, sym, ap, subst, arith, inl, inr}
+use Rattle.std.proofs.Common.{◌≡◌, ◌∙◌, ℕ, ◌+◌, ◌-◌, ◌*◌, ◌<◌, ◌≤◌, Bool, true, false, cond, not, ◌||◌, List, [], ◌∷◌, length, Ok, refl, sym, ap, subst, arith, inl, inr}
 use Rattle.std.specs.Prelude.{◌↔◌, IsTrue, filter, Contains}
 use Rattle.std.specs.Bool.{OnTrue}
 use Rattle.std.specs.Cmp.{first_so, second_so}
@@ -12,8 +12,7 @@ use Rattle.draughts_board.specs.Geometry.{are_near, are_jump_apart, distance, ro
 use Rattle.draughts_board.specs.Play.{legal_paths}
 use Rattle.draughts_board.specs.Resolution.{elsewhere, first_of, is_written, matches, meaning, meaning_beside}
 use Rattle.draughts_board.specs.Rules.{IsCapture, IsLegal, IsStep, after, all_following, first_square, is_jump, last_square, may_go}
-use Rattle.draughts_board.specs.declared.pieces.Cell.{Cell}
-use Rattle.draughts_board.specs.declared.pieces.Cell.TheVariants.{Empty, Man, King}
+use Rattle.draughts_board.specs.declared.pieces.Cell.TheVariants.{Man}
 use Rattle.draughts_board.specs.declared.pieces.Side.{Side}
 use Rattle.draughts_board.specs.declared.pieces.Side.TheVariants.{Black, White}
 use Rattle.draughts_board.proofs.Legal.{capture-has_jump, legal_paths_are_legal}

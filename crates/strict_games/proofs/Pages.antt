@@ -1,16 +1,16 @@
 -- A text says more with each word that is appended to it.
-use Rattle.std.proofs.Common.{◌≡◌, ◌∙◌, ℕ, ◌+◌, ◌-◌, ◌<◌, ◌≤◌, ◌==◌, Bool, false, true, not, ◌&&◌, List, [], ◌∷◌, ◌++◌, length, take, drop, map, Some, None, refl, sym, ap, subst, arith, append_assoc, append-nil, length-append, inl, inr, ◌||◌}
+use Rattle.std.proofs.Common.{◌≡◌, ◌∙◌, ℕ, ◌+◌, ◌-◌, ◌==◌, Bool, false, true, not, ◌&&◌, List, [], ◌∷◌, ◌++◌, length, take, drop, map, Some, refl, sym, ap, subst, arith, append_assoc, append-nil, length-append, inl, inr, ◌||◌}
 use Rattle.std.specs.Prelude.{codes, option_to_list, slice_index}
 use Rattle.std.specs.Char.{is_ascii_digit}
 use Rattle.std.specs.List.{flat_map, list_all}
 use Rattle.std.proofs.Math.Seq.{take-append_seam}
 use Rattle.std.proofs.lemmas.Bool.{eqb-true, or_cases}
-use Rattle.std.proofs.lemmas.List.{drop_at, map-append}
+use Rattle.std.proofs.lemmas.List.{drop_at}
 use Rattle.std.proofs.lemmas.Grind.{common_steps}
 use Rattle.pdn_text.specs.Bytes.{is_line_end, is_word_byte}
 use Rattle.pdn_text.specs.Forms.{form_of}
 use Rattle.pdn_text.specs.Grammar.{IsItemOfText, IsWordItem, begins_line, form_at, word_at, word_len}
-use Rattle.pdn_text.specs.Pdn.{AreItemsOfText, signs}
+use Rattle.pdn_text.specs.Pdn.{AreItemsOfText}
 use Rattle.pdn_text.specs.Signs.{saying, skipped}
 use Rattle.pdn_text.specs.Tags.{AreWritten, IsName, IsWritten, Written, as_written, byte_of}
 use Rattle.pdn_text.specs.Tags.Written.{Plain, Escaped}

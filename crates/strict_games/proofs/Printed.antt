@@ -1,9 +1,8 @@
 -- A page, and a whole text, as they are read.
-use Rattle.std.proofs.Common.{◌≡◌, ◌≢◌, ◌∙◌, ℕ, zero, suc, ◌+◌, ◌^◌, ◌<◌, ◌≤◌, ◌==◌, Bool, false, true, cond, not, ◌&&◌, ◌||◌, List, [], ◌∷◌, ◌++◌, length, take, drop, map, Option, Some, None, refl, sym, ap, subst, arith, append_assoc, append-nil, length-append, decimal, inl, inr}
+use Rattle.std.proofs.Common.{◌≡◌, ◌∙◌, ℕ, ◌+◌, ◌^◌, ◌<◌, ◌≤◌, ◌==◌, Bool, false, true, cond, not, ◌&&◌, ◌||◌, List, [], ◌∷◌, ◌++◌, length, take, map, Option, Some, None, refl, sym, ap, subst, arith, append_assoc, append-nil, length-append, decimal, inl, inr}
 use Rattle.std.specs.Prelude.{codes, slice_index, All, if◌then◌else◌}
 use Rattle.std.specs.Char.{is_ascii_alphabetic, is_ascii_digit}
 use Rattle.std.specs.List.{list_all, starts_with}
-use Rattle.std.specs.Option.{option_map}
 use Rattle.std.specs.Str.{bytes_eq}
 use Rattle.std.specs.Cmp.Lexicographic.{pointwise, pointwise_decides}
 use Rattle.std.proofs.lemmas.Bool.{and_from, or_cases}
@@ -12,36 +11,32 @@ use Rattle.std.proofs.lemmas.Grind.{common_steps}
 use Rattle.std.proofs.lemmas.List.{map-append}
 use Rattle.std.proofs.lemmas.List.Elements.{All-head, All-push, All-tail}
 use Rattle.std.proofs.lemmas.Slice.Eq.{bytes_eq-Decides}
-use Rattle.draughts_board.specs.Board.{Board, IsLawful, start_board}
+use Rattle.draughts_board.specs.Board.{Board}
 use Rattle.draughts_board.specs.Geometry.{IsSquare}
 use Rattle.fen_text.specs.Laws.{is_printed_byte}
 use Rattle.fen_text.specs.Printed.{fen_of}
-use Rattle.fen_text.specs.Spelled.{Spells}
 use Rattle.fen_text.proofs.RoundTrip.{printed_spells}
-use Rattle.pdn_openings.specs.Beginning.{BeginsFrom, first_value, is_english, is_other, is_other_game}
+use Rattle.pdn_openings.specs.Beginning.{first_value, is_english, is_other}
 use Rattle.pdn_text.specs.Bytes.{is_line_end, is_name_byte}
 use Rattle.pdn_text.specs.Forms.{form_of}
-use Rattle.pdn_text.specs.Games.{signs_of}
 use Rattle.pdn_text.specs.Grammar.{IsItemOfText}
-use Rattle.pdn_text.specs.Pdn.{AreItemsOfText, beginning, signs}
+use Rattle.pdn_text.specs.Pdn.{AreItemsOfText, beginning}
 use Rattle.pdn_text.specs.Tags.{IsName}
 use Rattle.pdn_text.specs.Words.{word_of}
-use Rattle.pdn_text.specs.declared.game.Game.{Game}
 use Rattle.pdn_text.specs.declared.game.MoveText.{MoveText}
 use Rattle.pdn_text.specs.declared.game.Tag.{Tag}
 use Rattle.pdn_text.specs.declared.items.Item.{Item}
 use Rattle.pdn_text.specs.declared.items.Sign.{Sign}
 use Rattle.pdn_text.specs.declared.items.Sign.TheVariants.{Tagged, Moved, Ended}
-use Rattle.strict_games.specs.Drafts.{AreTagsOf, Drafted, IsReadAs, IsTextOf, begins, squares_of}
+use Rattle.strict_games.specs.Drafts.{Drafted, IsReadAs, IsTextOf, begins, squares_of}
 use Rattle.strict_games.specs.Drafting.{IsDraft}
 use Rattle.strict_games.specs.GameTexts.{IsGameText}
-use Rattle.strict_games.specs.Pages.{AreTagsBefore, IsClosed, IsOpen, IsPrinted, PageSays, Says, SaysTo, is_gap, signs_so_far}
+use Rattle.strict_games.specs.Pages.{AreTagsBefore, IsClosed, IsOpen, IsPrinted, PageSays, Says, SaysTo, signs_so_far}
 use Rattle.strict_games.specs.Spelling.{move_text, number_text, score_text, tag_text}
 use Rattle.strict_games.specs.Tags.{AreTaken, IsTaken, cleaned, is_name, tag_fault}
 use Rattle.strict_games.specs.declared.printing.Page.{Page}
 use Rattle.strict_games.specs.declared.printing.Score.{Score}
 use Rattle.strict_games.specs.declared.printing.Score.TheVariants.{OneNil, NilOne, Halves, TwoNil, NilTwo, OneAll, NilAll, Unknown}
-use Rattle.strict_games.specs.declared.tags.TagRefusal.{TagRefusal}
 use Rattle.strict_games.specs.declared.tags.TagRefusal.TheVariants.{Name, SetUp, OtherGame}
 use Rattle.strict_games.proofs.Leading.{is_text_of}
 use Rattle.strict_games.proofs.Pages.{closes, move_says, number_says, opens, result_says, star_says, tag_says}

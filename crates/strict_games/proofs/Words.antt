@@ -1,11 +1,11 @@
 -- What the words that are printed are read as.
-use Rattle.std.proofs.Common.{◌≡◌, ◌≢◌, ◌∙◌, ◌⊎◌, ℕ, zero, suc, ◌+◌, ◌-◌, ◌*◌, ◌/◌, ◌%◌, ◌^◌, ◌<◌, ◌≤◌, ◌==◌, Bool, false, true, cond, ltb, not, ◌&&◌, ◌||◌, List, [], ◌∷◌, ◌++◌, length, take, drop, map, get_or, Option, Some, None, refl, sym, ap, subst, arith, append-nil, append_assoc, length-append, inl, inr, decimal}
+use Rattle.std.proofs.Common.{◌≡◌, ◌≢◌, ◌∙◌, ℕ, ◌+◌, ◌/◌, ◌%◌, ◌^◌, ◌<◌, ◌≤◌, ◌==◌, Bool, false, true, cond, ltb, not, ◌&&◌, ◌||◌, List, [], ◌∷◌, ◌++◌, length, take, drop, map, Option, Some, None, refl, sym, ap, subst, arith, append-nil, inl, inr, decimal}
 use Rattle.std.specs.Prelude.{codes, slice_index, All}
 use Rattle.std.specs.Char.{is_ascii_digit}
-use Rattle.std.specs.List.{flat_map, list_all, position_or_len}
+use Rattle.std.specs.List.{list_all, position_or_len}
 use Rattle.std.specs.Str.{bytes_eq}
 use Rattle.std.proofs.Math.Seq.{take-append_seam}
-use Rattle.std.proofs.lemmas.Bool.{and_from, cases_Bool, cases_lt, cond-true, cond-false, eqb-true, le-leb, le-ltb, lt-ltb, or_cases}
+use Rattle.std.proofs.lemmas.Bool.{and_from, cases_Bool, cases_lt, cond-true, cond-false, le-leb, le-ltb, lt-ltb, or_cases}
 use Rattle.std.proofs.lemmas.Grind.{common_steps}
 use Rattle.std.proofs.lemmas.Fmt.{decimal_nonempty, digits_decimal}
 use Rattle.std.proofs.lemmas.List.{take_all}
@@ -21,7 +21,7 @@ use Rattle.pdn_text.specs.Grammar.{digits_len}
 use Rattle.pdn_text.specs.Words.{fields, is_crossed, is_dashed, is_number, is_result, move_of, move_or_bad, number, path_of, separated, word_of}
 use Rattle.pdn_text.proofs.FirstPlaces.{behind_run, run_len}
 use Rattle.pdn_text.proofs.WordFields.{fields_at, later, path_found}
-use Rattle.strict_games.specs.Spelling.{move_text, separator_of, square_text, squares_text}
+use Rattle.strict_games.specs.Spelling.{move_text, square_text, squares_text}
 
 -- ---- squares
 

@@ -1,4 +1,4 @@
-use Rattle.std.proofs.Common.{◌≡◌, length, not, reverse, rules}
+use Rattle.std.proofs.Common.{◌≡◌, length, reverse, rules}
 use Rattle.archive_words.specs.Tags.{is_ink}
 use Rattle.std.specs.List.{position}
 use Rattle.std.proofs.lemmas.List.{length-reverse}

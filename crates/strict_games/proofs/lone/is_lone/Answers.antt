@@ -1,5 +1,4 @@
 use Rattle.std.proofs.Common.{◌≡◌, true, rules}
-use Rattle.std.specs.Bool.{OnTrue}
 use Rattle.strict_games.proofs.LonePaths.{lone_if, so}
 use Rattle.strict_games.specs.Playing.{IsDirect}
 use Rattle.strict_games.proofs.lone.is_lone.Goals as goal

@@ -1,7 +1,7 @@
 use Rattle.std.proofs.Common.{◌≡◌, ◌∷◌, ◌++◌, [], None, cond, rules}
 use Rattle.std.specs.Prelude.{is_ok}
 use Rattle.strict_games.proofs.Printed.{tag_taken, taken_pushed}
-use Rattle.strict_games.specs.Tags.{IsTaken, cleaned, tag_fault}
+use Rattle.strict_games.specs.Tags.{cleaned, tag_fault}
 use Rattle.strict_games.proofs.draft.Draft.tag.Goals as goal
 
 pub invariant_of-self : goal.invariant_of-self

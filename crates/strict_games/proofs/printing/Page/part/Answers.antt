@@ -1,4 +1,4 @@
-use Rattle.std.proofs.Common.{◌≡◌, length, arith, rules}
+use Rattle.std.proofs.Common.{◌≡◌, length, arith}
 use Rattle.std.proofs.lemmas.Grind.{common_steps}
 use Rattle.strict_games.proofs.Printed.{page_begun}
 use Rattle.strict_games.proofs.printing.Page.part.Goals as goal

@@ -1,4 +1,4 @@
-use Rattle.std.proofs.Common.{◌≡◌, ◌≤◌, arith, length, subst, sym, take}
+use Rattle.std.proofs.Common.{◌≤◌, arith, length, subst, sym, take}
 use Rattle.std.proofs.lemmas.List.{take_all}
 use Rattle.pdn_openings.proofs.Steps.{take-one_more}
 use Rattle.strict_games.specs.Pages.{PageSays}
