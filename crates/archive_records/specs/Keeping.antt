@@ -1,5 +1,5 @@
 -- What is kept of the open game, call by call.
-use Rattle.std.specs.Prelude.{◌≡◌, ℕ, Bool, true, false, ◌||◌, ◌&&◌, not, nat_le, List, [], ◌∷◌, ◌++◌, length, Some, if◌then◌else◌}
+use Rattle.std.specs.Prelude.{◌≡◌, Bool, true, false, ◌||◌, ◌&&◌, not, nat_le, List, [], ◌∷◌, ◌++◌, length, Some, if◌then◌else◌}
 use Rattle.archive_text.specs.declared.places.Place.{Place}
 use Rattle.archive_records.specs.Weights.{weight_of}
 use Rattle.archive_records.specs.declared.game.ArchiveGame.{ArchiveGame}
@@ -64,7 +64,7 @@ pub record IsMoved (move : ArchiveMove) (old new : Kept) : Type 0 where
 
 -- the position is this one; all else of the game is as it was
 pub record IsPlaced (position : FoundPosition) (old new : Kept) : Type 0 where
-  pub position : new.draft.position ≡ Some position
+  pub placed : new.draft.position ≡ Some position
   pub game : record new.draft { position = old.draft.position } ≡ old.draft
   pub still_open : new.is_open ≡ old.is_open
   pub beside : IsBeside old new
@@ -76,7 +76,7 @@ pub record IsTaken (game : ArchiveGame) (old new : Kept) : Type 0 where
 
 -- the notes are taken; all else of the game is as it was
 pub record AreTaken (notes : List Note) (old new : Kept) : Type 0 where
-  pub notes : notes ≡ old.draft.notes.items
+  pub taken : notes ≡ old.draft.notes.items
   pub none : new.draft.notes.items ≡ []
   pub game : record new.draft { notes = old.draft.notes } ≡ old.draft
   pub still_open : new.is_open ≡ old.is_open
