@@ -118,53 +118,43 @@ pub(crate) fn say_text_fault(
     }
 }
 
+/// The part and the entry that a refusal names of a certificate, which was read; none where it names none.
+fn entry_of(refusal: &Refusal) -> Option<(usize, usize)> {
+    match refusal {
+        Refusal::BadRank { part, entry } => Some((*part, *entry)),
+        Refusal::BadMove { part, entry } => Some((*part, *entry)),
+        Refusal::Missing { part, entry } => Some((*part, *entry)),
+        Refusal::StuckHolder { part, entry } => Some((*part, *entry)),
+        Refusal::CheckNoRoot(part) => Some((*part, 0)),
+        _ => None,
+    }
+}
+
+/// Why a certificate, which was read, is not good.
+fn why_not_good(refusal: &Refusal) -> &'static str {
+    match refusal {
+        Refusal::BadRank { .. } =>
+            "A position behind this entry has a rank that is not below its own.\n",
+        Refusal::BadMove { .. } =>
+            "This entry does not choose a legal move where one is due, or chooses one where none is.\n",
+        Refusal::Missing { .. } =>
+            "A position that a move of this entry leads to has no entry in this part, and the table does not settle it.\n",
+        Refusal::StuckHolder { .. } =>
+            "The side that is to hold has no move here, and so has lost.\n",
+        Refusal::CheckNoRoot(_) => "This part has no entry of the certificate's own position.\n",
+        _ =>
+            "A claim that a side wins or holds needs one part, of that side; a draw needs a hold part of black and one of white.\n",
+    }
+}
+
 /// Appends why a certificate, which was read, is not good.
 pub(crate) fn say_check_fault(
     text: &mut Vec<u8>,
     refusal: &Refusal,
     source: &[u8],
 ) -> Result<(), AllocError> {
-    match refusal {
-        Refusal::BadRank { part, entry } => {
-            say_entry(text, source, *part, *entry)?;
-            say(
-                text,
-                "A position behind this entry has a rank that is not below its own.\n",
-            )
-        }
-        Refusal::BadMove { part, entry } => {
-            say_entry(text, source, *part, *entry)?;
-            say(
-                text,
-                "This entry does not choose a legal move where one is due, or chooses one where none is.\n",
-            )
-        }
-        Refusal::Missing { part, entry } => {
-            say_entry(text, source, *part, *entry)?;
-            say(
-                text,
-                "A position that a move of this entry leads to has no entry in this part, and the \
-                    table does not settle it.\n",
-            )
-        }
-        Refusal::StuckHolder { part, entry } => {
-            say_entry(text, source, *part, *entry)?;
-            say(
-                text,
-                "The side that is to hold has no move here, and so has lost.\n",
-            )
-        }
-        Refusal::CheckNoRoot(part) => {
-            say_entry(text, source, *part, 0)?;
-            say(
-                text,
-                "This part has no entry of the certificate's own position.\n",
-            )
-        }
-        _ => say(
-            text,
-            "A claim that a side wins or holds needs one part, of that side; a draw needs a hold \
-                part of black and one of white.\n",
-        ),
+    if let Some((part, entry)) = entry_of(refusal) {
+        say_entry(text, source, part, entry)?;
     }
+    say(text, why_not_good(refusal))
 }

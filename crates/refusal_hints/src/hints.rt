@@ -7,7 +7,7 @@ ghost use Rattle.terminal_text.specs.Shown.{IsShown, shown};
 
 use crate::certificates::{say_check_fault, say_text_fault};
 use crate::games::{games_of, say_fen, say_move_fault, say_other_game};
-use crate::journals::{say_journal, say_limit};
+use crate::journals::{say_journal, say_limit, say_root};
 use crate::pdn::say_pdn;
 use crate::tables::say_table;
 use crate::words::say_words;
@@ -106,6 +106,9 @@ fn explained(
             say_table(&mut text, refusal),
         Refusal::Disk | Refusal::NotAJournal | Refusal::OtherTable { .. } | Refusal::Damaged(_) =>
             say_journal(&mut text, refusal),
+        Refusal::NoRoot(_) | Refusal::UnsettledRoot(_) | Refusal::RootExpanded(_) => say_root(
+            &mut text, refusal,
+        ),
         _ => say_limit(&mut text, refusal),
     }?;
     Ok(text)

@@ -44,6 +44,32 @@ pub(crate) fn say_journal(text: &mut Vec<u8>, refusal: &Refusal) -> Result<(), A
     }
 }
 
+/// Appends what can be done where a root is not there, has no value, or was searched below.
+pub(crate) fn say_root(text: &mut Vec<u8>, refusal: &Refusal) -> Result<(), AllocError> {
+    match refusal {
+        Refusal::NoRoot(n) => say_number(
+            text,
+            "The journal has no root ",
+            u64::from(*n),
+            ". `report` lists its roots with their numbers.\n",
+        ),
+        Refusal::UnsettledRoot(n) => say_number(
+            text,
+            "Root ",
+            u64::from(*n),
+            " has no value yet. Go on with `solve`, with a larger `--budget` or `--depth`.\n",
+        ),
+        Refusal::RootExpanded(n) => say_number(
+            text,
+            "The search has gone on below root ",
+            u64::from(*n),
+            ", and a certificate of the root itself would not be used there. Go on with `solve`, \
+                or learn the certificate in a new journal.\n",
+        ),
+        _ => Ok(()),
+    }
+}
+
 /// Appends what can be done where a limit is met.
 pub(crate) fn say_limit(text: &mut Vec<u8>, refusal: &Refusal) -> Result<(), AllocError> {
     match refusal {
@@ -64,31 +90,6 @@ pub(crate) fn say_limit(text: &mut Vec<u8>, refusal: &Refusal) -> Result<(), All
             "A journal has at most 65536 roots, and nothing was added to this one. Begin another \
                 journal, or ask for fewer plies by `--plies`.\n",
         ),
-        Refusal::NoRoot(n) => {
-            say_number(
-                text,
-                "The journal has no root ",
-                u64::from(*n),
-                ". `report` lists its roots with their numbers.\n",
-            )
-        }
-        Refusal::UnsettledRoot(n) => {
-            say_number(
-                text,
-                "Root ",
-                u64::from(*n),
-                " has no value yet. Go on with `solve`, with a larger `--budget` or `--depth`.\n",
-            )
-        }
-        Refusal::RootExpanded(n) => {
-            say_number(
-                text,
-                "The search has gone on below root ",
-                u64::from(*n),
-                ", and a certificate of the root itself would not be used there. Go on with `solve`, \
-                    or learn the certificate in a new journal.\n",
-            )
-        }
         Refusal::Memory => say(
             text,
             "Memory ran out. What was written to the journal before is kept.\n",

@@ -28,70 +28,53 @@ fn say_few(text: &mut Vec<u8>, asked: usize, game: usize, plies: usize) -> Resul
     )
 }
 
+/// How the source is read where a warning stands, and what may be written instead; empty where that says which game it is.
+fn cause_text(cause: Cause) -> &'static str {
+    match cause {
+        Cause::LikeFen =>
+            "This tag is not looked at: names of tags are compared letter for letter. The game begins from its tag `FEN`, or \
+                else from the start. Write [FEN \"..\"].\n",
+        Cause::LikeGameType =>
+            "This tag is not looked at: names of tags are compared letter for letter. The game is taken as English draughts. \
+                Write [GameType \"21\"], or take games of another kind out.\n",
+        Cause::OtherGameType =>
+            "This value names another side, board or notation than English draughts has: 21,B,8,8. The game is taken as \
+                English draughts all the same, and Black begins on squares 1 to 12.\n",
+        Cause::SecondFen =>
+            "This position is not looked at: its game has one already, and the first counts. Write a result, as `*`, behind \
+                each position that is to be a game of its own.\n",
+        Cause::SecondTag =>
+            "Its game has a tag of this name already: what stands between is read as one game. Where two games are meant, \
+                write a result, as `*`, behind the first.\n",
+        Cause::LacksFen =>
+            "The game that begins here has a tag `SetUp` and no tag `FEN`: it is played from the start. Write its position, \
+                as [FEN \"B:W21:B5\"], or leave `SetUp` out.\n",
+        Cause::SecondResult =>
+            "This result stands straight behind another and is read as a game of its own, without moves, from the start. \
+                Leave one of the two out.\n",
+        Cause::StarMove =>
+            "The star is read as the end of the game before it, and this move as the first of a new game, from the start. \
+                Where the star only praises the move, leave it out, or write `!` behind the move.\n",
+        Cause::FirstNumber =>
+            "The first number of this game is not 1, though the game is played from the start: does a tag `FEN` or a part of \
+                the game lack?\n",
+        Cause::LesserNumber =>
+            "The numbers of moves fall back here, and the moves are read as those of one game. Where another game begins \
+                here, write a result, as `*`, behind the one before.\n",
+        Cause::RunsOn =>
+            "This comment goes on behind its line, which ends with a carriage return (byte 13) alone: what stands up to the \
+                next line feed (byte 10) is not read. End lines with a line feed, or write the comment in braces: {so}.\n",
+        Cause::NoGame =>
+            "No game stands here, so no position is added. A lone `*` is a game that has not begun.\n",
+        Cause::FewPlies { .. } => "",
+    }
+}
+
 /// Appends how the source is read, and what may be written instead.
 fn say_cause(text: &mut Vec<u8>, asked: usize, cause: Cause) -> Result<(), AllocError> {
     match cause {
-        Cause::LikeFen => say(
-            text,
-            "This tag is not looked at: names of tags are compared letter for letter. The game begins \
-                from its tag `FEN`, or else from the start. Write [FEN \"..\"].\n",
-        ),
-        Cause::LikeGameType => say(
-            text,
-            "This tag is not looked at: names of tags are compared letter for letter. The game is taken \
-                as English draughts. Write [GameType \"21\"], or take games of another kind out.\n",
-        ),
-        Cause::OtherGameType => say(
-            text,
-            "This value names another side, board or notation than English draughts has: 21,B,8,8. The game \
-                is taken as English draughts all the same, and Black begins on squares 1 to 12.\n",
-        ),
-        Cause::SecondFen => say(
-            text,
-            "This position is not looked at: its game has one already, and the first counts. Write a \
-                result, as `*`, behind each position that is to be a game of its own.\n",
-        ),
-        Cause::SecondTag => say(
-            text,
-            "Its game has a tag of this name already: what stands between is read as one game. Where two \
-                games are meant, write a result, as `*`, behind the first.\n",
-        ),
-        Cause::LacksFen => say(
-            text,
-            "The game that begins here has a tag `SetUp` and no tag `FEN`: it is played from the start. Write \
-                its position, as [FEN \"B:W21:B5\"], or leave `SetUp` out.\n",
-        ),
-        Cause::SecondResult => say(
-            text,
-            "This result stands straight behind another and is read as a game of its own, without moves, \
-                from the start. Leave one of the two out.\n",
-        ),
-        Cause::StarMove => say(
-            text,
-            "The star is read as the end of the game before it, and this move as the first of a new game, from \
-                the start. Where the star only praises the move, leave it out, or write `!` behind the move.\n",
-        ),
-        Cause::FirstNumber => say(
-            text,
-            "The first number of this game is not 1, though the game is played from the start: does a tag `FEN` \
-                or a part of the game lack?\n",
-        ),
-        Cause::LesserNumber => say(
-            text,
-            "The numbers of moves fall back here, and the moves are read as those of one game. Where another \
-                game begins here, write a result, as `*`, behind the one before.\n",
-        ),
-        Cause::RunsOn => say(
-            text,
-            "This comment goes on behind its line, which ends with a carriage return (byte 13) alone: what \
-                stands up to the next line feed (byte 10) is not read. End lines with a line feed, or \
-                write the comment in braces: {so}.\n",
-        ),
         Cause::FewPlies { game, plies } => say_few(text, asked, game, plies),
-        Cause::NoGame => say(
-            text,
-            "No game stands here, so no position is added. A lone `*` is a game that has not begun.\n",
-        ),
+        _ => say(text, cause_text(cause)),
     }
 }
 
