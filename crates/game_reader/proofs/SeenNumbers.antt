@@ -2,12 +2,13 @@
 use Rattle.std.proofs.Common.{◌≡◌, ◌∙◌, ◌∷◌, [], List, ℕ, Option, None, Some, ap, cond, map, refl, sym}
 use Rattle.std.specs.BTreeMap.{insert_entry, is_at}
 use Rattle.std.specs.Map.{lookup}
-use Rattle.std.specs.Ordering.{Ordering, is_eq, match_ordering}
+use Rattle.std.specs.Ordering.{is_eq, match_ordering}
+use Rattle.std.specs.declared.cmp.Ordering.{Ordering}
 use Rattle.std.specs.declared.cmp.Ordering.TheVariants.{Less, Equal, Greater}
 use Rattle.game_reader.specs.Seen.{IsPutIn}
 
 module _ {K : Type 0} (cmp : K → K → Ordering) (key : K) (number : ℕ) where
-  second : K × ℕ → ℕ
+  abbrev second : K × ℕ → ℕ
   second entry = entry.1
 
   -- a key that the map has not yet

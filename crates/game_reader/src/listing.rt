@@ -28,7 +28,6 @@ fn say_told(
 
 /// The lines of the game's notes of this weight or more, in the order of their places; each note is
 /// counted. Which game it is is made out once, and not among all its tags for each note.
-#[tactic(auto, using(crate::proofs::Told::says_one))]
 pub(crate) fn lines_of(
     alloc: Global,
     game: &mut ArchiveGame,

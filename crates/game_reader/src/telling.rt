@@ -1,5 +1,5 @@
 //! What is told of an archive, a line for each note.
-ghost use Rattle.std.specs.Prelude.{◌≡◌, ◌++◌, ℕ, List, IfOk, OnOk, option_copied, take};
+ghost use Rattle.std.specs.Prelude.{◌≡◌, ◌≤◌, ◌++◌, ℕ, List, IfOk, OnOk, length, option_copied, take};
 ghost use Rattle.archive_records.specs.Weights.{weight_of};
 ghost use Rattle.game_reader.specs.Telling.{IsNoteLine, counts_text, game_text, note_front, parts_text, tag_named, value_text, word_of};
 
@@ -10,11 +10,12 @@ use terminal_text::{quote, say, say_number};
 /// How many bytes of a tag's value are told.
 const MOST_SHOWN: usize = 64;
 
-/// The first bytes of a value: as many as are told.
-fn shown(value: &[u8]) -> &[u8]
-    ensures { result.now ≡ take MOST_SHOWN value.now }
+/// The first bytes, at most `most`.
+fn first_bytes(value: &[u8], most: usize) -> &[u8]
+    ensures value { result.now ≡ take most value.now }
+    ensures inside { length result.now ≤ length value.now }
 {
-    value.get(..MOST_SHOWN).unwrap_or(value)
+    value.get(..most).unwrap_or(value)
 }
 
 /// The first tag of this name, if the game has one.
@@ -30,7 +31,7 @@ fn say_value(text: &mut Vec<u8>, game: &ArchiveGame, name: &[u8]) -> Result<(), 
     ensures { OnOk result (text.new.items ≡ text.old.items ++ value_text game.now name.now) }
 {
     match tag_named(game, name) {
-        Some(tag) => quote(text, shown(&tag.value)),
+        Some(tag) => quote(text, first_bytes(&tag.value, MOST_SHOWN)),
         None => quote(text, b"?"),
     }
 }
