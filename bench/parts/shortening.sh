@@ -1,18 +1,18 @@
 #!/usr/bin/env bash
 # `journal_shorten shorten` beside `report`, on three journals on files in the folder for temporary files: a million records of work
-# on the 26 named openings; as many on one root; and one record each on 61,440 roots of six pieces. Of each the least processor time of
-# three runs, the highest memory, and the bytes of both journals.
+# on the 26 named openings; as many on one root; and one record each on 61,440 roots of six pieces. Of each the least and the middle
+# processor time of five runs by turns, the highest memory, and the bytes of both journals.
 set -euo pipefail
 for program in opening_bench journal_shorten; do bin/$program --version >/dev/null; done
 folder=$(mktemp -d)
 trap 'rm -r "$folder"' EXIT
 python3 - crates "$folder" "${RECORDS:-1000000}" "${FILES:-15}" <<'PYTHON'
-import os, pathlib, random, subprocess, sys
+import os, pathlib, random, statistics, subprocess, sys
 
 crates, folder = map(pathlib.Path, sys.argv[1:3])
 records, files = sys.argv[3:]
 BENCH, SHORTEN = (crates / name / "out" / name for name in ("opening_bench", "journal_shorten"))
-RUNS, ROOTS = 3, 4096
+RUNS, ROOTS = 5, 4096
 
 
 def run(*words, source=b"", due=(0, 1)):
@@ -36,11 +36,13 @@ def compare(name, old):
         new.unlink(missing_ok=True)
         figures["shorten"].append(run(SHORTEN, "shorten", old, new, due=(0,)))
     for what, each in figures.items():
-        print(f"{name}, {what}: {min(one[0] for one in each):.2f} s of processor time, {max(one[1] for one in each):.0f} MB")
-    time, memory = (min(one[0] for one in figures["shorten"]) / min(one[0] for one in figures["report"]),
+        seconds = [one[0] for one in each]
+        print(f"{name}, {what}: {min(seconds):.2f} s of processor time, {statistics.median(seconds):.2f} s in the middle, "
+              f"{max(one[1] for one in each):.0f} MB")
+    time, memory = (statistics.median(one[0] for one in figures["shorten"]) / statistics.median(one[0] for one in figures["report"]),
                     max(one[1] for one in figures["shorten"]) / max(one[1] for one in figures["report"]))
     print(f"{name}: {figures['shorten'][0][2]}, {old.stat().st_size} bytes to {new.stat().st_size}; "
-          f"{time:.2f} times the time of report, {memory:.2f} times its memory", flush=True)
+          f"by the middle {time:.2f} times the time of report, {memory:.2f} times its memory", flush=True)
     old.unlink()
 
 
