@@ -12,7 +12,7 @@
 //! `New` exactly where the new journal has a payload, and writes nothing. So whatever a crash left, the
 //! journal that it chooses has the roots of the old one (`laws`).
 //!
-//! Tests: compaction_tests/src/compactions.rt
+//! Tests: compaction_tests/src/compactions.rt, compaction_tests/src/crashes.rt
 #![tactic(auto)]
 
 mod choosing;
