@@ -3,6 +3,5 @@
 # about 2, 5 and 20 million bytes of text: ordinary entries, and how many times as long entries take whose positions are chosen
 # against the hash of an `IndexMap`, and against the windows of `position_rows`.
 set -euo pipefail
-program=crates/certificate_bench/out/certificate_bench
-[ -x "$program" ] || (cd crates/certificate_bench && rt run >/dev/null 2>&1)
+program=$(bench/program certificate_bench)
 "$program" chosen

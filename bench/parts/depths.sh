@@ -2,8 +2,7 @@
 # How the time of a search grows with `--depth`: the processor time of 26 records of work, one on each of the named openings,
 # less that of a run without any, which fills the table. The best of three runs.
 set -euo pipefail
-bin/opening_bench --version >/dev/null
-program=crates/opening_bench/out/opening_bench
+program=$(bench/program opening_bench)
 TIMEFORMAT=%U
 # user_time DEPTH BUDGET: the least of three
 user_time() {

@@ -4,10 +4,10 @@
 # median of five runs. The first root is settled by one search, and the others are random endgames of three pieces a side, so that the
 # first record of work is written as soon as its search has ended.
 set -euo pipefail
-bin/opening_bench --version >/dev/null
+program=$(bench/program opening_bench)
 folder=$(mktemp -d)
 trap 'rm -r "$folder"' EXIT
-python3 - crates/opening_bench/out/opening_bench "$folder" <<'PYTHON'
+python3 - "$program" "$folder" <<'PYTHON'
 import os, pathlib, random, statistics, subprocess, sys, time
 
 program, folder = sys.argv[1], pathlib.Path(sys.argv[2])

@@ -6,6 +6,5 @@
 # time, released before the next, so that no leaf is taken; with 64, each released when 63 more were given; and with 64 where all
 # are abandoned and run out. Then the last once more where 4,096 roots stand, and 65,536, of which only the last is unsettled.
 set -euo pipefail
-program=crates/core_trial/out/core_trial
-[ -x "$program" ] || (cd crates/core_trial && rt run >/dev/null 2>&1)
+program=$(bench/program core_trial)
 "$program" time

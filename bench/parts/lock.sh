@@ -5,8 +5,7 @@
 set -euo pipefail
 turns=${TURNS:-1000000}
 runs=${RUNS:-5}
-program=crates/turn_lock_bench/out/turn_lock_bench
-[ -x "$program" ] || (cd crates/turn_lock_bench && rt run >/dev/null 2>&1)
+program=$(bench/program turn_lock_bench)
 
 seconds() {
     local start end

@@ -3,13 +3,12 @@
 # random endgames of three pieces against two, of three a side and of four against three alone, of which the greatest counts. Before
 # them the same without a search, which is what filling the table takes.
 set -euo pipefail
-bin/opening_bench --version >/dev/null
-program=crates/search_bench/out/search_bench
-[ -x "$program" ] || (cd crates/search_bench && rt run >/dev/null 2>&1)
+bench=$(bench/program opening_bench)
+program=$(bench/program search_bench)
 positions=$(mktemp)
 trap 'rm "$positions"' EXIT
-(cd crates/search_bench/data && ../out/search_bench drawn) >"$positions"
-python3 - crates/opening_bench/out/opening_bench "$positions" <<'PYTHON'
+(cd crates/search_bench/data && "$program" drawn) >"$positions"
+python3 - "$bench" "$positions" <<'PYTHON'
 import os, pathlib, subprocess, sys, tempfile
 
 program, positions = sys.argv[1], pathlib.Path(sys.argv[2]).read_text().split()

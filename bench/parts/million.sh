@@ -2,10 +2,10 @@
 # A journal of 1,000,000 records of work on the named openings, each the search of one position alone, on a file in the folder
 # for temporary files: how long the run takes by the clock, and how much memory it has at the highest; then the same of `report`.
 set -euo pipefail
-bin/opening_bench --version >/dev/null
+program=$(bench/program opening_bench)
 folder=$(mktemp -d)
 trap 'rm -r "$folder"' EXIT
-python3 - crates/opening_bench/out/opening_bench "$folder/bench.journal" <<'PYTHON'
+python3 - "$program" "$folder/bench.journal" <<'PYTHON'
 import os, subprocess, sys, time
 
 program, journal = sys.argv[1:]

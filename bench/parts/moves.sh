@@ -6,8 +6,7 @@
 set -euo pipefail
 moves=${MOVES:-9}
 runs=${RUNS:-5}
-program=crates/move_count_bench/out/move_count_bench
-[ -x "$program" ] || (cd crates/move_count_bench && rt run >/dev/null 2>&1)
+program=$(bench/program move_count_bench)
 
 TIMEFORMAT=%U
 declare -A fastest=([plain]=1000000 [swift]=1000000)

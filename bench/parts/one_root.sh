@@ -7,8 +7,8 @@
 # in the folder for temporary files: the median of five runs with each number of workers, by turns. The start of the program, which
 # fills a table, is in that time. A word `records` or `time` asks for one of the two alone.
 set -euo pipefail
-bin/opening_bench --version >/dev/null
-python3 - crates/opening_bench/out/opening_bench crates/search_bench/data "${1:-}" <<'PYTHON'
+program=$(bench/program opening_bench)
+python3 - "$program" crates/search_bench/data "${1:-}" <<'PYTHON'
 import pathlib, statistics, subprocess, sys, tempfile, time
 
 program, data, word = sys.argv[1], pathlib.Path(sys.argv[2]), sys.argv[3]

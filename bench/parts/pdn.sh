@@ -1,9 +1,8 @@
 #!/bin/sh
 # Speed of reading PDN: makes a file of a little more than 16 MiB of the example games, and reads it and copies the
-# same bytes. Run at the top of the repository once `rt run` in crates/pdn_bench has built the program; its path may be
-# given as $1. A text may have 4,096 games, so the file is read as 8 texts of one length, each 99 copies of a block.
+# same bytes. A text may have 4,096 games, so the file is read as 8 texts of one length, each 99 copies of a block.
 set -e
-program=${1:-crates/pdn_bench/out/pdn_bench}
+program=$(bench/program pdn_bench)
 work=$(mktemp -d)
 trap 'rm -rf "$work"' EXIT
 # A block: the three files of examples, 21 games, without the byte order mark, which stands only at a text's front.

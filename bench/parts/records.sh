@@ -6,10 +6,8 @@
 # and every thirteenth or so of the second. Each is written again with the records of version 1 and of version 2, and of each
 # `report` and the attaching by a `solve` without a budget are run three times: the least processor time, and the highest memory.
 set -euo pipefail
-bin/opening_bench --version >/dev/null
-bench=crates/opening_bench/out/opening_bench
-program=crates/throughput_bench/out/throughput_bench
-[ -x "$program" ] || (cd crates/throughput_bench && rt run >/dev/null 2>&1)
+bench=$(bench/program opening_bench)
+program=$(bench/program throughput_bench)
 "$program" names
 python3 - "$program" <<'PYTHON'
 import os, subprocess, sys

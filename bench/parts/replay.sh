@@ -2,8 +2,7 @@
 # Records of a journal that `report` replays a second: a journal of 10,000 records of work from the named openings, the best of
 # five runs, start and end of the process among them.
 set -euo pipefail
-bin/opening_bench --version >/dev/null
-program=crates/opening_bench/out/opening_bench
+program=$(bench/program opening_bench)
 folder=$(mktemp -d)
 trap 'rm -r "$folder"' EXIT
 journal=$folder/replay.journal

@@ -4,7 +4,6 @@
 # leaf. The percentage says how many nodes a memory of one position takes, where that of 65,536 takes 100. Behind them how many
 # positions a second are worked out slice by slice, and how long closed sets are looked for, by processor time.
 set -euo pipefail
-program=crates/search_bench/out/search_bench
-[ -x "$program" ] || (cd crates/search_bench && rt run >/dev/null 2>&1)
+program=$(bench/program search_bench)
 cd crates/search_bench/data
-../out/search_bench time
+"$program" time

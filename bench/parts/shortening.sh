@@ -3,15 +3,15 @@
 # on the 26 named openings; as many on one root; and one record each on 61,440 roots of six pieces. Of each the least and the middle
 # processor time of five runs by turns, the highest memory, and the bytes of both journals.
 set -euo pipefail
-for program in opening_bench journal_shorten; do bin/$program --version >/dev/null; done
+bench=$(bench/program opening_bench)
+shorten=$(bench/program journal_shorten)
 folder=$(mktemp -d)
 trap 'rm -r "$folder"' EXIT
-python3 - crates "$folder" "${RECORDS:-1000000}" "${FILES:-15}" <<'PYTHON'
+python3 - "$bench" "$shorten" "$folder" "${RECORDS:-1000000}" "${FILES:-15}" <<'PYTHON'
 import os, pathlib, random, statistics, subprocess, sys
 
-crates, folder = map(pathlib.Path, sys.argv[1:3])
-records, files = sys.argv[3:]
-BENCH, SHORTEN = (crates / name / "out" / name for name in ("opening_bench", "journal_shorten"))
+BENCH, SHORTEN, folder = map(pathlib.Path, sys.argv[1:4])
+records, files = sys.argv[4:]
 RUNS, ROOTS = 5, 4096
 
 

@@ -4,6 +4,5 @@
 # their mobility too, the second the calls of the tree alone; the percentages compare with the smallest tree. Then the mean time
 # of 10,000 picks among 256, 4,096 and 65,536 roots, of which all but the first and the last are settled, and the first is taken.
 set -euo pipefail
-program=crates/tree_bench/out/tree_bench
-[ -x "$program" ] || (cd crates/tree_bench && rt run >/dev/null 2>&1)
+program=$(bench/program tree_bench)
 "$program" time

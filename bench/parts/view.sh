@@ -3,15 +3,15 @@
 # openings, and on one root. Each command takes a turn in each of five rounds. Of each the least and the middle processor time and
 # the highest memory, and both as many times those of `report`; and by how much its middle time is more than that of `report`.
 set -euo pipefail
-for program in opening_bench journal_view; do bin/$program --version >/dev/null; done
+bench=$(bench/program opening_bench)
+view=$(bench/program journal_view)
 folder=$(mktemp -d)
 trap 'rm -r "$folder"' EXIT
-python3 - crates "$folder" "${RECORDS:-1000000}" <<'PYTHON'
+python3 - "$bench" "$view" "$folder" "${RECORDS:-1000000}" <<'PYTHON'
 import os, pathlib, statistics, subprocess, sys
 
-crates, folder = map(pathlib.Path, sys.argv[1:3])
-records = sys.argv[3]
-BENCH, VIEW = (crates / name / "out" / name for name in ("opening_bench", "journal_view"))
+BENCH, VIEW, folder = map(pathlib.Path, sys.argv[1:4])
+records = sys.argv[4]
 ROUNDS = 5
 SHOWN = ("roots", "roots --json", "tree 1", "page", "page 1", "records", "records --json")
 

@@ -10,14 +10,12 @@
 # four, and by four programs of one worker each that run beside each other, which share nothing. What those four make of the
 # processors is the most that four workers can.
 set -euo pipefail
-program=crates/throughput_bench/out/throughput_bench
-[ -x "$program" ] || (cd crates/throughput_bench && rt run >/dev/null 2>&1)
+program=$(bench/program throughput_bench)
 folder=$(mktemp -d)
 trap 'rm -r "$folder"' EXIT
 "$program" time "$folder/bench.journal"
 
-bin/opening_bench --version >/dev/null
-solver=crates/opening_bench/out/opening_bench
+solver=$(bench/program opening_bench)
 # solve WORKERS: status 1 says that some roots are unsolved
 solve() {
     "$solver" - solve --workers "$1" --depth 8 --budget 2000 <examples/openings.pdn >/dev/null || [ $? = 1 ]

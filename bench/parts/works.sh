@@ -11,11 +11,9 @@
 # - verify: the certificate of 100,000 entries that certificate_bench makes
 # - openings: 26 records of work at depth 8 on the named openings
 set -euo pipefail
-bin/opening_bench --version >/dev/null
-bench=crates/opening_bench/out/opening_bench
-for crate in move_count_bench certificate_bench; do
-    [ -x "crates/$crate/out/$crate" ] || (cd "crates/$crate" && rt run >/dev/null 2>&1)
-done
+bench=$(bench/program opening_bench)
+moves=$(bench/program move_count_bench)
+certificates=$(bench/program certificate_bench)
 folder=$(mktemp -d)
 trap 'rm -r "$folder"' EXIT
 for name in club_evening annotated_openings two_point_match; do
@@ -23,7 +21,7 @@ for name in club_evening annotated_openings two_point_match; do
     echo
 done >"$folder/block"
 for _ in $(seq 195); do cat "$folder/block"; done >"$folder/games.pdn"
-crates/certificate_bench/out/certificate_bench write >"$folder/certificate"
+"$certificates" write >"$folder/certificate"
 
 # run WORK [COMMAND..]: the work's command, behind those words; status 1 says that some roots are unsolved
 run() {
@@ -34,7 +32,7 @@ run() {
         report) "$@" "$bench" "$folder/journal" report ;;
         games) "$@" "$bench" - solve --depth 0 --budget 0 <"$folder/games.pdn" ;;
         table) "$@" "$bench" - table 3 ;;
-        lists) "$@" crates/move_count_bench/out/move_count_bench swift 8 ;;
+        lists) "$@" "$moves" swift 8 ;;
         verify) "$@" "$bench" - verify <"$folder/certificate" ;;
         openings) "$@" "$bench" - solve --depth 8 --budget 26 <examples/openings.pdn ;;
     esac >/dev/null || [ $? = 1 ]
