@@ -2,10 +2,8 @@
 # The processor time of `game_reader openings`, the least of three runs, on 20,000 and on 40,000 games whose positions are chosen
 # against the hash of an `IndexMap`. Twice the games take about twice the time.
 set -euo pipefail
-bin/game_reader --version >/dev/null
-reader=crates/game_reader/out/game_reader
-maker=crates/certificate_bench/out/certificate_bench
-[ -x "$maker" ] || (cd crates/certificate_bench && rt run >/dev/null 2>&1)
+reader=$(bench/program game_reader)
+maker=$(bench/program certificate_bench)
 folder=$(mktemp -d)
 trap 'rm -r "$folder"' EXIT
 "$maker" games >"$folder/40000"
