@@ -4,7 +4,7 @@ use crate::refusals::ShortenRefusal;
 use crate::words::{Task, read_words};
 use crate::{JournalDisk, paths_of};
 use bench_disk::Disk;
-use journal_shortening::{CompactRefusal, Sizes};
+use journal_shortening::{Chosen, CompactRefusal, Sizes};
 use program_edges::{Standards, tell};
 use refusal_hints::{failed_text, missing_text, other_run_text};
 use std::alloc::{AllocError, Global};
@@ -76,6 +76,32 @@ fn say_shorter(
     }
 }
 
+/// Appends which journal counts, how long both are, and what may be done now.
+fn say_chosen(
+    text: &mut Vec<u8>,
+    words: &[&str],
+    chosen: Chosen,
+    bytes: Option<(u64, u64)>,
+) -> Result<(), AllocError> {
+    if chosen == Chosen::Old {
+        return say(
+            text,
+            "The new journal has no record, so the old one counts. Remove the new one, if there is \
+                one, and shorten again.\n",
+        );
+    }
+    say(text, "The new journal is whole, so it counts.\n")?;
+    if let Some((before, after)) = bytes {
+        say_change(text, "Bytes: ", before, after)?;
+    }
+    let [old, new] = paths_of(words);
+    say(text, "To put it in the place of the old one, move ")?;
+    say_path(text, new)?;
+    say(text, " to ")?;
+    say_path(text, old)?;
+    say(text, ".\n")
+}
+
 /// The text for a person on what a run came to.
 fn answer_text(
     alloc: Global,
@@ -84,8 +110,9 @@ fn answer_text(
     bytes: Option<(u64, u64)>,
 ) -> Result<Vec<u8>, AllocError> {
     let mut text = Vec::new(alloc);
-    if let Answer::Shorter(sizes) = answer {
-        say_shorter(&mut text, words, sizes, bytes)?;
+    match answer {
+        Answer::Shorter(sizes) => say_shorter(&mut text, words, sizes, bytes)?,
+        Answer::Chosen(chosen) => say_chosen(&mut text, words, *chosen, bytes)?,
     }
     shown(alloc, &text)
 }
