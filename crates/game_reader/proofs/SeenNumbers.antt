@@ -19,7 +19,7 @@ module _ {K : Type 0} (cmp : K → K → Ordering) (key : K) (number : ℕ) wher
     was = refl;
     is = refl;
   }
-  put_in (entry ∷ entries) none = by (cmp key entry.0) refl
+  put_in (entry ∷ entries) none = by (cmp key entry.0) refl (put_in entries)
     where
       found : Ordering → Option ℕ
       found o = cond (is_eq o) (Some entry.1) (lookup (is_at (cmp key)) entries)
@@ -27,16 +27,18 @@ module _ {K : Type 0} (cmp : K → K → Ordering) (key : K) (number : ℕ) wher
       made : Ordering → List ℕ
       made o = map second (match_ordering o ((key, number) ∷ entry ∷ entries) ((entry.0, number) ∷ entries) (entry ∷ insert_entry cmp entries key number))
 
-      by : (o : Ordering) → cmp key entry.0 ≡ o → IsPutIn number (map second (entry ∷ entries)) (map second (insert_entry cmp (entry ∷ entries) key number))
-      by Less e = record {
+      by : (o : Ordering) → cmp key entry.0 ≡ o
+          → (lookup (is_at (cmp key)) entries ≡ None → IsPutIn number (map second entries) (map second (insert_entry cmp entries key number)))
+          → IsPutIn number (map second (entry ∷ entries)) (map second (insert_entry cmp (entry ∷ entries) key number))
+      by Less e more = record {
         before = [];
         behind = map second (entry ∷ entries);
         was = refl;
         is = ap made e;
       }
-      by Equal e = let both : Some entry.1 ≡ None = sym (ap found e) ∙ none in absurd (cc)
-      by Greater e =
-          let rest = put_in entries (sym (ap found e) ∙ none) in
+      by Equal e more = let both : Some entry.1 ≡ None = sym (ap found e) ∙ none in absurd (cc)
+      by Greater e more =
+          let rest = more (sym (ap found e) ∙ none) in
           record {
             before = entry.1 ∷ rest.before;
             behind = rest.behind;
