@@ -88,7 +88,7 @@ impl Choice {
 }
 
 /// The first `count` positions that are chosen so, each once.
-pub fn chosen_positions(
+fn chosen_positions(
     alloc: Global,
     choice: Choice,
     count: u32,

@@ -8,13 +8,11 @@
 //! it claims of which position, and how many entries the merged parts and the record have. It also
 //! reads entries whose positions are chosen against the hashes of tables. With the word `time` it
 //! prints how many entries a second are read, and how many are checked, with the word `chosen` how
-//! long chosen entries take beside ordinary ones, with the word `games` an archive of games whose
-//! positions are chosen so, and with the word `write` the certificate itself.
+//! long chosen entries take beside ordinary ones, and with the word `write` the certificate itself.
 #![tactic(auto)]
 
 ghost use Rattle.bench_records.specs.Texts.{IsShown};
 
-mod archive;
 mod choosing;
 mod making;
 mod measure;
@@ -22,7 +20,6 @@ mod merging;
 mod reading_times;
 mod records;
 
-use crate::archive::write_games;
 use crate::making::{entry_count, make_certificate};
 use crate::merging::merged;
 use crate::reading_times::{tell_chosen, time_chosen};
@@ -124,7 +121,6 @@ fn main(rt: HostRuntime) -> Result<()> {
     let word = env::args(&rt)?.nth(1);
     match &word {
         Some(word) if word.as_str() == "chosen" => time_chosen(&rt),
-        Some(word) if word.as_str() == "games" => write_games(&rt),
         Some(word) => run(&rt, Some(word.as_str())),
         None => run(&rt, None),
     }
